@@ -145,7 +145,8 @@ void boddurci_give(boddurci_base *base);
  * and the next save or opening finds out. A fault leaves the base open and unchanged, so you can save again.
  *
  * Costs. A save is one sync and a few writes. The opening has opened the log, with room for 1 MiB, or 64 KiB if the disk or the process has
- * no more. A save takes some more syncs if it finds the log full and empties it, if .pag or .dir gets shorter, or if it is the first of a
+ * no more. A log that saves fill within a second gets 4 MiB, if there is room. A save takes some more syncs if it finds the log full and
+ * empties it, if .pag or .dir gets shorter, or if it is the first of a
  * new database. It reads .dir and the pages that may have changed: the cost depends on the changes, not on the size of the base. But if a
  * time of a file differs from the one that this base has left or read, or if the base began with BODDURCI_EMPTY, it reads and compares both
  * files whole. A page on which a run has saved nothing counts as one that may have changed. The save holds the mutex while it compares

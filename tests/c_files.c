@@ -13,6 +13,7 @@
 #include <sys/file.h>
 #include <sys/resource.h>
 #include <sys/stat.h>
+#include <sys/syscall.h>
 #include <sys/time.h>
 #include <sys/wait.h>
 #include <time.h>
@@ -674,6 +675,13 @@ static void test_forked(void)
         _exit(in_child(base));
     EXPECT(child > 0 && waitpid(child, &status, 0) == child && WIFEXITED(status) && WEXITSTATUS(status) == 0);
     EXPECT(is_marked("forked.redo"));
+#ifdef SYS_clone
+    /* A fork past the C library, which calls no handlers. */
+    child = (pid_t)syscall(SYS_clone, SIGCHLD, 0, 0, 0, 0);
+    if (child == 0)
+        _exit(boddurci_take(base) == NULL && boddurci_save(base, NULL) == BODDURCI_FORKED ? 0 : 1);
+    EXPECT(child > 0 && waitpid(child, &status, 0) == child && WIFEXITED(status) && WEXITSTATUS(status) == 0);
+#endif
     EXPECT(is_locked("forked", 0) && boddurci_save(base, &fault) == BODDURCI_DONE);
     /* A child that continues to run does not keep the lock. */
     child = fork();

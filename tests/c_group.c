@@ -1,6 +1,7 @@
 /* Threads that save one base at the same time. The first argument is a folder. The tests are the number of saves for their calls, the data
  * on the disk when a call returns, faults, order, signals, cancelled threads and a fork. tests/c_library builds and runs it. A second
- * argument is the number of changes of each of 64 threads; then the number of their saves is printed.
+ * argument is the number of changes of each of 64 threads; then the number of their saves is printed. Two threads have to share saves if
+ * that is more than 2.
  *
  * This program replaces the flushes. Each takes a millisecond, and copies its file: the copies are the files after a loss of power. */
 #define _GNU_SOURCE
@@ -290,6 +291,39 @@ static void test_many(int changes)
     boddurci_close_files(base);
 }
 
+/* Saves again and again, and does nothing else. */
+enum { PAIR = 100 };
+
+static void *save_only(void *given)
+{
+    struct saver *saver = given;
+    for (int i = 0; i < PAIR && saver->status == BODDURCI_DONE; i++) {
+        store(saver->base, saver->number, i);
+        saver->status = boddurci_save(saver->base, &saver->fault);
+    }
+    return NULL;
+}
+
+/* Two threads that save again and again share most saves: one that has its turn waits for the thread that was just served. Otherwise they
+ * would take turns, as they may under a sanitizer, which makes threads slow. */
+static void test_pair(int is_quick)
+{
+    static struct saver savers[2];
+    boddurci_base *base = opened("pair");
+    for (int i = 0; i < 2; i++)
+        store(base, i, PAIR);
+    unsigned long alone = flushes_alone(base), before = flushes;
+    for (int i = 0; i < 2; i++) {
+        savers[i].base = base;
+        savers[i].number = i;
+        EXPECT(pthread_create(&savers[i].thread, NULL, save_only, &savers[i]) == 0);
+    }
+    for (int i = 0; i < 2; i++)
+        EXPECT(pthread_join(savers[i].thread, NULL) == 0 && savers[i].status == BODDURCI_DONE);
+    EXPECT((flushes - before) / alone <= (is_quick ? 2 * PAIR - PAIR / 4 : 2 * PAIR + 1));
+    boddurci_close_files(base);
+}
+
 /* Only the calls that wait for a save whose flush fails get its fault. The disk has none of their changes then, and the next save has
  * them. */
 static void fail_once(struct saver *savers, boddurci_base *base, int value)
@@ -424,6 +458,7 @@ int main(int argc, char **argv)
         return 2;
     alarm(300);
     test_many(atoi(argv[2]));
+    test_pair(atoi(argv[2]) > 2);
     test_failing();
     test_order();
     test_slow();

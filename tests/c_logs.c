@@ -13,7 +13,7 @@
 #include <unistd.h>
 
 /* Microseconds, more than a tick of the clock. Within a tick a base does not see writes of another program. */
-enum { PAIRS = 100, HEADER = 4096, LOG = HEADER + 1048576, SAVES = 3, FAST = 20, TICK = 20000 };
+enum { PAIRS = 100, HEADER = 4096, LOG = HEADER + 1048576, GROWN = HEADER + 4194304, SAVES = 3, FAST = 20, TICK = 20000 };
 
 static unsigned long looked;
 static boddurci_fault fault;
@@ -379,6 +379,71 @@ static void test_limited_directory(void)
     boddurci_close_files(base);
 }
 
+/* Replaces the function of the C library, for the library too. A disk that syncs slowly would not fill a log within a second. */
+static int omits_syncs;
+
+int fdatasync(int file)
+{
+    return omits_syncs ? 0 : fsync(file);
+}
+
+/* Saves one key with values that fill a log of 1 MiB once. */
+enum { FILLS = 900 };
+
+static void fill_log(boddurci_base *base)
+{
+    uint8_t value[800];
+    for (int i = 1; i <= FILLS; i++) {
+        memset(value, i, sizeof value);
+        EXPECT(boddurci_store(boddurci_take(base), (const uint8_t *)"full", 4, value, sizeof value, 1) == BODDURCI_DONE);
+        boddurci_give(base);
+        EXPECT(boddurci_save(base, &fault) == BODDURCI_DONE && fault.system == 0);
+    }
+}
+
+static int first_byte_of(const char *name, const char *key)
+{
+    uint8_t value[BODDURCI_VALUE_MOST] = {0};
+    size_t length;
+    boddurci_base *base = opened(name, BODDURCI_READ_ONLY);
+    EXPECT(boddurci_fetch(boddurci_take(base), (const uint8_t *)key, strlen(key), value, sizeof value, &length) == BODDURCI_DONE);
+    boddurci_give(base);
+    boddurci_close_files(base);
+    return value[0];
+}
+
+/* A log that fills within a second gets 4 MiB, once, and keeps them; one that does not, or that may not be longer, stays as it is. No save
+ * fails, and the last one is found, also after a kill. */
+static void test_grown(void)
+{
+    enum { SLOW, LIMITED, KILLED, CASES };
+    static const char *const names[CASES] = {"slow", "limited", "killed"}, *const redos[CASES] = {"slow.redo", "limited.redo", "killed.redo"};
+    for (int i = 0; i < CASES; i++) {
+        int status;
+        pid_t child = fork();
+        if (child == 0) {
+            boddurci_base *base = opened(names[i], 0);
+            omits_syncs = 1;
+            store_one(base, 1);
+            EXPECT(boddurci_save(base, &fault) == BODDURCI_DONE && length_of(redos[i]) == LOG);
+            if (i == LIMITED)
+                set_limit(2 << 20);
+            EXPECT(i != SLOW || usleep(1100000) == 0);
+            fill_log(base);
+            EXPECT(is_marked(redos[i]) && length_of(redos[i]) == (i == KILLED ? GROWN : LOG));
+            if (i == KILLED)
+                kill(getpid(), SIGKILL);
+            boddurci_close_files(base);
+            _exit(0);
+        }
+        EXPECT(child > 0 && waitpid(child, &status, 0) == child);
+        EXPECT(i == KILLED ? WIFSIGNALED(status) : WIFEXITED(status) && WEXITSTATUS(status) == 0);
+        EXPECT(first_byte_of(names[i], "full") == (uint8_t)FILLS);
+    }
+    boddurci_close_files(opened("killed", 0));
+    EXPECT(!is_marked("killed.redo") && length_of("killed.redo") == GROWN && first_byte_of("killed", "full") == (uint8_t)FILLS);
+}
+
 int main(int argc, char **argv)
 {
     if (argc != 2 || chdir(argv[1]) != 0)
@@ -396,6 +461,7 @@ int main(int argc, char **argv)
     test_long();
     test_written_beside();
     test_limited_directory();
+    test_grown();
     printf("%lu answers as expected\n", looked);
     return 0;
 }

@@ -4,11 +4,14 @@
  *     c_saves change BASE    makes the changes on standard input, `replace KEY VALUE` and `delete KEY` in hex, saves, and prints `saved`;
  *                            if only the redo file has the save, it says so on standard error
  *     c_saves insist BASE    the same, but if the save fails it saves once more
- *     c_saves each BASE      saves after each line, prints `saved` and the number of lines so far, and continues if a save fails
+ *     c_saves each BASE      saves after each line, prints `saved` and the number of lines so far, and continues if a save fails; the line
+ *                            `rest` rests a little longer than a second
  *     c_saves over BASE      the same, but overwrites the changes of another program */
+#define _POSIX_C_SOURCE 200809L
 #include "boddurci_files.h"
 #include <stdio.h>
 #include <string.h>
+#include <time.h>
 #include <unistd.h>
 
 static boddurci_fault fault;
@@ -66,6 +69,9 @@ static int change(boddurci *db, const char *line)
 {
     static char words[2][4100];
     static uint8_t key[2050], value[2050];
+    static const struct timespec rest = {1, 100000000};
+    if (strcmp(line, "rest\n") == 0)
+        return nanosleep(&rest, NULL) == 0;
     int count = sscanf(line, "replace %4095s %4095s", words[0], words[1]);
     if (count == 2)
         return boddurci_store(db, key, read_hex(words[0], key), value, read_hex(words[1], value), 1) == BODDURCI_DONE;

@@ -22,8 +22,9 @@ void boddurci_hold_signal(struct boddurci_disk *disk)
     sigset_t only;
     sigemptyset(&only);
     sigaddset(&only, SIGXFSZ);
-    disk->was_signalled = has_come();
+    disk->is_too_long = 0;
     disk->is_signal_held = pthread_sigmask(SIG_BLOCK, &only, &disk->mask) == 0;
+    disk->was_signalled = disk->is_signal_held && sigismember(&disk->mask, SIGXFSZ) == 1 && has_come();
 }
 
 void boddurci_give_signal(struct boddurci_disk *disk)
@@ -33,7 +34,7 @@ void boddurci_give_signal(struct boddurci_disk *disk)
     int system = errno;
     sigemptyset(&only);
     sigaddset(&only, SIGXFSZ);
-    if (disk->is_signal_held && !disk->was_signalled && has_come())
+    if (disk->is_signal_held && disk->is_too_long && !disk->was_signalled && has_come())
         (void)!sigtimedwait(&only, NULL, &now);
     if (disk->is_signal_held)
         pthread_sigmask(SIG_SETMASK, &disk->mask, NULL);
@@ -51,6 +52,7 @@ void boddurci_disk_of(struct boddurci_disk *disk, struct boddurci_place *place)
     disk->last = BODDURCI_PAGES;
     disk->is_folder_synced = 0;
     disk->is_signal_held = 0;
+    disk->is_too_long = 0;
     disk->has_reserved = 0;
 }
 
@@ -112,6 +114,13 @@ static int open_to_write(struct boddurci_disk *disk, enum boddurci_file file)
 
 /* ---- calls on one file */
 
+/* Notes whether a call may have raised the signal: the system raises it only with EFBIG. */
+static int failed(struct boddurci_disk *disk)
+{
+    disk->is_too_long = disk->is_too_long || errno == EFBIG;
+    return -1;
+}
+
 int boddurci_disk_write(struct boddurci_disk *disk, enum boddurci_file file, uint64_t at, const uint8_t *bytes, size_t size)
 {
     if (open_to_write(disk, file) != 0)
@@ -119,15 +128,16 @@ int boddurci_disk_write(struct boddurci_disk *disk, enum boddurci_file file, uin
     for (size_t done = 0; done < size;) {
         ssize_t put = pwrite(disk->files[file], bytes + done, size - done, (off_t)(at + done));
         if (put < 0 && errno != EINTR)
-            return -1;
+            return failed(disk);
         done += put < 0 ? 0 : (size_t)put;
     }
     return 0;
 }
 
+/* Zeros are written in small pieces: a page cache with large folios takes longer for each later write of a few bytes, and for its sync. */
 int boddurci_disk_zero(struct boddurci_disk *disk, enum boddurci_file file, uint64_t at, uint64_t size)
 {
-    static uint8_t zeros[262144];
+    static uint8_t zeros[16384];
     for (uint64_t done = 0, next; done < size; done += next) {
         next = size - done < sizeof zeros ? size - done : sizeof zeros;
         if (boddurci_disk_write(disk, file, at + done, zeros, (size_t)next) != 0)
@@ -149,13 +159,13 @@ int boddurci_disk_length(struct boddurci_disk *disk, enum boddurci_file file, ui
     return 0;
 }
 
-static int cut(int file, uint64_t length)
+static int cut(struct boddurci_disk *disk, enum boddurci_file file, uint64_t length)
 {
     int status;
     do
-        status = ftruncate(file, (off_t)length);
+        status = ftruncate(disk->files[file], (off_t)length);
     while (status != 0 && errno == EINTR);
-    return status;
+    return status != 0 ? failed(disk) : 0;
 }
 
 int boddurci_disk_resize(struct boddurci_disk *disk, enum boddurci_file file, uint64_t length)
@@ -163,7 +173,7 @@ int boddurci_disk_resize(struct boddurci_disk *disk, enum boddurci_file file, ui
     uint64_t is;
     if (open_to_write(disk, file) != 0 || boddurci_disk_length(disk, file, &is) != 0)
         return -1;
-    return is == length ? 0 : cut(disk->files[file], length);
+    return is == length ? 0 : cut(disk, file, length);
 }
 
 int boddurci_disk_sync(struct boddurci_disk *disk, enum boddurci_file file)
@@ -198,6 +208,8 @@ int boddurci_disk_reserve(struct boddurci_disk *disk, enum boddurci_file file, u
         status = fallocate(disk->files[file], FALLOC_FL_KEEP_SIZE, (off_t)at, (off_t)size);
     while (status != 0 && errno == EINTR);
     if (status != 0)
+        failed(disk);
+    if (status != 0)
         status = errno == ENOSPC || errno == EDQUOT || errno == EFBIG || errno == EIO ? -1 : 1;
 #else
     (void)at, (void)size;
@@ -208,5 +220,5 @@ int boddurci_disk_reserve(struct boddurci_disk *disk, enum boddurci_file file, u
 int boddurci_disk_trim(struct boddurci_disk *disk, enum boddurci_file file, uint64_t length)
 {
     disk->last = file;
-    return cut(disk->files[file], length);
+    return cut(disk, file, length);
 }

@@ -31,7 +31,7 @@ struct boddurci_base {
 
 static int is_of_another(const boddurci_base *base)
 {
-    return base->process != getpid();
+    return base->process != boddurci_this_process();
 }
 
 /* ---- reading */
@@ -127,7 +127,7 @@ static uint32_t read_files(boddurci_base *base, struct parts *parts, boddurci_fa
     if (base->flags & BODDURCI_READ_ONLY)
         return base->flags & BODDURCI_EMPTY ? BODDURCI_DONE : read_over(&base->place, must_exist, parts, fault);
     boddurci_hold_signal(disk);
-    uint32_t status = boddurci_logged_recover(&base->logged, &is_ended, fault);
+    uint32_t status = boddurci_logged_recover(&base->logged, 0, &is_ended, fault);
     boddurci_give_signal(disk);
     if (base->flags & BODDURCI_EMPTY)
         see_files(&base->place);
@@ -192,9 +192,11 @@ static uint32_t read_again(boddurci_base *base, struct parts *parts, uint32_t st
 static void mark_and_give(boddurci_base *base)
 {
     boddurci_fault unsaid;
-    boddurci_hold_signal(&base->logged.disk);
-    (void)!boddurci_logged_mark(&base->logged, &unsaid);
-    boddurci_give_signal(&base->logged.disk);
+    if (!boddurci_logged_is_marked(&base->logged)) {
+        boddurci_hold_signal(&base->logged.disk);
+        (void)!boddurci_logged_mark(&base->logged, &unsaid);
+        boddurci_give_signal(&base->logged.disk);
+    }
     if (boddurci_logged_is_marked(&base->logged))
         boddurci_give_files(&base->place);
     else
@@ -235,7 +237,7 @@ static boddurci_base *new_base(uint32_t flags)
     if (base == NULL)
         return NULL;
     base->flags = flags;
-    base->process = getpid();
+    base->process = boddurci_note_process();
     boddurci_no_place(&base->place);
     boddurci_logged_of(&base->logged, &base->place, &base->notes);
     if (pthread_mutex_init(&base->mutex, NULL) == 0) {
@@ -316,18 +318,27 @@ static void take_mutex(boddurci_base *base)
     pthread_mutex_lock(&base->mutex);
 }
 
-boddurci *boddurci_take(boddurci_base *base)
+/* The same calls as boddurci_take and boddurci_give, for a save, which has tested that the base belongs to this process. */
+static boddurci *take_own(boddurci_base *base)
 {
-    if (base == NULL || is_of_another(base))
-        return NULL;
     take_mutex(base);
     return &base->db;
+}
+
+static void give_own(boddurci_base *base)
+{
+    pthread_mutex_unlock(&base->mutex);
+}
+
+boddurci *boddurci_take(boddurci_base *base)
+{
+    return base == NULL || is_of_another(base) ? NULL : take_own(base);
 }
 
 void boddurci_give(boddurci_base *base)
 {
     if (base != NULL && !is_of_another(base))
-        pthread_mutex_unlock(&base->mutex);
+        give_own(base);
 }
 
 /* ---- reading for a save */
@@ -342,6 +353,7 @@ struct numbers {
 struct reading {
     struct boddurci_bytes directory;
     size_t length;
+    size_t directory_length; /* when the save looked at the files */
     struct numbers listed;
     struct numbers own; /* if the pages are compared: those that may have changed when the plan was made */
     uint8_t *pages;
@@ -364,10 +376,10 @@ static void end_reading(struct reading *reading)
     reading->pages = NULL;
 }
 
-/* Clears a reading whose contents now belong to another one. Keeps the length of .pag and the page size. */
+/* Clears a reading whose contents now belong to another one. Keeps the lengths of the files and the page size. */
 static void forget_reading(struct reading *reading)
 {
-    struct reading none = {.length = reading->length, .size = reading->size};
+    struct reading none = {.length = reading->length, .directory_length = reading->directory_length, .size = reading->size};
     *reading = none;
 }
 
@@ -469,18 +481,18 @@ static uint32_t read_pages(int file, struct reading *reading, const struct readi
 }
 
 /* Reads all of .dir. A short one is not mapped: that takes longer than reading it. */
-static uint32_t read_directory(int file, struct boddurci_bytes *directory, boddurci_fault *fault)
+static uint32_t read_directory(int file, struct reading *reading, boddurci_fault *fault)
 {
     enum { SHORT = 65536 };
-    size_t length;
-    uint32_t status = boddurci_length_of(file, BODDURCI_DIRECTORY, &length, fault);
-    if (status != BODDURCI_DONE || length > SHORT)
-        return status != BODDURCI_DONE ? status : boddurci_read_all(file, BODDURCI_DIRECTORY, directory, fault);
+    struct boddurci_bytes *directory = &reading->directory;
+    size_t length = reading->directory_length;
+    if (length > SHORT)
+        return boddurci_read_all(file, BODDURCI_DIRECTORY, directory, fault);
     directory->at = calloc(length + 1, 1);
     if (directory->at == NULL)
         return boddurci_no_memory(fault);
     directory->length = length;
-    return read_at(file, 0, directory->at, length) == 0 ? status : boddurci_fail_by_system(fault, "a file cannot be read");
+    return read_at(file, 0, directory->at, length) == 0 ? BODDURCI_DONE : boddurci_fail_by_system(fault, "a file cannot be read");
 }
 
 /* Reads the directory, or the listed pages. The files of a base that was saved are open. A missing file has no bytes. */
@@ -494,7 +506,7 @@ static uint32_t read_part(boddurci_base *base, enum boddurci_file which, struct 
     if (which == BODDURCI_PAGES)
         status = read_pages(file, reading, before, fault);
     else
-        status = read_directory(file, &reading->directory, fault);
+        status = read_directory(file, reading, fault);
     if (held < 0)
         close(file);
     return status;
@@ -515,6 +527,7 @@ static uint32_t read_listed(boddurci_base *base, struct reading *reading, const 
 /* One save. */
 struct saving {
     int insists;                   /* it overwrites the changes of another program */
+    int are_names_same;            /* all names lead to the files of the last save */
     int compares;                  /* the pages that the base has not changed must equal those of the file */
     enum boddurci_change change;   /* how the files differ from the notes */
     enum boddurci_file which;      /* and which file */
@@ -563,22 +576,22 @@ static uint32_t plan_of(boddurci *db, const struct reading *reading, struct bodd
 /* Lists the pages to read, reads them, and plans. It holds the mutex, but not while it reads, unless the caller requests that. */
 static uint32_t try_plan(boddurci_base *base, struct saving *saving, const struct reading *before, int holds, boddurci_fault *fault)
 {
-    boddurci *db = boddurci_take(base);
+    boddurci *db = take_own(base);
     struct reading *reading = &saving->reading;
     uint32_t status = base->is_noted ? list_changed(db, &reading->listed) : list_all(db, reading);
     if (!holds)
-        boddurci_give(base);
+        give_own(base);
     int is_listed = status == BODDURCI_DONE, plans = !base->is_noted || reading->listed.count != 0 || !base->is_planned;
     if (is_listed && plans)
         status = read_listed(base, reading, before, fault);
     int is_read = is_listed && status == BODDURCI_DONE;
     if (!holds)
-        boddurci_take(base);
+        take_own(base);
     if (is_read && saving->compares)
         status = list_changed(db, &reading->own);
     if (is_read && plans && status == BODDURCI_DONE)
         status = plan_of(db, reading, &saving->plan);
-    boddurci_give(base);
+    give_own(base);
     if (status == BODDURCI_DONE || status == BODDURCI_STALE || (is_listed && !is_read))
         return status;
     return boddurci_fail(fault, status, 0, boddurci_text(status));
@@ -603,9 +616,9 @@ static uint32_t plan_now(boddurci_base *base, struct saving *saving, boddurci_fa
 static void mark_again(boddurci_base *base, const struct saving *saving)
 {
     const struct numbers *numbers = saving->compares ? &saving->reading.own : &saving->reading.listed;
-    if (boddurci_mark(boddurci_take(base), numbers_of(numbers), numbers->count) != BODDURCI_DONE)
+    if (boddurci_mark(take_own(base), numbers_of(numbers), numbers->count) != BODDURCI_DONE)
         base->is_noted = 0;
-    boddurci_give(base);
+    give_own(base);
 }
 
 /* ---- files that another program has changed */
@@ -642,8 +655,8 @@ static int has_own_changes(boddurci_base *base)
 {
     uint32_t none;
     size_t count = 0;
-    uint32_t status = boddurci_changed(boddurci_take(base), &none, 0, &count);
-    boddurci_give(base);
+    uint32_t status = boddurci_changed(take_own(base), &none, 0, &count);
+    give_own(base);
     return status != BODDURCI_DONE || count != 0;
 }
 
@@ -745,7 +758,7 @@ static uint32_t are_named(const boddurci_base *base, const struct boddurci_note 
 static uint32_t recover(boddurci_base *base, struct saving *saving, boddurci_fault *fault)
 {
     int is_ended = 0;
-    uint32_t status = boddurci_logged_recover(&base->logged, &is_ended, fault);
+    uint32_t status = boddurci_logged_recover(&base->logged, saving->are_names_same, &is_ended, fault);
     int is_same = saving->change == BODDURCI_SAME && base->doubt == BODDURCI_SAME && base->change[0] == 0;
     base->is_noted = base->is_noted && is_same && !is_ended;
     if (is_ended) {
@@ -762,10 +775,15 @@ static uint32_t recover(boddurci_base *base, struct saving *saving, boddurci_fau
 /* Compares the files with the notes, and prepares them for a save. */
 static uint32_t prepare(boddurci_base *base, struct saving *saving, boddurci_fault *fault)
 {
-    uint32_t status = boddurci_are_held(&base->place, fault);
+    struct timespec folder = {0, 0};
+    saving->are_names_same = base->is_noted && boddurci_are_names_same(&base->notes, &base->place);
+    if (!saving->are_names_same)
+        folder = boddurci_time_of_folder(&base->place);
+    uint32_t status = saving->are_names_same ? BODDURCI_DONE : boddurci_are_held(&base->place, fault);
     if (status != BODDURCI_DONE)
         return status;
-    saving->change = boddurci_look_before(&base->notes, &base->logged.disk, base->is_noted, saving->found, &saving->which);
+    saving->change = boddurci_look_before(&base->notes, &base->logged.disk, base->is_noted, saving->are_names_same, saving->found,
+                                          &saving->which);
     status = are_named(base, saving->found, fault);
     if (status == BODDURCI_DONE)
         status = must_be_ours(base, saving, fault);
@@ -773,12 +791,15 @@ static uint32_t prepare(boddurci_base *base, struct saving *saving, boddurci_fau
         status = recover(base, saving, fault);
     if (status == BODDURCI_DONE && saving->found[BODDURCI_PAGES].length > (off_t)boddurci_most_bytes(BODDURCI_PAGES))
         status = boddurci_fail(fault, BODDURCI_TOO_LONG, 0, boddurci_files_text(BODDURCI_TOO_LONG));
+    if (status == BODDURCI_DONE && !saving->are_names_same)
+        boddurci_note_names(&base->notes, &base->place, folder, saving->found);
     return status;
 }
 
 /* Notes the files after a save. If another program has written during the save, that is a change for the next one. */
 static void settle(boddurci_base *base, const struct saving *saving, enum boddurci_change again)
 {
+    uint64_t lengths[2];
     boddurci_settle_locks(&base->place);
     base->is_planned = 1;
     base->is_noted = base->is_noted && again == BODDURCI_SAME;
@@ -786,8 +807,10 @@ static void settle(boddurci_base *base, const struct saving *saving, enum boddur
     base->change[0] = 0;
     if (base->notes.is_overtaken)
         snprintf(base->change, sizeof base->change, "BASE.pag or BASE.dir was written during the last save");
-    if (saving->plan.length != 0)
-        boddurci_note_written(&base->notes, &base->logged.disk);
+    if (saving->plan.length == 0)
+        return;
+    boddurci_lengths_of(saving->plan.at, 1, lengths);
+    boddurci_note_saved(&base->notes, &base->logged.disk, lengths);
 }
 
 /* The whole save. If no page has changed and the files match the notes, it reads nothing; only the first save compares the lengths of the
@@ -797,6 +820,7 @@ static uint32_t save_prepared(boddurci_base *base, struct saving *saving, boddur
 {
     enum boddurci_file which;
     saving->reading.length = (size_t)saving->found[BODDURCI_PAGES].length;
+    saving->reading.directory_length = (size_t)saving->found[BODDURCI_DIRECTORY].length;
     uint32_t status = plan_now(base, saving, fault);
     enum boddurci_change again = boddurci_look_again(&base->notes, &base->logged.disk, saving->found, &which);
     if (status == BODDURCI_DONE)

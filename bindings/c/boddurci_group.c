@@ -37,7 +37,7 @@ int boddurci_group_init(struct boddurci_group *group)
 {
     group->first = NULL;
     group->last = &group->first;
-    group->is_saving = group->waiting = group->served[0] = group->served[1] = 0;
+    group->is_saving = group->waiting = group->others = group->skips = group->served = 0;
     group->took = LONG_SAVE;
     if (pthread_mutex_init(&group->mutex, NULL) != 0)
         return -1;
@@ -66,15 +66,36 @@ static int has_to_wait(struct boddurci_group *group, struct boddurci_call *call)
     return waits;
 }
 
-/* Waits a moment for as many calls as the larger of the last two saves has served: its threads may save again, and then one save serves
- * all. A single thread does not wait. */
+static int waiting_in(const struct boddurci_group *group)
+{
+    return __atomic_load_n(&group->waiting, __ATOMIC_RELAXED);
+}
+
+/* How long a save may wait for others, in nanoseconds. After a long save the threads that it has served sleep, and wake one after the
+ * other. */
+static int64_t patience(int64_t took)
+{
+    static const int64_t MOST = 1000000;
+    if (took < LONG_SAVE)
+        return MOMENT;
+    return took / 8 < MOST ? took / 8 : MOST;
+}
+
+/* Waits a moment for the calls that the last save has served: their threads may save again, and then one save serves all. If none has come,
+ * the next saves do not wait. A single thread does not wait. */
 static void await_others(struct boddurci_group *group)
 {
-    int others = group->served[0] > group->served[1] ? group->served[0] : group->served[1];
-    if (others < 2 || __atomic_load_n(&group->took, __ATOMIC_RELAXED) >= LONG_SAVE)
+    enum { SKIPS = 7 };
+    const struct timespec moment = {0, (long)MOMENT};
+    int64_t took = __atomic_load_n(&group->took, __ATOMIC_RELAXED);
+    int had = waiting_in(group);
+    if (group->others < 2 || group->skips > 0) {
+        group->skips -= group->skips > 0;
         return;
-    for (int64_t end = now() + MOMENT; __atomic_load_n(&group->waiting, __ATOMIC_RELAXED) < others && now() < end;)
-        sched_yield();
+    }
+    for (int64_t end = now() + patience(took); waiting_in(group) < group->others && now() < end;)
+        (void)!(took < LONG_SAVE ? sched_yield() : nanosleep(&moment, NULL));
+    group->skips = had < group->others && waiting_in(group) == had ? SKIPS : 0;
 }
 
 /* Empties the list of waiting calls. The first of them saves, and leads to the rest by its `next`. */
@@ -83,8 +104,7 @@ static void take_all(struct boddurci_group *group)
     pthread_mutex_lock(&group->mutex);
     group->first = NULL;
     group->last = &group->first;
-    group->served[1] = group->served[0];
-    group->served[0] = __atomic_exchange_n(&group->waiting, 0, __ATOMIC_RELAXED);
+    group->served = __atomic_exchange_n(&group->waiting, 0, __ATOMIC_RELAXED);
     pthread_mutex_unlock(&group->mutex);
 }
 
@@ -102,12 +122,14 @@ static void wake(struct boddurci_call *call, int state)
         sem_post(&call->turn);
 }
 
-/* Gives the turn to save to the first waiting call. That call exists until it has its turn, since nobody else takes the list. */
+/* Gives the turn to save to the first waiting call. That call exists until it has its turn, since nobody else takes the list. The calls that
+ * were just served may come again, next to those that wait. */
 static void pass_on(struct boddurci_group *group)
 {
     pthread_mutex_lock(&group->mutex);
     struct boddurci_call *next = group->first;
     group->is_saving = next != NULL;
+    group->others = waiting_in(group) + group->served;
     pthread_mutex_unlock(&group->mutex);
     if (next != NULL)
         wake(next, HAS_TURN);

@@ -131,7 +131,7 @@ static void note_held(struct boddurci_place *place)
     if (this_thread == 0)
         this_thread = ++threads;
     place->holder = this_thread;
-    place->process = getpid();
+    place->process = boddurci_this_process();
     place->keeps_files = 1;
     place->held = held;
     held = place;
@@ -167,11 +167,12 @@ static int has_it_here(const struct boddurci_place *place, enum boddurci_file lo
 {
     struct stat wanted, had;
     int is_here = 0;
+    pid_t process = boddurci_this_process();
     if (fstat(place->opened[lock], &wanted) != 0)
         return 0;
     take_held();
     for (const struct boddurci_place *at = held; at != NULL && !is_here; at = at->held)
-        is_here = at->process == getpid() && at->holder == this_thread && has_for_long(at, lock) && fstat(at->opened[lock], &had) == 0 &&
+        is_here = at->process == process && at->holder == this_thread && has_for_long(at, lock) && fstat(at->opened[lock], &had) == 0 &&
                   had.st_dev == wanted.st_dev && had.st_ino == wanted.st_ino;
     give_held();
     return is_here;
@@ -401,6 +402,8 @@ static uint32_t take_both(struct boddurci_place *place, int64_t milliseconds, bo
         outcome = HAS_FAILED;
     }
     if (outcome == TAKEN) {
+        for (enum boddurci_file lock = BODDURCI_LOCK; lock <= BODDURCI_WRITER; lock++)
+            place->inodes[lock] = boddurci_inode_of(place->opened[lock]);
         flock(place->opened[BODDURCI_WRITER], LOCK_SH);
         note_held(place);
         return BODDURCI_DONE;
@@ -459,9 +462,9 @@ void boddurci_keep_files(struct boddurci_place *place)
 
 uint32_t boddurci_are_held(const struct boddurci_place *place, boddurci_fault *fault)
 {
-    if (place->opened[BODDURCI_LOCK] < 0 || !is_named(place, BODDURCI_LOCK))
+    if (place->opened[BODDURCI_LOCK] < 0 || !boddurci_leads_to(place, BODDURCI_LOCK, place->inodes[BODDURCI_LOCK]))
         return boddurci_fail(fault, BODDURCI_MOVED, 0, "BASE.lock is another file than is held, and nothing was written");
-    if (place->opened[BODDURCI_WRITER] < 0 || !is_named(place, BODDURCI_WRITER))
+    if (place->opened[BODDURCI_WRITER] < 0 || !boddurci_leads_to(place, BODDURCI_WRITER, place->inodes[BODDURCI_WRITER]))
         return boddurci_fail(fault, BODDURCI_MOVED, 0, "BASE.writer is another file than is held, and nothing was written");
     return BODDURCI_DONE;
 }

@@ -14,6 +14,10 @@
  * each opening for writing reads it. */
 static const size_t ROOM = 1 << 20, LEAST_ROOM = 1 << 16, MOST_UNUSED = 1 << 24;
 
+/* A log that saves fill within SOON nanoseconds is made anew with this room: to empty a log takes a sync of both data files. */
+static const size_t GROWN_ROOM = 1 << 22;
+static const int64_t SOON = 1000000000;
+
 static uint32_t cannot_be_written(const struct boddurci_disk *disk, boddurci_fault *fault)
 {
     static const char *const what[3] = {"BASE.pag cannot be written", "BASE.dir cannot be written", "BASE.redo cannot be written"};
@@ -161,7 +165,14 @@ void boddurci_logged_of(struct boddurci_logged *logged, struct boddurci_place *p
 {
     boddurci_disk_of(&logged->disk, place);
     logged->notes = notes;
-    logged->is_open = logged->is_doubtful = logged->is_given_up = 0;
+    logged->is_open = logged->is_doubtful = logged->is_given_up = logged->is_grown = 0;
+}
+
+static int64_t now(void)
+{
+    struct timespec time;
+    clock_gettime(CLOCK_MONOTONIC, &time);
+    return (int64_t)time.tv_sec * 1000000000 + time.tv_nsec;
 }
 
 /* Leaves the log after a failed call: the next opening recovers it. Without its mark it is useless, and it is removed, since its bytes on
@@ -262,6 +273,8 @@ static uint32_t do_open(struct boddurci_logged *logged, struct boddurci_bytes re
     if (is_written && boddurci_do_steps(disk, steps->at, steps->count, steps->bytes) == 0) {
         logged->is_open = 1;
         logged->is_given_up = 0;
+        logged->redo = boddurci_inode_of(disk->files[BODDURCI_REDO]);
+        logged->emptied = now();
         return BODDURCI_DONE;
     }
     give_up(logged);
@@ -296,11 +309,15 @@ static uint32_t open_log(struct boddurci_logged *logged, boddurci_fault *fault)
 {
     if (boddurci_take_files(logged->disk.place) != 0)
         return boddurci_fail_by_system(fault, "BASE.lock cannot be locked");
-    uint32_t status = try_open(logged, ROOM, fault);
-    if (status == BODDURCI_DONE || !is_full(fault))
-        return status;
-    boddurci_no_fault(fault);
-    return try_open(logged, LEAST_ROOM, fault);
+    const size_t rooms[3] = {GROWN_ROOM, ROOM, LEAST_ROOM};
+    uint32_t status = BODDURCI_DONE;
+    for (int i = logged->is_grown ? 0 : 1; i < 3; i++) {
+        boddurci_no_fault(fault);
+        status = try_open(logged, rooms[i], fault);
+        if (status == BODDURCI_DONE || !is_full(fault))
+            break;
+    }
+    return status;
 }
 
 /* If a note of a shared base says that all records are applied, closes the log: the data files may have later changes of programs that do
@@ -318,12 +335,12 @@ static uint32_t close_applied(struct boddurci_logged *logged, int *is_ended, bod
     return boddurci_logged_renew(logged, fault);
 }
 
-uint32_t boddurci_logged_recover(struct boddurci_logged *logged, int *is_ended, boddurci_fault *fault)
+uint32_t boddurci_logged_recover(struct boddurci_logged *logged, int are_names_same, int *is_ended, boddurci_fault *fault)
 {
     boddurci_fault second;
     struct boddurci_disk *disk = &logged->disk;
     *is_ended = 0;
-    if (logged->is_open && boddurci_is_named(disk->place, BODDURCI_REDO, disk->files[BODDURCI_REDO]))
+    if (logged->is_open && (are_names_same || boddurci_leads_to(disk->place, BODDURCI_REDO, logged->redo)))
         return BODDURCI_DONE;
     logged->is_open = 0;
     boddurci_disk_drop(disk, BODDURCI_REDO);
@@ -353,6 +370,43 @@ static int only_append(const struct boddurci_steps *steps)
         if (steps->at[i].file < 2 || (steps->at[i].kind != BODDURCI_WRITE && steps->at[i].kind != BODDURCI_SYNC))
             return 0;
     return 1;
+}
+
+/* Whether the log is to be made anew with more room before a save: the save would empty it, and it was empty a moment ago. A long save, or one
+ * that makes a file shorter, empties any log. */
+static int has_to_grow(const struct boddurci_logged *logged, const struct boddurci_steps *steps)
+{
+    enum { FEW = 4 };
+    uint64_t before[2], after[2];
+    int may_grow = !logged->is_grown && logged->next.room < GROWN_ROOM && steps->length <= logged->next.room / FEW;
+    if (!may_grow || only_append(steps) || now() - logged->emptied >= SOON)
+        return 0;
+    boddurci_lengths_of(steps->bytes, 0, before);
+    boddurci_lengths_of(steps->bytes, 1, after);
+    return after[BODDURCI_PAGES] >= before[BODDURCI_PAGES] && after[BODDURCI_DIRECTORY] >= before[BODDURCI_DIRECTORY];
+}
+
+/* Closes the log and opens it with more room, or as before if the disk has no more. A base tries that once. */
+static uint32_t grow(struct boddurci_logged *logged, boddurci_fault *fault)
+{
+    logged->is_grown = 1;
+    if (boddurci_take_files(logged->disk.place) != 0)
+        return boddurci_fail_by_system(fault, "BASE.lock cannot be locked");
+    uint32_t status = boddurci_logged_renew(logged, fault);
+    return status == BODDURCI_DONE ? open_log(logged, fault) : status;
+}
+
+/* Requests the steps of a save, in a log that has grown before if it has to. */
+static uint32_t ask_in_log(struct boddurci_logged *logged, struct boddurci_bytes bytes, boddurci_log *next, struct boddurci_steps *steps,
+                           boddurci_fault *fault)
+{
+    *next = logged->next;
+    uint32_t status = ask_save(bytes, next, steps, fault);
+    if (status != BODDURCI_DONE || !has_to_grow(logged, steps))
+        return status;
+    status = grow(logged, fault);
+    *next = logged->next;
+    return status == BODDURCI_DONE ? ask_save(bytes, next, steps, fault) : status;
 }
 
 /* Commits a save. Readers may read the data files meanwhile, but not the log while it is emptied. */
@@ -396,14 +450,17 @@ uint32_t boddurci_logged_save(struct boddurci_logged *logged, struct boddurci_by
 {
     struct boddurci_steps steps = {NULL, 0, 0, NULL, 0, NULL};
     uint32_t status = logged->is_open ? BODDURCI_DONE : open_log(logged, fault);
-    boddurci_log next = logged->next;
+    boddurci_log next;
     *is_left = 0;
     if (status == BODDURCI_DONE)
-        status = ask_save(bytes, &next, &steps, fault);
+        status = ask_in_log(logged, bytes, &next, &steps, fault);
+    int empties = status == BODDURCI_DONE && !only_append(&steps);
     if (status == BODDURCI_DONE)
         status = do_save(logged, &steps, is_left, fault);
     if (status == BODDURCI_DONE)
         logged->next = next;
+    if (empties)
+        logged->emptied = now();
     free_steps(&steps);
     return status;
 }

@@ -128,12 +128,47 @@ void boddurci_note_system(struct boddurci_notes *notes, const struct boddurci_pl
             notes->is_local = notes->is_local && is_local(place->seen[file].opened);
 }
 
-enum boddurci_change boddurci_look_before(struct boddurci_notes *notes, const struct boddurci_disk *disk, int may_be_quick,
+struct timespec boddurci_time_of_folder(const struct boddurci_place *place)
+{
+    struct stat found;
+    return fstat(place->folder, &found) == 0 ? found.st_ctim : never;
+}
+
+/* Whether the name of a data file is not a link: a link may lead into another folder. A missing file has none. */
+static int is_plain(const struct boddurci_place *place, enum boddurci_file file, const struct boddurci_note *found)
+{
+    struct stat is;
+    if (!found->is_there)
+        return 1;
+    return boddurci_look(place->folder, place->names[file], AT_SYMLINK_NOFOLLOW, &is) == 0 && is.st_dev == found->device &&
+           is.st_ino == found->number;
+}
+
+/* A change of a name within the tick of the change before may leave the same time, so the last change has to be older. */
+void boddurci_note_names(struct boddurci_notes *notes, const struct boddurci_place *place, struct timespec folder,
+                         const struct boddurci_note found[2])
+{
+    int is_known = notes->has_our_clock && !is_same_time(folder, never) && !is_same_time(notes->tick, never) && !is_near(folder, notes->tick);
+    for (enum boddurci_file file = BODDURCI_PAGES; file <= BODDURCI_DIRECTORY; file++)
+        is_known = is_known && is_plain(place, file, &found[file]);
+    notes->folder = is_known ? folder : never;
+    notes->named = notes->tick;
+}
+
+int boddurci_are_names_same(const struct boddurci_notes *notes, const struct boddurci_place *place)
+{
+    struct timespec tick = clock_of(TICKING);
+    if (is_same_time(notes->folder, never) || !is_same_time(tick, notes->tick) || !is_same_time(tick, notes->named))
+        return 0;
+    return is_same_time(boddurci_time_of_folder(place), notes->folder);
+}
+
+enum boddurci_change boddurci_look_before(struct boddurci_notes *notes, const struct boddurci_disk *disk, int may_be_quick, int are_names_same,
                                           struct boddurci_note found[2], enum boddurci_file *which)
 {
     struct timespec tick = clock_of(TICKING);
     notes->is_quick = may_be_quick && notes->has_our_clock && is_same_time(tick, notes->tick);
-    look_at_both(notes, disk, 0, found);
+    look_at_both(notes, disk, notes->is_quick && are_names_same, found);
     enum boddurci_change change = change_of_both(notes->files, found, notes->latest, notes->is_local, which);
     if (notes->is_quick && change == BODDURCI_SAME)
         return change;
@@ -152,6 +187,9 @@ enum boddurci_change boddurci_look_again(const struct boddurci_notes *notes, con
                                          const struct boddurci_note found[2], enum boddurci_file *which)
 {
     struct boddurci_note again[2];
+    *which = BODDURCI_PAGES;
+    if (notes->is_quick)
+        return BODDURCI_SAME;
     look_at_both(notes, disk, 1, again);
     return change_of_both(found, again, never, notes->is_local, which);
 }
@@ -183,4 +221,24 @@ void boddurci_note_written(struct boddurci_notes *notes, const struct boddurci_d
         return;
     notes->tick = tick;
     notes->has_our_clock = notes->is_local && is_near(notes->files[BODDURCI_PAGES].written, tick);
+}
+
+/* Both files exist, and other files cannot have their inodes, so only the lengths may differ from the notes. */
+static int note_lengths(struct boddurci_notes *notes, const uint64_t lengths[2])
+{
+    int has_directory = notes->files[BODDURCI_DIRECTORY].is_there;
+    if (!notes->files[BODDURCI_PAGES].is_there || (!has_directory && lengths[BODDURCI_DIRECTORY] != 0))
+        return 0;
+    notes->files[BODDURCI_PAGES].length = (off_t)lengths[BODDURCI_PAGES];
+    if (has_directory)
+        notes->files[BODDURCI_DIRECTORY].length = (off_t)lengths[BODDURCI_DIRECTORY];
+    return 1;
+}
+
+void boddurci_note_saved(struct boddurci_notes *notes, const struct boddurci_disk *disk, const uint64_t lengths[2])
+{
+    if (notes->has_our_clock && is_same_time(clock_of(TICKING), notes->tick) && note_lengths(notes, lengths))
+        notes->latest = clock_of(CLOCK_REALTIME);
+    else
+        boddurci_note_written(notes, disk);
 }

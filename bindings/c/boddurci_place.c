@@ -313,11 +313,25 @@ int boddurci_look_at(int opened, struct stat *found)
     return boddurci_look(opened, "", AT_EMPTY_PATH, found);
 }
 
+struct boddurci_inode boddurci_inode_of(int opened)
+{
+    struct stat found;
+    struct boddurci_inode inode = {0, 0, 0};
+    if (boddurci_look_at(opened, &found) == 0)
+        inode = (struct boddurci_inode){1, found.st_dev, found.st_ino};
+    return inode;
+}
+
+int boddurci_leads_to(const struct boddurci_place *place, enum boddurci_file file, struct boddurci_inode inode)
+{
+    struct stat named;
+    return inode.is_known && boddurci_look(place->folder, place->names[file], AT_SYMLINK_NOFOLLOW, &named) == 0 &&
+           inode.device == named.st_dev && inode.number == named.st_ino;
+}
+
 int boddurci_is_named(const struct boddurci_place *place, enum boddurci_file file, int opened)
 {
-    struct stat held, named;
-    return boddurci_look_at(opened, &held) == 0 && boddurci_look(place->folder, place->names[file], AT_SYMLINK_NOFOLLOW, &named) == 0 &&
-           held.st_dev == named.st_dev && held.st_ino == named.st_ino;
+    return boddurci_leads_to(place, file, boddurci_inode_of(opened));
 }
 
 /* ---- syncing */

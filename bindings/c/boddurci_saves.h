@@ -69,6 +69,13 @@ uint32_t boddurci_read_all(int opened, enum boddurci_file file, struct boddurci_
 
 /* ---- boddurci_place.c: the folder of a database, and its files */
 
+/* The inode of an open file, which stays the same as long as the file is open. */
+struct boddurci_inode {
+    int is_known;
+    dev_t device;
+    ino_t number;
+};
+
 /* The file to which a name has led. It stays open: the system may give the inode of a removed file to a new one once nobody has it open. */
 struct boddurci_seen {
     int is_there;
@@ -84,6 +91,7 @@ struct boddurci_place {
     char *names[BODDURCI_FILES];  /* of the files, in the folder */
     struct boddurci_seen seen[2]; /* the data files that existed when they were last opened */
     int opened[BODDURCI_FILES];   /* the file of a lock, or -1 */
+    struct boddurci_inode inodes[BODDURCI_FILES]; /* of the locks, once they are taken */
     int is_early[BODDURCI_FILES]; /* this process has made the lock while .pag was missing */
     int keeps_files;              /* BASE.lock stays locked between the calls of the base */
     struct boddurci_place *held;  /* the next in the list of places whose locks this process has */
@@ -126,8 +134,12 @@ struct stat;
 int boddurci_look(int folder, const char *name, int how, struct stat *found);
 int boddurci_look_at(int opened, struct stat *found);
 
-/* Whether the name of a file leads to the open file. */
+/* Gets the inode of an open file. If that fails it is not known. */
+struct boddurci_inode boddurci_inode_of(int opened);
+
+/* Whether the name of a file leads to the open file; whether it leads to an inode that is known. */
 int boddurci_is_named(const struct boddurci_place *place, enum boddurci_file file, int opened);
+int boddurci_leads_to(const struct boddurci_place *place, enum boddurci_file file, struct boddurci_inode inode);
 
 /* The permissions of .pag, or `otherwise` if it is missing. */
 mode_t boddurci_mode_of_pages(const struct boddurci_place *place, mode_t otherwise);
@@ -246,6 +258,7 @@ struct boddurci_disk {
     sigset_t mask;           /* the signal mask of the thread before */
     int is_signal_held;      /* the mask was changed */
     int was_signalled;       /* the signal was pending before */
+    int is_too_long;         /* a call failed with EFBIG since, so it may have raised the signal */
     int has_reserved;        /* a save has allocated blocks of a data file, which may change its times */
 };
 
@@ -299,6 +312,9 @@ int boddurci_do_in_memory(struct boddurci_bytes files[2], const struct boddurci_
 int boddurci_is_within_limits(const struct boddurci_steps *steps);
 int boddurci_may_write(struct boddurci_disk *disk, const struct boddurci_steps *steps);
 
+/* Sets the lengths of both data files before or after a plan, which is in `bytes` after BODDURCI_PLAN_AT bytes. */
+void boddurci_lengths_of(const uint8_t *bytes, int is_after, uint64_t lengths[2]);
+
 /* Ensures before the commit of a save that there is room for the steps after it: allocates the blocks of the data files, and tries in the
  * redo file whether the disk has room for those that it cannot allocate. The second call frees the blocks past the ends of the data files,
  * and preserves errno. */
@@ -314,16 +330,19 @@ struct boddurci_logged {
     struct boddurci_disk disk;
     struct boddurci_notes *notes;
     boddurci_log next; /* if it is open, the place of the next record */
+    struct boddurci_inode redo; /* if it is open, that of the redo file */
+    int64_t emptied;   /* the time when it was last empty, in nanoseconds */
     int is_open;
+    int is_grown;      /* it has, or has tried to get, more room than usual */
     int is_doubtful;   /* a call on the redo file failed, and it could not be removed: make a new one if it has no mark */
     int is_given_up;   /* a call failed, and nobody has recovered the files since: the data files may lack a save, or have half of it */
 };
 
 void boddurci_logged_of(struct boddurci_logged *logged, struct boddurci_place *place, struct boddurci_notes *notes);
 
-/* If the log is closed and the redo file has its mark, recovers the data files, opens the log if there is room for it, and sets
- * *is_ended. */
-uint32_t boddurci_logged_recover(struct boddurci_logged *logged, int *is_ended, boddurci_fault *fault);
+/* If the log is closed and the redo file has its mark, recovers the data files, opens the log if there is room for it, and sets *is_ended. A
+ * log is closed too if the redo file has lost its name; the caller may know that it has not. */
+uint32_t boddurci_logged_recover(struct boddurci_logged *logged, int are_names_same, int *is_ended, boddurci_fault *fault);
 
 /* Saves by a plan, which is in `bytes` after BODDURCI_PLAN_AT bytes; opens the log first if it is closed. After a fault nothing has
  * changed, or if BASE.redo itself failed, the save may be committed or not: the next save or opening finds out. If a step after the commit
@@ -360,6 +379,8 @@ struct boddurci_notes {
     struct boddurci_note files[2];
     struct timespec tick;   /* of the clock, when the times were last read */
     struct timespec latest; /* when the base last wrote later within that tick; else 0 */
+    struct timespec named;  /* of the clock, when a save last looked at all names in the folder */
+    struct timespec folder; /* the time of change of the folder at that look, if a later change of a name has another one; else 0 */
     int is_local;           /* this system sets the times of the files while it writes them */
     int has_our_clock;      /* it sets them by the clock that this process reads */
     int is_quick;           /* the look before this save copied the times */
@@ -378,21 +399,43 @@ enum boddurci_change {
 void boddurci_note_opened(struct boddurci_notes *notes, const struct boddurci_disk *disk);
 void boddurci_note_system(struct boddurci_notes *notes, const struct boddurci_place *place);
 
+/* Gets the time of change of the folder: each new, removed or renamed name in it changes that. Returns 0 if it is unknown. */
+struct timespec boddurci_time_of_folder(const struct boddurci_place *place);
+
+/* Notes the names after a save has looked at all of them, given the time of the folder before and the data files that were found. */
+void boddurci_note_names(struct boddurci_notes *notes, const struct boddurci_place *place, struct timespec folder,
+                         const struct boddurci_note found[2]);
+
+/* Whether all names lead to the files of that look, by one look at the folder. It knows that only within the tick of that look, since a
+ * mount does not change the folder. */
+int boddurci_are_names_same(const struct boddurci_notes *notes, const struct boddurci_place *place);
+
 /* Looks at the files under the names before a save, and returns how they differ from the notes, and which file. If they are the same it
- * notes them. Within the tick of the last look it may be a quick look, which does not read the times. */
-enum boddurci_change boddurci_look_before(struct boddurci_notes *notes, const struct boddurci_disk *disk, int may_be_quick,
+ * notes them. Within the tick of the last look it may be a quick look, which does not read the times, and which looks at the open files if
+ * the names are the same. */
+enum boddurci_change boddurci_look_before(struct boddurci_notes *notes, const struct boddurci_disk *disk, int may_be_quick, int are_names_same,
                                           struct boddurci_note found[2], enum boddurci_file *which);
 
-/* Looks again, at the open files, and returns how they differ from that look. */
+/* Looks again, at the open files, and returns how they differ from that look. After a quick look it does not look: a write within the tick of
+ * a save may not be seen, and the save sets the lengths itself. */
 enum boddurci_change boddurci_look_again(const struct boddurci_notes *notes, const struct boddurci_disk *disk,
                                          const struct boddurci_note found[2], enum boddurci_file *which);
 
 /* Looks once a save is committed, before it writes the data files, unless the tick is that of the last look or the save has taken room. */
 void boddurci_look_meanwhile(struct boddurci_notes *notes, const struct boddurci_disk *disk);
 
-/* Notes the files of the last look; notes the files that the base has written. */
+/* Notes the files of the last look; notes the files that the base has written; notes them after a save that has left these lengths, within
+ * the tick of the last look without a look. */
 void boddurci_note_found(struct boddurci_notes *notes, const struct boddurci_note found[2]);
 void boddurci_note_written(struct boddurci_notes *notes, const struct boddurci_disk *disk);
+void boddurci_note_saved(struct boddurci_notes *notes, const struct boddurci_disk *disk, const uint64_t lengths[2]);
+
+/* ---- boddurci_owner.c: the process of a base */
+
+/* Returns the number of this process. The first call is for the opening of a base; after it the second makes no system call, except in a
+ * child. */
+pid_t boddurci_note_process(void);
+pid_t boddurci_this_process(void);
 
 /* ---- boddurci_group.c: threads that save a base at the same time */
 
@@ -406,7 +449,9 @@ struct boddurci_group {
     struct boddurci_call **last; /* the place for the next call */
     int is_saving;               /* a thread saves, or has been given the turn to */
     int waiting;                 /* the number of calls in the list; atomic */
-    int served[2];               /* the number of calls of the last save, and of the one before */
+    int served;                  /* the number of calls of the last save */
+    int others;                  /* the number of calls that waited when the last save ended, and that it served */
+    int skips;                   /* the number of saves that are not to wait for others, after a wait in vain */
     int64_t took;                /* how long the last save took, in nanoseconds; atomic */
 };
 

@@ -136,7 +136,7 @@ static uint32_t recover(boddurci_shared *shared, boddurci_fault *fault)
     struct boddurci_logged *logged = &shared->logged;
     logged->is_open = 0;
     boddurci_disk_drop(&logged->disk, BODDURCI_REDO);
-    uint32_t status = boddurci_logged_recover(logged, &is_ended, fault);
+    uint32_t status = boddurci_logged_recover(logged, 0, &is_ended, fault);
     return status == BODDURCI_DONE ? find_files(shared, 1, fault) : status;
 }
 
@@ -159,6 +159,7 @@ static uint32_t settle_log(boddurci_shared *shared, boddurci_fault *fault)
         return recover(shared, fault);
     logged->next = note.log;
     logged->is_open = 1;
+    logged->redo.is_known = 0;
     return change == BODDURCI_SAME ? BODDURCI_DONE : boddurci_logged_renew(logged, fault);
 }
 

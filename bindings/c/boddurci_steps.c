@@ -175,12 +175,26 @@ void boddurci_release_room(struct boddurci_disk *disk)
     errno = why;
 }
 
+static uint64_t number_at(const uint8_t *at)
+{
+    return (uint64_t)at[0] | (uint64_t)at[1] << 8 | (uint64_t)at[2] << 16 | (uint64_t)at[3] << 24;
+}
+
+void boddurci_lengths_of(const uint8_t *bytes, int is_after, uint64_t lengths[2])
+{
+    const uint8_t *at = bytes + BODDURCI_PLAN_AT + (is_after ? 8 : 16);
+    lengths[BODDURCI_PAGES] = number_at(at);
+    lengths[BODDURCI_DIRECTORY] = number_at(at + 4);
+}
+
+/* A file that is open has the length that the plan says: the save has looked at it before. */
 int boddurci_take_room(struct boddurci_disk *disk, const struct boddurci_steps *steps)
 {
     struct need need = {{0, 0}, 0};
     disk->has_reserved = 0;
+    boddurci_lengths_of(steps->bytes, 0, need.lengths);
     for (enum boddurci_file file = BODDURCI_PAGES; file <= BODDURCI_DIRECTORY; file++)
-        if (boddurci_disk_length(disk, file, &need.lengths[file]) != 0)
+        if (disk->files[file] < 0 && boddurci_disk_length(disk, file, &need.lengths[file]) != 0)
             return -1;
     int status = reserve_all(disk, steps, &need);
     if (status == 0 && need.absent != 0)

@@ -560,7 +560,7 @@ static void test_long(void)
     for (int i = 0; i < 9000; i++)
         EXPECT(increment(shared, counter, (sprintf(key, "%d", i % 50), key)) == (uint64_t)i / 50 + 1);
     struct bytes redo = read_file("long", ".redo");
-    EXPECT(redo.length < 2 << 20);
+    EXPECT(redo.length < 8 << 20);
     free(redo.at);
     /* Each third call comes after one of another kind of program. */
     for (int i = 0; i < 60; i++) {

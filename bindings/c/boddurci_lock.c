@@ -131,7 +131,7 @@ static void note_held(struct boddurci_place *place)
     if (this_thread == 0)
         this_thread = ++threads;
     place->holder = this_thread;
-    place->process = getpid();
+    place->process = boddurci_this_process();
     place->keeps_files = 1;
     place->held = held;
     held = place;
@@ -167,11 +167,12 @@ static int has_it_here(const struct boddurci_place *place, enum boddurci_file lo
 {
     struct stat wanted, had;
     int is_here = 0;
+    pid_t process = boddurci_this_process();
     if (fstat(place->opened[lock], &wanted) != 0)
         return 0;
     take_held();
     for (const struct boddurci_place *at = held; at != NULL && !is_here; at = at->held)
-        is_here = at->process == getpid() && at->holder == this_thread && has_for_long(at, lock) && fstat(at->opened[lock], &had) == 0 &&
+        is_here = at->process == process && at->holder == this_thread && has_for_long(at, lock) && fstat(at->opened[lock], &had) == 0 &&
                   had.st_dev == wanted.st_dev && had.st_ino == wanted.st_ino;
     give_held();
     return is_here;
@@ -538,9 +539,9 @@ uint32_t boddurci_find(struct boddurci_place *place, const char *name, boddurci_
     return status;
 }
 
-/* A call that waits for BASE.lock to change something says so by a lock of another kind, on the first byte of that file, and one that has
- * waited for long on the second byte. The system prefers readers, and a process that calls again, to one that waits. So readers let the
- * first go, and new calls the second. These locks are independent of flock, and end with the process. */
+/* A call that waits for BASE.lock to change something says so by a lock of another kind, on the first byte of that file; one that has waited
+ * for long, and a fetch that waits, on the second byte. The system prefers readers, and a process that calls again, to one that waits. So
+ * new fetches let the first go, and new changes the second. These locks are independent of flock, and end with the process. */
 enum { WAITS, STARVES, BYTES };
 
 #ifdef F_OFD_SETLK
@@ -552,7 +553,7 @@ static int lock_bytes(const struct boddurci_place *place, int how, off_t first, 
 
 static int is_announced(const struct boddurci_place *place, off_t byte)
 {
-    struct flock bytes = {.l_type = F_RDLCK, .l_whence = SEEK_SET, .l_start = byte, .l_len = 1};
+    struct flock bytes = {.l_type = (short)(byte == WAITS ? F_RDLCK : F_WRLCK), .l_whence = SEEK_SET, .l_start = byte, .l_len = 1};
     int lock = place->opened[BODDURCI_LOCK];
     return lock >= 0 && fcntl(lock, F_OFD_GETLK, &bytes) == 0 && bytes.l_type != F_UNLCK;
 }
@@ -590,40 +591,54 @@ static int are_open(const struct boddurci_place *place)
     return place->opened[BODDURCI_LOCK] >= 0 && place->opened[BODDURCI_WRITER] >= 0;
 }
 
-/* Tries once to take both locks for a call. After the first try it does not try BASE.lock while BASE.writer is busy. */
-static enum outcome try_call(struct boddurci_place *place, int is_first, int *is_next, boddurci_fault *fault)
+/* Tries once to take both locks for a call. After the first try it does not try BASE.lock while BASE.writer is busy. Sets *is_queued if
+ * BASE.lock is busy. */
+static enum outcome try_call(struct boddurci_place *place, int is_first, int *is_queued, boddurci_fault *fault)
 {
     for (enum boddurci_file lock = BODDURCI_LOCK; lock <= BODDURCI_WRITER && !(is_first && are_open(place)); lock++)
         if (open_lock(place, lock, 0, fault) != BODDURCI_DONE)
             return HAS_FAILED;
-    *is_next = 0;
+    *is_queued = 0;
     if (!is_first && is_busy(place->opened[BODDURCI_WRITER])) {
         announce_none(place);
         return IS_BUSY;
     }
     if (flock(place->opened[BODDURCI_LOCK], LOCK_EX | LOCK_NB) == 0)
         return lock_writer(place, fault);
-    if (errno == EWOULDBLOCK) {
-        (void)!lock_bytes(place, F_WRLCK, WAITS, 1);
-        *is_next = 1;
+    *is_queued = errno == EWOULDBLOCK;
+    if (*is_queued)
         return IS_BUSY;
-    }
     not_taken(place, 0, fault);
     return errno == EINTR ? TRY_AGAIN : HAS_FAILED;
 }
 
-/* Takes both locks for a call. Its wait continues after a signal. A call that has waited for long tries more often. */
+/* Announces a call that waits for BASE.lock. One of the calls that wait looks for its end again and again for a while, which takes less time
+ * than to wake it. One that has waited for long is let go first by new calls, and rests shortly. */
+static enum outcome queue(struct boddurci_place *place, int *tries, int *spins, boddurci_fault *fault)
+{
+    enum { SPINS = 3, LONG = 20 };
+    int is_next = lock_bytes(place, F_WRLCK, WAITS, 1) == 0;
+    if (is_next && *spins < SPINS) {
+        ++*spins;
+        if (take_soon(place->opened[BODDURCI_LOCK]) == 0)
+            return lock_writer(place, fault);
+    }
+    if (*tries >= LONG && lock_bytes(place, F_WRLCK, STARVES, 1) == 0)
+        *tries = LONG;
+    return IS_BUSY;
+}
+
+/* Takes both locks for a call. Its wait continues after a signal. */
 static uint32_t take_to_change(struct boddurci_place *place, int64_t end, boddurci_fault *fault)
 {
-    enum { LONG = 20 };
-    int tries = 0, is_first = 1, has_waited = 0, is_next;
+    int tries = 0, spins = 0, is_first = 1, has_waited = 0, is_queued;
     enum outcome outcome = TRY_AGAIN;
     while (outcome == TRY_AGAIN || outcome == IS_BUSY) {
-        outcome = try_call(place, is_first, &is_next, fault);
+        outcome = try_call(place, is_first, &is_queued, fault);
         is_first = 0;
         has_waited = has_waited || outcome == IS_BUSY;
-        if (outcome == IS_BUSY && is_next && tries >= LONG && lock_bytes(place, F_WRLCK, STARVES, 1) == 0)
-            tries = LONG;
+        if (outcome == IS_BUSY && is_queued && end != 0)
+            outcome = queue(place, &tries, &spins, fault);
         if (outcome != IS_BUSY || rest(&tries, end) == 0 || errno == EINTR)
             continue;
         not_taken(place, 0, fault);
@@ -663,8 +678,12 @@ uint32_t boddurci_take_call(struct boddurci_place *place, int reads, int64_t mil
         return take_to_change(place, end, fault);
     if (share_open(place))
         return BODDURCI_DONE;
+    if (place->opened[BODDURCI_LOCK] >= 0)
+        (void)!lock_bytes(place, F_RDLCK, STARVES, 1);
     while (status == BODDURCI_INTERRUPTED)
         status = share_lock(place, end, fault);
+    if (place->opened[BODDURCI_LOCK] >= 0)
+        announce_none(place);
     if (status == BODDURCI_DONE)
         boddurci_no_fault(fault);
     return status;

@@ -58,7 +58,7 @@ static void leave_locks(void)
 {
     for (boddurci_shared *shared = all; shared != NULL; shared = shared->next) {
         int is_idle = pthread_mutex_trylock(&shared->mutex) == 0;
-        __atomic_store_n(&shared->process, is_idle && shared->process != 0 ? getpid() : 0, __ATOMIC_RELAXED);
+        __atomic_store_n(&shared->process, is_idle && shared->process != 0 ? boddurci_note_process() : 0, __ATOMIC_RELAXED);
         if (!is_idle)
             continue;
         boddurci_drop_locks(&shared->place);
@@ -94,7 +94,7 @@ static void forget(boddurci_shared *shared)
 
 static int is_of_another(const boddurci_shared *shared)
 {
-    return __atomic_load_n(&shared->process, __ATOMIC_RELAXED) != getpid();
+    return __atomic_load_n(&shared->process, __ATOMIC_RELAXED) != boddurci_this_process();
 }
 
 /* ---- opening and closing */
@@ -106,7 +106,7 @@ static boddurci_shared *new_shared(uint32_t flags)
         return NULL;
     shared->flags = flags & FLAGS;
     shared->wait = flags & BODDURCI_NO_WAIT ? 0 : PATIENCE;
-    shared->process = getpid();
+    shared->process = boddurci_note_process();
     boddurci_no_place(&shared->place);
     boddurci_logged_of(&shared->logged, &shared->place, &shared->notes);
     for (enum boddurci_file file = BODDURCI_PAGES; file <= BODDURCI_REDO; file++)

@@ -159,6 +159,7 @@ static uint32_t settle_log(boddurci_shared *shared, boddurci_fault *fault)
         return recover(shared, fault);
     logged->next = note.log;
     logged->is_open = 1;
+    logged->redo.is_known = 0;
     return change == BODDURCI_SAME ? BODDURCI_DONE : boddurci_logged_renew(logged, fault);
 }
 

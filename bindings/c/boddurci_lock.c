@@ -227,7 +227,7 @@ static void close_lock(struct boddurci_place *place, enum boddurci_file lock)
     place->opened[lock] = -1;
 }
 
-/* Opens the file of a lock, again if another file has its name by now. A writer makes it if it is missing. OPEN_HERE if this thread has the
+/* Opens the file of a lock, for writing if this user may, again if another file has its name by now. A writer makes it if it is missing. OPEN_HERE if this thread has the
  * lock. */
 static uint32_t open_lock(struct boddurci_place *place, enum boddurci_file lock, int reads, boddurci_fault *fault)
 {
@@ -235,7 +235,7 @@ static uint32_t open_lock(struct boddurci_place *place, enum boddurci_file lock,
     if (place->opened[lock] >= 0 && !is_named(place, lock))
         close_lock(place, lock);
     for (int tries = 0; tries < 100 && status == BODDURCI_DONE && place->opened[lock] < 0; tries++) {
-        status = boddurci_open_beside(place, lock, reads ? O_RDONLY : O_RDWR, &place->opened[lock], fault);
+        status = boddurci_open_beside(place, lock, O_RDWR, &place->opened[lock], fault);
         if (reads && place->opened[lock] < 0)
             return status;
         if (status == BODDURCI_DONE && place->opened[lock] < 0)
@@ -534,6 +534,8 @@ uint32_t boddurci_find(struct boddurci_place *place, const char *name, boddurci_
     uint32_t status = resolve(name, &led, fault);
     if (status == BODDURCI_DONE)
         status = boddurci_place_of(place, led != NULL ? led : name, fault);
+    if (status == BODDURCI_DONE)
+        place->announces = boddurci_is_local(place->folder);
     pthread_once(&held_once, guard_forks);
     free(led);
     return status;
@@ -541,13 +543,16 @@ uint32_t boddurci_find(struct boddurci_place *place, const char *name, boddurci_
 
 /* A call that waits for BASE.lock to change something says so by a lock of another kind, on the first byte of that file; one that has waited
  * for long, and a fetch that waits, on the second byte. The system prefers readers, and a process that calls again, to one that waits. So
- * new fetches let the first go, and new changes the second. These locks are independent of flock, and end with the process. */
+ * new fetches let the first go, and new changes the second. These locks end with the process. On a local file system they are independent of
+ * flock; on others nobody announces himself, since flock may lock the same bytes. */
 enum { WAITS, STARVES, BYTES };
 
 #ifdef F_OFD_SETLK
 static int lock_bytes(const struct boddurci_place *place, int how, off_t first, off_t count)
 {
     struct flock bytes = {.l_type = (short)how, .l_whence = SEEK_SET, .l_start = first, .l_len = count};
+    if (!place->announces)
+        return -1;
     return fcntl(place->opened[BODDURCI_LOCK], F_OFD_SETLK, &bytes);
 }
 
@@ -555,7 +560,7 @@ static int is_announced(const struct boddurci_place *place, off_t byte)
 {
     struct flock bytes = {.l_type = (short)(byte == WAITS ? F_RDLCK : F_WRLCK), .l_whence = SEEK_SET, .l_start = byte, .l_len = 1};
     int lock = place->opened[BODDURCI_LOCK];
-    return lock >= 0 && fcntl(lock, F_OFD_GETLK, &bytes) == 0 && bytes.l_type != F_UNLCK;
+    return place->announces && lock >= 0 && fcntl(lock, F_OFD_GETLK, &bytes) == 0 && bytes.l_type != F_UNLCK;
 }
 #else
 static int lock_bytes(const struct boddurci_place *place, int how, off_t first, off_t count)
@@ -637,7 +642,7 @@ static uint32_t take_to_change(struct boddurci_place *place, int64_t end, boddur
         outcome = try_call(place, is_first, &is_queued, fault);
         is_first = 0;
         has_waited = has_waited || outcome == IS_BUSY;
-        if (outcome == IS_BUSY && is_queued && end != 0)
+        if (outcome == IS_BUSY && is_queued && (end < 0 || now() < end))
             outcome = queue(place, &tries, &spins, fault);
         if (outcome != IS_BUSY || rest(&tries, end) == 0 || errno == EINTR)
             continue;

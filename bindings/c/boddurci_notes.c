@@ -34,9 +34,7 @@ static int is_near(struct timespec one, struct timespec other)
     return apart > -0.02 && apart < 0.02;
 }
 
-/* Whether this system sets the times of a file itself, while it writes the file. A server sets its own times, and may set them after the
- * look. */
-static int is_local(int opened)
+int boddurci_is_local(int opened)
 {
     /* ext2 to ext4, XFS, Btrfs, tmpfs, F2FS, overlayfs, ZFS, Bcachefs */
     static const uint32_t kinds[] = {0xef53, 0x58465342, 0x9123683e, 0x01021994, 0xf2f52010, 0x794c7630, 0x2fc12fc1, 0xca451a4e};
@@ -122,10 +120,10 @@ void boddurci_note_opened(struct boddurci_notes *notes, const struct boddurci_di
 
 void boddurci_note_system(struct boddurci_notes *notes, const struct boddurci_place *place)
 {
-    notes->is_local = is_local(place->folder);
+    notes->is_local = boddurci_is_local(place->folder);
     for (enum boddurci_file file = BODDURCI_PAGES; file <= BODDURCI_DIRECTORY; file++)
         if (place->seen[file].is_there)
-            notes->is_local = notes->is_local && is_local(place->seen[file].opened);
+            notes->is_local = notes->is_local && boddurci_is_local(place->seen[file].opened);
 }
 
 struct timespec boddurci_time_of_folder(const struct boddurci_place *place)

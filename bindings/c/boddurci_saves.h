@@ -94,6 +94,7 @@ struct boddurci_place {
     struct boddurci_inode inodes[BODDURCI_FILES]; /* of the locks, once they are taken */
     int is_early[BODDURCI_FILES]; /* this process has made the lock while .pag was missing */
     int keeps_files;              /* BASE.lock stays locked between the calls of the base */
+    int announces;                /* calls of a shared base that wait announce themselves */
     struct boddurci_place *held;  /* the next in the list of places whose locks this process has */
     unsigned long holder;         /* the thread that has taken the locks, by the number in this_thread */
     pid_t process;                /* the process of that thread */
@@ -394,6 +395,10 @@ enum boddurci_change {
     BODDURCI_WRITTEN, /* the time of the last write differs */
     BODDURCI_OTHERS   /* a length differs, or the file under a name is another one */
 };
+
+/* Whether the file system of an open file is one of this system. It then sets the times of a file itself, while it writes the file. A server
+ * sets its own times, and may set them after the look. */
+int boddurci_is_local(int opened);
 
 /* Notes the files under the names, before they are read; then, in the second call, the file systems of the folder and of the open files. */
 void boddurci_note_opened(struct boddurci_notes *notes, const struct boddurci_disk *disk);

@@ -11,6 +11,7 @@
 #include "boddurci_files.h"
 #include <errno.h>
 #include <fcntl.h>
+#include <grp.h>
 #include <pthread.h>
 #include <signal.h>
 #include <stdatomic.h>
@@ -407,6 +408,65 @@ static void test_readers(void)
     boddurci_close_shared(shared);
 }
 
+/* ---- two users of one group, of whom only one owns the files */
+
+enum { OWNER = 7001, MEMBER = 7002, GROUP = 7003 };
+static const char of_group[] = "group/db";
+
+/* Runs a test as a user of the group, in a child. Returns whether it has passed. */
+static int passes_as(uid_t user, void (*test)(void))
+{
+    int status;
+    fflush(NULL);
+    pid_t child = fork();
+    if (child == 0) {
+        umask(0007);
+        EXPECT(setgroups(0, NULL) == 0 && setresgid(GROUP, GROUP, GROUP) == 0 && setresuid(user, user, user) == 0);
+        test();
+        exit(0);
+    }
+    return waitpid(child, &status, 0) == child && status == 0;
+}
+
+static void store_as_owner(void)
+{
+    boddurci_shared *shared = opened(of_group, 0);
+    EXPECT(store(shared, "a", "owner") == BODDURCI_DONE && has(shared, "a", "owner"));
+    boddurci_close_shared(shared);
+    boddurci_close_files(boddurci_open_files(of_group, 0, &fault));
+    EXPECT(fault.status == BODDURCI_DONE && !is_marked(of_group));
+}
+
+static void store_as_member(void)
+{
+    boddurci_shared *shared = opened(of_group, 0);
+    EXPECT(store(shared, "a", "member") == BODDURCI_DONE && has(shared, "a", "member"));
+    EXPECT(store(shared, "b", "member") == BODDURCI_DONE && has(shared, "b", "member"));
+    boddurci_close_shared(shared);
+}
+
+static void find_as_owner(void)
+{
+    boddurci_shared *shared = opened(of_group, 0);
+    EXPECT(has(shared, "a", "member") && has(shared, "b", "member"));
+    boddurci_close_shared(shared);
+}
+
+/* A member of the group makes the redo file, and cannot give it to the owner of .pag: it must not stay. */
+static void test_group(void)
+{
+    struct stat found;
+    if (geteuid() != 0)
+        return;
+    EXPECT(mkdir("group", 0700) == 0 && chown("group", OWNER, GROUP) == 0 && chmod("group", 0770) == 0);
+    EXPECT(passes_as(OWNER, store_as_owner));
+    EXPECT(stat("group/db.pag", &found) == 0 && found.st_uid == OWNER && found.st_gid == GROUP && (found.st_mode & 0777) == 0660);
+    EXPECT(unlink("group/db.redo") == 0 && passes_as(MEMBER, store_as_member) && passes_as(OWNER, find_as_owner));
+    EXPECT(access("group/db.redo", F_OK) != 0 && passes_as(OWNER, store_as_owner) && passes_as(MEMBER, store_as_member));
+    /* The member may use the file of the owner. */
+    EXPECT(stat("group/db.redo", &found) == 0 && found.st_uid == OWNER && passes_as(OWNER, find_as_owner));
+}
+
 /* A limit on the length of files is a fault, and no signal. */
 static void test_limit(void)
 {
@@ -715,6 +775,7 @@ static int calls(const char *folder)
     test_sizes();
     test_files();
     test_readers();
+    test_group();
     test_limit();
     test_locks();
     test_services();

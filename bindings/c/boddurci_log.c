@@ -521,6 +521,33 @@ uint32_t boddurci_logged_mark(struct boddurci_logged *logged, boddurci_fault *fa
 
 /* ---- closing */
 
+/* Clears the mark, and with the same write the note of a shared base. Without a note a marked log would be recovered, over what another
+ * program has written since; and a note must not outlive the mark, since later records may end at the same place. */
+static int clear_mark(struct boddurci_disk *disk)
+{
+    uint8_t header[BODDURCI_HEADER_USED];
+    size_t length;
+    disk->last = BODDURCI_REDO;
+    if (boddurci_unmarked_header(disk->files[BODDURCI_REDO], header, &length) != 0)
+        return -1;
+    return boddurci_disk_write(disk, BODDURCI_REDO, 0, header, length);
+}
+
+/* Makes a step that closes the log. The data files are synced first, then the mark is cleared. If a sync fails the note is cleared: the data
+ * files may lack what was written, so the next call is to recover them. */
+static int close_by(struct boddurci_disk *disk, const boddurci_step *step)
+{
+    if (step->file >= 2 && step->kind != BODDURCI_SYNC)
+        return clear_mark(disk);
+    if (boddurci_do_steps(disk, step, 1, (const uint8_t *)step) == 0)
+        return 0;
+    int system = errno, last = (int)disk->last;
+    (void)!clear_note(disk);
+    disk->last = (enum boddurci_file)last;
+    errno = system;
+    return -1;
+}
+
 /* Makes the steps that close the log. */
 static int close_log(struct boddurci_logged *logged)
 {
@@ -530,9 +557,10 @@ static int close_log(struct boddurci_logged *logged)
         errno = ENOMEM;
         return -1;
     }
-    if (clear_note(&logged->disk) != 0)
-        return -1;
-    return boddurci_do_steps(&logged->disk, steps, words / WORDS, (const uint8_t *)steps);
+    for (size_t i = 0; i < words / WORDS; i++)
+        if (close_by(&logged->disk, &steps[i]) != 0)
+            return -1;
+    return 0;
 }
 
 uint32_t boddurci_logged_renew(struct boddurci_logged *logged, boddurci_fault *fault)

@@ -22,6 +22,7 @@
 #include <sys/mman.h>
 #include <sys/resource.h>
 #include <sys/stat.h>
+#include <sys/time.h>
 #include <sys/wait.h>
 #include <time.h>
 #include <unistd.h>
@@ -89,7 +90,7 @@ static int has(boddurci_shared *shared, const char *key, const char *value)
     uint32_t status = boddurci_shared_fetch(shared, (const uint8_t *)key, strlen(key), room, sizeof room, &length, &fault);
     if (value == NULL)
         return status == BODDURCI_MISSING && fault.status == BODDURCI_MISSING;
-    return status == BODDURCI_DONE && length == strlen(value) && memcmp(room, value, length) == 0;
+    return status == BODDURCI_DONE && fault.status == BODDURCI_DONE && length == strlen(value) && memcmp(room, value, length) == 0;
 }
 
 /* ---- files */
@@ -333,14 +334,70 @@ static void test_names(void)
     EXPECT(store(shared, "a", "b") == BODDURCI_DONE && has(shared, "a", "b"));
     boddurci_shared *other = opened("missing", BODDURCI_MUST_EXIST);
     EXPECT(has(other, "a", "b"));
-    EXPECT(unlink("missing.pag") == 0);
-    EXPECT(boddurci_shared_delete(other, BYTES("a"), &fault) == BODDURCI_FILE_FAILED && fault.system == ENOENT);
     /* The log has all saves since the database was empty. */
+    EXPECT(unlink("missing.pag") == 0 && boddurci_shared_delete(other, BYTES("c"), &fault) == BODDURCI_MISSING && has(other, "a", "b"));
     EXPECT(store(shared, "b", "c") == BODDURCI_DONE && has(other, "a", "b") && has(other, "b", "c"));
     EXPECT(unlink("missing.pag") == 0 && unlink("missing.dir") == 0 && unlink("missing.redo") == 0);
+    EXPECT(boddurci_shared_delete(other, BYTES("a"), &fault) == BODDURCI_FILE_FAILED && fault.system == ENOENT);
     EXPECT(store(shared, "a", "c") == BODDURCI_DONE && has(other, "a", "c") && has(other, "b", NULL));
+    boddurci_close_files(boddurci_open_files("missing", 0, &fault));
+    EXPECT(!is_marked("missing") && unlink("missing.pag") == 0 && fails("missing", BODDURCI_MUST_EXIST, BODDURCI_FILE_FAILED));
     boddurci_close_shared(other);
     boddurci_close_shared(shared);
+}
+
+/* Gives the note in the log to another boot of the system. docs/DESIGN.md has its bytes. */
+static void change_boot(const char *base)
+{
+    enum { NOTE = 16, BOOT = NOTE + 32, CHECK = NOTE + 112 };
+    uint64_t check = 14695981039346656037u;
+    struct bytes redo = read_file(base, ".redo");
+    EXPECT(redo.length > CHECK + 8 && redo.at[0] == 1 && memcmp(redo.at + NOTE, "sdbmnot2", 8) == 0);
+    redo.at[BOOT] ^= 1;
+    for (int i = NOTE; i < CHECK; i++)
+        check = (check ^ redo.at[i]) * 1099511628211u;
+    for (int i = 0; i < 8; i++)
+        redo.at[CHECK + i] = (uint8_t)(check >> 8 * i);
+    write_file(base, ".redo", redo.at, redo.length);
+    free(redo.at);
+}
+
+/* After a loss of power the data files lack changes, which the log has: the note is not for the boot after it. */
+static void test_boots(void)
+{
+    boddurci_shared *shared = opened("boots", 0);
+    EXPECT(store(shared, "a", "first") == BODDURCI_DONE && store(shared, "b", "first") == BODDURCI_DONE);
+    for (int i = 0; i < 3; i++) {
+        struct bytes pages = read_file("boots", ".pag");
+        EXPECT(store(shared, "a", i % 2 ? "odd" : "even") == BODDURCI_DONE && has(shared, "a", i % 2 ? "odd" : "even"));
+        write_file("boots", ".pag", pages.at, pages.length);
+        free(pages.at);
+        change_boot("boots");
+        if (i == 1)
+            EXPECT(store(shared, "b", "second") == BODDURCI_DONE);
+        if (i == 2)
+            boddurci_close_files(boddurci_open_files("boots", 0, &fault));
+        EXPECT(has(shared, "a", i % 2 ? "odd" : "even") && has(shared, "b", i == 0 ? "first" : "second"));
+    }
+    boddurci_close_shared(shared);
+}
+
+/* After a loss of power .pag may exist in the log alone. */
+static void test_lost_pages(void)
+{
+    for (uint32_t flags = 0; flags <= BODDURCI_WIDE; flags += BODDURCI_WIDE)
+        for (int stores = 0; stores < 2; stores++) {
+            boddurci_shared *shared = opened("pages", flags);
+            EXPECT(store(shared, "a", "b") == BODDURCI_DONE);
+            boddurci_close_shared(shared);
+            change_boot("pages");
+            EXPECT(unlink("pages.pag") == 0 && unlink("pages.dir") == 0 && unlink("pages.lock") == 0);
+            shared = opened("pages", flags | BODDURCI_MUST_EXIST);
+            EXPECT(!stores || store(shared, "b", "c") == BODDURCI_DONE);
+            EXPECT(has(shared, "a", "b") && access("pages.pag", F_OK) == 0);
+            boddurci_close_shared(shared);
+            EXPECT(unlink("pages.pag") == 0 && unlink("pages.dir") == 0 && unlink("pages.redo") == 0);
+        }
 }
 
 /* Small pages are not opened as wide ones. */
@@ -490,6 +547,11 @@ static int taken(const char *name, int how)
     return file;
 }
 
+static void rest(void)
+{
+    nanosleep(&(struct timespec){0, 20000000}, NULL);
+}
+
 static double seconds(void)
 {
     struct timespec time;
@@ -554,6 +616,75 @@ static void test_services(void)
     boddurci_close_shared(shared);
 }
 
+/* Saves a pair in a service that is killed: the log has no note. */
+static void store_and_die(const char *base, const char *value)
+{
+    int status;
+    pid_t child = fork();
+    if (child == 0) {
+        boddurci_base *service = boddurci_open_files(base, 0, &fault);
+        (void)!boddurci_store(boddurci_take(service), BYTES("a"), (const uint8_t *)value, strlen(value), 1);
+        boddurci_give(service);
+        if (boddurci_save(service, &fault) == BODDURCI_DONE)
+            kill(getpid(), SIGKILL);
+        _exit(1);
+    }
+    EXPECT(waitpid(child, &status, 0) == child && WIFSIGNALED(status) && is_marked(base));
+}
+
+/* A log that must be recovered, while a service that waits for the files has BASE.writer shared: a fetch does not need that lock. */
+static void test_waiting(void)
+{
+    boddurci_shared *shared = opened("waited", 0), *once = opened("waited", BODDURCI_NO_WAIT);
+    EXPECT(store(shared, "a", "1") == BODDURCI_DONE);
+    store_and_die("waited", "2");
+    int writer = taken("waited.writer", LOCK_SH);
+    double start = seconds();
+    EXPECT(has(shared, "a", "2") && seconds() - start < 3 && has(once, "a", "2") && is_marked("waited"));
+    close(writer);
+    EXPECT(has(once, "a", "2") && !is_marked("waited"));
+    boddurci_close_shared(once);
+    boddurci_close_shared(shared);
+}
+
+static void do_nothing(int signal)
+{
+    (void)signal;
+}
+
+/* A service that waits for the files for some time, while other processes take BASE.lock again and again. */
+static void wait_as_service(void)
+{
+    int writer = taken("signals.writer", LOCK_SH), lock = taken("signals.lock", LOCK_SH);
+    for (int i = 0; i < 10; i++) {
+        (void)!flock(lock, LOCK_EX);
+        rest();
+        flock(lock, LOCK_UN);
+        rest();
+    }
+    close(writer);
+    _exit(0);
+}
+
+/* Signals during such a fetch. */
+static void test_signals(void)
+{
+    static const struct itimerval often = {{0, 2000}, {0, 2000}}, never = {{0, 0}, {0, 0}};
+    boddurci_shared *shared = opened("signals", 0);
+    EXPECT(store(shared, "a", "1") == BODDURCI_DONE);
+    EXPECT(sigaction(SIGALRM, &(struct sigaction){.sa_handler = do_nothing}, NULL) == 0);
+    for (int i = 0, status; i < 3; i++) {
+        store_and_die("signals", i % 2 ? "odd" : "even");
+        pid_t child = fork();
+        if (child == 0)
+            wait_as_service();
+        rest();
+        EXPECT(setitimer(ITIMER_REAL, &often, NULL) == 0 && has(shared, "a", i % 2 ? "odd" : "even"));
+        EXPECT(setitimer(ITIMER_REAL, &never, NULL) == 0 && waitpid(child, &status, 0) == child && status == 0);
+    }
+    boddurci_close_shared(shared);
+}
+
 /* ---- programs that do not know the log */
 
 static void store_raw(const char *base, const char *key, const char *value)
@@ -562,11 +693,6 @@ static void store_raw(const char *base, const char *key, const char *value)
     open_raw(&db, base, 0);
     EXPECT(boddurci_store(&db, (const uint8_t *)key, strlen(key), (const uint8_t *)value, strlen(value), 1) == BODDURCI_DONE);
     write_raw(&db, base);
-}
-
-static void rest(void)
-{
-    nanosleep(&(struct timespec){0, 20000000}, NULL);
 }
 
 static void test_others(void)
@@ -681,6 +807,45 @@ static void test_orphans(void)
     close(ends[1]);
 }
 
+static void *store_always(void *shared)
+{
+    boddurci_fault own;
+    for (;;)
+        (void)!boddurci_shared_store(shared, BYTES("a"), BYTES("d"), 1, &own);
+    return NULL;
+}
+
+/* The same, with a fork in the middle of a call of another thread. */
+static void test_orphans_of_threads(void)
+{
+    boddurci_shared *shared = opened("orphans", 0);
+    int ends[2], status;
+    pthread_t thread;
+    EXPECT(pipe(ends) == 0);
+    for (int i = 0; i < 8; i++) {
+        pid_t parent = fork();
+        if (parent == 0) {
+            if (pthread_create(&thread, NULL, store_always, shared) != 0)
+                _exit(1);
+            rest();
+            if (fork() == 0) {
+                char none;
+                close(ends[1]);
+                (void)!read(ends[0], &none, 1);
+                _exit(0);
+            }
+            for (;;)
+                pause();
+        }
+        nanosleep(&(struct timespec){0, 50000000}, NULL);
+        kill(parent, SIGKILL);
+        EXPECT(waitpid(parent, &status, 0) == parent && WIFSIGNALED(status) && store(shared, "a", "e") == BODDURCI_DONE);
+    }
+    boddurci_close_shared(shared);
+    close(ends[0]);
+    close(ends[1]);
+}
+
 static boddurci_shared *waiting;
 
 static void *wait_in_call(void *unused)
@@ -772,6 +937,8 @@ static int calls(const char *folder)
     test_model("unsigned", BODDURCI_UNSIGNED_KEYS | BODDURCI_NO_WAIT, 40, 1000);
     test_programs();
     test_names();
+    test_boots();
+    test_lost_pages();
     test_sizes();
     test_files();
     test_readers();
@@ -779,11 +946,14 @@ static int calls(const char *folder)
     test_limit();
     test_locks();
     test_services();
+    test_waiting();
+    test_signals();
     test_others();
     test_replaced();
     test_long();
     test_forks();
     test_orphans();
+    test_orphans_of_threads();
     test_lost();
     test_threads();
     test_folders();

@@ -93,8 +93,14 @@ static uint32_t find_files(boddurci_shared *shared, int has_times, boddurci_faul
             break;
         status = tries < TRIES ? open_data(shared, fault) : boddurci_fail(fault, BODDURCI_MOVED, 0, "BASE.pag or BASE.dir comes and goes");
     }
-    if (status != BODDURCI_DONE || shared->notes.files[BODDURCI_PAGES].is_there || !(shared->flags & BODDURCI_MUST_EXIST))
-        return status;
+    return status;
+}
+
+/* Checks that .pag exists, if it must. Call it once the log is settled: after a crash of the machine .pag may exist in the log alone. */
+static uint32_t has_to_exist(const boddurci_shared *shared, boddurci_fault *fault)
+{
+    if (shared->notes.files[BODDURCI_PAGES].is_there || !(shared->flags & BODDURCI_MUST_EXIST))
+        return BODDURCI_DONE;
     errno = ENOENT;
     return boddurci_fail_by_system(fault, "a file cannot be opened");
 }
@@ -406,6 +412,8 @@ uint32_t boddurci_change_page(boddurci_shared *shared, struct boddurci_command *
     if (status == BODDURCI_DONE)
         status = settle_log(shared, fault);
     if (status == BODDURCI_DONE)
+        status = has_to_exist(shared, fault);
+    if (status == BODDURCI_DONE)
         status = open_page(shared, command, &part, is_whole, fault);
     if (status == BODDURCI_DONE && !*is_whole) {
         status = answer(shared, command, fault);
@@ -430,6 +438,8 @@ uint32_t boddurci_fetch_page(boddurci_shared *shared, struct boddurci_command *c
         *must_recover = !boddurci_has_writer(&shared->place);
     if (status != BODDURCI_DONE || *must_recover)
         return status;
-    status = open_page(shared, command, &part, is_whole, fault);
+    status = has_to_exist(shared, fault);
+    if (status == BODDURCI_DONE)
+        status = open_page(shared, command, &part, is_whole, fault);
     return status == BODDURCI_DONE && !*is_whole ? answer(shared, command, fault) : status;
 }

@@ -437,6 +437,65 @@ static void test_files(void)
     boddurci_close_shared(shared);
 }
 
+/* Returns the number of a page of zeros in .pag, or 0. The pages are small. */
+static size_t empty_page(const char *base)
+{
+    static const uint8_t zeros[1024];
+    size_t number = 0;
+    struct bytes pages = read_file(base, ".pag");
+    for (size_t i = 1; i < pages.length / sizeof zeros; i++)
+        number = memcmp(pages.at + i * sizeof zeros, zeros, sizeof zeros) == 0 ? i : number;
+    free(pages.at);
+    return number;
+}
+
+/* Writes a page in place. */
+static void write_page(const char *base, size_t number, const uint8_t page[1024])
+{
+    struct bytes pages = read_file(base, ".pag");
+    memcpy(pages.at + number * 1024, page, 1024);
+    write_file(base, ".pag", pages.at, pages.length);
+    free(pages.at);
+}
+
+static uint32_t store_long(boddurci_shared *shared, int number)
+{
+    char key[20], value[201];
+    sprintf(key, "%d", number);
+    memset(value, 'v', 200);
+    value[200] = 0;
+    return store(shared, key, value);
+}
+
+/* A split must not overwrite a page that has bytes, although the directory does not lead to it: it fails as on the whole database. */
+static void test_targets(void)
+{
+    uint8_t pages[3][1024] = {{0}, {255, 255, 1}, {0}};
+    boddurci_shared *shared = opened("targets", 0);
+    int next = 0;
+    while (empty_page("targets") == 0 && next < 200)
+        EXPECT(store_long(shared, next++) == BODDURCI_DONE);
+    size_t number = empty_page("targets");
+    struct bytes is = read_file("targets", ".pag");
+    memcpy(pages[2], is.at, 1024);
+    free(is.at);
+    EXPECT(number != 0);
+    for (int i = 1; i <= 2; i++) {
+        write_page("targets", number, pages[i]);
+        uint32_t status = BODDURCI_DONE;
+        for (int tries = 0; status == BODDURCI_DONE && tries < 200; tries++)
+            status = store_long(shared, next++);
+        EXPECT(status == BODDURCI_BAD_FILES && boddurci_open_files("targets", 0, &fault) == NULL && fault.status == BODDURCI_BAD_FILES);
+        is = read_file("targets", ".pag");
+        EXPECT(memcmp(is.at + number * 1024, pages[i], 1024) == 0);
+        free(is.at);
+        next--;
+        write_page("targets", number, pages[0]);
+    }
+    EXPECT(store_long(shared, next) == BODDURCI_DONE && empty_page("targets") != number);
+    boddurci_close_shared(shared);
+}
+
 /* A folder and files that this user may only read. */
 static void test_readers(void)
 {
@@ -941,6 +1000,7 @@ static int calls(const char *folder)
     test_lost_pages();
     test_sizes();
     test_files();
+    test_targets();
     test_readers();
     test_group();
     test_limit();

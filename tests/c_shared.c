@@ -568,6 +568,13 @@ static void find_as_owner(void)
     boddurci_close_shared(shared);
 }
 
+static void delete_as_member(void)
+{
+    boddurci_shared *shared = opened(of_group, 0);
+    EXPECT(boddurci_shared_delete(shared, BYTES("c"), &fault) == BODDURCI_MISSING);
+    boddurci_close_shared(shared);
+}
+
 /* A member of the group makes the redo file, and cannot give it to the owner of .pag: it must not stay. */
 static void test_group(void)
 {
@@ -581,6 +588,9 @@ static void test_group(void)
     EXPECT(access("group/db.redo", F_OK) != 0 && passes_as(OWNER, store_as_owner) && passes_as(MEMBER, store_as_member));
     /* The member may use the file of the owner. */
     EXPECT(stat("group/db.redo", &found) == 0 && found.st_uid == OWNER && passes_as(OWNER, find_as_owner));
+    /* A killed call of the member has left the file. The next one removes it, also if it changes nothing. */
+    EXPECT(is_marked(of_group) && chown("group/db.redo", MEMBER, GROUP) == 0 && passes_as(MEMBER, delete_as_member));
+    EXPECT(access("group/db.redo", F_OK) != 0 && passes_as(OWNER, find_as_owner));
 }
 
 /* A limit on the length of files is a fault, and no signal. */

@@ -53,8 +53,8 @@ static void give_all(void)
     pthread_mutex_unlock(&all_mutex);
 }
 
-/* Closes the lock files of a base, of which another thread of the parent was in a call. That thread may just have closed one of them, and
- * another file may have got its descriptor: so it closes only what has the name of the lock. */
+/* Closes the lock files of a base if another thread of the parent was in the middle of a call. That thread may just have closed one of them,
+ * and another file may have got its descriptor. So a descriptor is closed only if it is the file under the name of the lock. */
 static void leave_locks_of_call(struct boddurci_place *place)
 {
     for (enum boddurci_file lock = BODDURCI_LOCK; lock <= BODDURCI_WRITER; lock++)
@@ -64,7 +64,7 @@ static void leave_locks_of_call(struct boddurci_place *place)
 }
 
 /* Closes the locks in a child: the next call opens them again. If another thread was in a call, the base is lost for the child. If that call
- * was on the whole database, the child keeps the locks of that inner base, which this list does not have. */
+ * was on the whole database, the child keeps the locks of the inner base of call_whole, which is not in this list. */
 static void leave_locks(void)
 {
     for (boddurci_shared *shared = all; shared != NULL; shared = shared->next) {
@@ -380,8 +380,8 @@ struct fetching {
     int must_recover, is_whole;
 };
 
-/* Takes BASE.lock for a fetch, if that exists. If a save waits for it, that save goes first, unless a signal comes: with a signal now and then
- * it would never end. */
+/* Takes BASE.lock for a fetch, if that exists. If a save waits for it, that save goes first; but only until a signal comes, since a wait that
+ * begins again after each signal might never end. */
 static uint32_t take_after_saves(struct boddurci_place *place, int64_t end, boddurci_fault *fault)
 {
     uint32_t status = boddurci_take_shared(place, left_of(end), fault);

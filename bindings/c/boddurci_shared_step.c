@@ -171,17 +171,16 @@ static uint32_t settle_log(boddurci_shared *shared, boddurci_fault *fault)
 
 /* Closes the log and removes the redo file, if the log is open and the file does not have the owner, the group and the permissions of .pag:
  * other users would not accept it. A user who may write .pag and does not own it cannot give the file to its owner. */
-static int remove_unlike(boddurci_shared *shared)
+static void remove_unlike(boddurci_shared *shared)
 {
     boddurci_fault unsaid;
     struct boddurci_disk *disk = &shared->logged.disk;
     int redo = disk->files[BODDURCI_REDO];
     if (!shared->logged.is_open || boddurci_is_like_pages(&shared->place, redo))
-        return 0;
+        return;
     int is_named = boddurci_is_named(&shared->place, BODDURCI_REDO, redo);
     if (boddurci_logged_renew(&shared->logged, &unsaid) == BODDURCI_DONE && is_named)
         (void)!(boddurci_disk_remove_redo(disk) == 0 && boddurci_disk_sync(disk, BODDURCI_REDO) == 0);
-    return 1;
 }
 
 /* Leaves a note for the next call. If another program has written during this one, the log is closed instead: its records may not belong to
@@ -192,7 +191,7 @@ static void leave_log(boddurci_shared *shared)
     struct boddurci_logged *logged = &shared->logged;
     struct boddurci_note files[2];
     boddurci_settle_locks(&shared->place);
-    if (remove_unlike(shared) || !boddurci_logged_is_marked(logged))
+    if (!boddurci_logged_is_marked(logged))
         return;
     if (shared->notes.is_overtaken || !shared->boot.is_known) {
         (void)!boddurci_logged_renew(logged, &unsaid);
@@ -396,8 +395,6 @@ static uint32_t save_page(boddurci_shared *shared, const struct part *part, int 
     status = boddurci_logged_save(&shared->logged, bytes, &is_left, fault);
     if (status == BODDURCI_DONE && !is_left)
         leave_log(shared);
-    else if (status != BODDURCI_DONE)
-        remove_unlike(shared);
     return status;
 }
 
@@ -420,6 +417,7 @@ uint32_t boddurci_change_page(boddurci_shared *shared, struct boddurci_command *
         if (boddurci_may_change(command, status))
             status = save_page(shared, &part, is_whole, fault);
     }
+    remove_unlike(shared);
     boddurci_give_signal(&shared->logged.disk);
     return status;
 }

@@ -521,8 +521,9 @@ uint32_t boddurci_logged_mark(struct boddurci_logged *logged, boddurci_fault *fa
 
 /* ---- closing */
 
-/* Clears the mark, and with the same write the note of a shared base. Without a note a marked log would be recovered, over what another
- * program has written since; and a note must not outlive the mark, since later records may end at the same place. */
+/* Clears the mark, and by the same write the note of a shared base. A process may be killed at any call. If the note went first, the marked
+ * log would be recovered, although another program may have written the data files since. If the mark went first, the note could come to
+ * apply to later records, which may end at the same place. */
 static int clear_mark(struct boddurci_disk *disk)
 {
     uint8_t header[BODDURCI_HEADER_USED];
@@ -533,8 +534,9 @@ static int clear_mark(struct boddurci_disk *disk)
     return boddurci_disk_write(disk, BODDURCI_REDO, 0, header, length);
 }
 
-/* Makes a step that closes the log. The data files are synced first, then the mark is cleared. If a sync fails the note is cleared: the data
- * files may lack what was written, so the next call is to recover them. */
+/* Makes a step that closes the log: the syncs of both data files, the write that clears the mark, and the sync of the redo file. clear_mark
+ * writes the same byte as that step, and zeros over the note. If a sync fails the note is cleared: the data files may lack what was written,
+ * so the next call is to recover them. */
 static int close_by(struct boddurci_disk *disk, const boddurci_step *step)
 {
     if (step->file >= 2 && step->kind != BODDURCI_SYNC)

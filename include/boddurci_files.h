@@ -211,7 +211,9 @@ void boddurci_close_files(boddurci_base *base);
  * - a change that one page is not enough for, or that the last page of .pag would be empty after, opens the whole base, and so does any call
  *   on files that this library has not written, or that have a .dir of more than 256 KiB;
  * - the first call after a process was killed in the middle of a call, or after the system was started again, recovers the log, and a
- *   change after a command of dbm, a service or Perl begins a new log, with some syncs.
+ *   change after a command of dbm, a service or Perl begins a new log, with some syncs;
+ * - a change by a user who may write .pag and does not own it, if BASE.redo is missing, makes and removes it: this user cannot give it to
+ *   the owner of .pag, and other users would not accept it.
  *
  * Otherwise a handle takes less than 1 MiB and its programs.
  *
@@ -231,7 +233,9 @@ typedef struct boddurci_shared boddurci_shared;
  * whether its pages look small. Returns NULL and sets *fault if that fails, or if the name is bad or the folder is missing. */
 boddurci_shared *boddurci_open_shared(const char *base, uint32_t flags, boddurci_fault *fault);
 
-/* Closes the handle, and frees its memory. shared may be NULL. No thread may use it meanwhile, or later. */
+/* Closes the handle, and frees its memory. shared may be NULL. No thread may use it meanwhile, or later. The log stays open for other
+ * processes, also after the last handle: a process that changes one pair would otherwise take several syncs instead of one. Opening the base
+ * for writing by boddurci_open_files closes it. */
 void boddurci_close_shared(boddurci_shared *shared);
 
 /* Sets how long each later call waits for the locks: 0 tries once, and -1 waits without a limit. IS_CLOSED if shared is NULL. */

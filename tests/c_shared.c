@@ -11,6 +11,7 @@
 #include "boddurci_files.h"
 #include <errno.h>
 #include <fcntl.h>
+#include <grp.h>
 #include <pthread.h>
 #include <signal.h>
 #include <stdatomic.h>
@@ -21,6 +22,7 @@
 #include <sys/mman.h>
 #include <sys/resource.h>
 #include <sys/stat.h>
+#include <sys/time.h>
 #include <sys/wait.h>
 #include <time.h>
 #include <unistd.h>
@@ -88,7 +90,7 @@ static int has(boddurci_shared *shared, const char *key, const char *value)
     uint32_t status = boddurci_shared_fetch(shared, (const uint8_t *)key, strlen(key), room, sizeof room, &length, &fault);
     if (value == NULL)
         return status == BODDURCI_MISSING && fault.status == BODDURCI_MISSING;
-    return status == BODDURCI_DONE && length == strlen(value) && memcmp(room, value, length) == 0;
+    return status == BODDURCI_DONE && fault.status == BODDURCI_DONE && length == strlen(value) && memcmp(room, value, length) == 0;
 }
 
 /* ---- files */
@@ -332,14 +334,70 @@ static void test_names(void)
     EXPECT(store(shared, "a", "b") == BODDURCI_DONE && has(shared, "a", "b"));
     boddurci_shared *other = opened("missing", BODDURCI_MUST_EXIST);
     EXPECT(has(other, "a", "b"));
-    EXPECT(unlink("missing.pag") == 0);
-    EXPECT(boddurci_shared_delete(other, BYTES("a"), &fault) == BODDURCI_FILE_FAILED && fault.system == ENOENT);
     /* The log has all saves since the database was empty. */
+    EXPECT(unlink("missing.pag") == 0 && boddurci_shared_delete(other, BYTES("c"), &fault) == BODDURCI_MISSING && has(other, "a", "b"));
     EXPECT(store(shared, "b", "c") == BODDURCI_DONE && has(other, "a", "b") && has(other, "b", "c"));
     EXPECT(unlink("missing.pag") == 0 && unlink("missing.dir") == 0 && unlink("missing.redo") == 0);
+    EXPECT(boddurci_shared_delete(other, BYTES("a"), &fault) == BODDURCI_FILE_FAILED && fault.system == ENOENT);
     EXPECT(store(shared, "a", "c") == BODDURCI_DONE && has(other, "a", "c") && has(other, "b", NULL));
+    boddurci_close_files(boddurci_open_files("missing", 0, &fault));
+    EXPECT(!is_marked("missing") && unlink("missing.pag") == 0 && fails("missing", BODDURCI_MUST_EXIST, BODDURCI_FILE_FAILED));
     boddurci_close_shared(other);
     boddurci_close_shared(shared);
+}
+
+/* Gives the note in the log to another boot of the system. docs/DESIGN.md has its bytes. */
+static void change_boot(const char *base)
+{
+    enum { NOTE = 16, BOOT = NOTE + 32, CHECK = NOTE + 112 };
+    uint64_t check = 14695981039346656037u;
+    struct bytes redo = read_file(base, ".redo");
+    EXPECT(redo.length > CHECK + 8 && redo.at[0] == 1 && memcmp(redo.at + NOTE, "sdbmnot2", 8) == 0);
+    redo.at[BOOT] ^= 1;
+    for (int i = NOTE; i < CHECK; i++)
+        check = (check ^ redo.at[i]) * 1099511628211u;
+    for (int i = 0; i < 8; i++)
+        redo.at[CHECK + i] = (uint8_t)(check >> 8 * i);
+    write_file(base, ".redo", redo.at, redo.length);
+    free(redo.at);
+}
+
+/* After a loss of power the data files lack changes, which the log has: the note is not for the boot after it. */
+static void test_boots(void)
+{
+    boddurci_shared *shared = opened("boots", 0);
+    EXPECT(store(shared, "a", "first") == BODDURCI_DONE && store(shared, "b", "first") == BODDURCI_DONE);
+    for (int i = 0; i < 3; i++) {
+        struct bytes pages = read_file("boots", ".pag");
+        EXPECT(store(shared, "a", i % 2 ? "odd" : "even") == BODDURCI_DONE && has(shared, "a", i % 2 ? "odd" : "even"));
+        write_file("boots", ".pag", pages.at, pages.length);
+        free(pages.at);
+        change_boot("boots");
+        if (i == 1)
+            EXPECT(store(shared, "b", "second") == BODDURCI_DONE);
+        if (i == 2)
+            boddurci_close_files(boddurci_open_files("boots", 0, &fault));
+        EXPECT(has(shared, "a", i % 2 ? "odd" : "even") && has(shared, "b", i == 0 ? "first" : "second"));
+    }
+    boddurci_close_shared(shared);
+}
+
+/* After a loss of power .pag may exist in the log alone. */
+static void test_lost_pages(void)
+{
+    for (uint32_t flags = 0; flags <= BODDURCI_WIDE; flags += BODDURCI_WIDE)
+        for (int stores = 0; stores < 2; stores++) {
+            boddurci_shared *shared = opened("pages", flags);
+            EXPECT(store(shared, "a", "b") == BODDURCI_DONE);
+            boddurci_close_shared(shared);
+            change_boot("pages");
+            EXPECT(unlink("pages.pag") == 0 && unlink("pages.dir") == 0 && unlink("pages.lock") == 0);
+            shared = opened("pages", flags | BODDURCI_MUST_EXIST);
+            EXPECT(!stores || store(shared, "b", "c") == BODDURCI_DONE);
+            EXPECT(has(shared, "a", "b") && access("pages.pag", F_OK) == 0);
+            boddurci_close_shared(shared);
+            EXPECT(unlink("pages.pag") == 0 && unlink("pages.dir") == 0 && unlink("pages.redo") == 0);
+        }
 }
 
 /* Small pages are not opened as wide ones. */
@@ -379,6 +437,65 @@ static void test_files(void)
     boddurci_close_shared(shared);
 }
 
+/* Returns the number of a page of zeros in .pag, or 0. The pages are small. */
+static size_t empty_page(const char *base)
+{
+    static const uint8_t zeros[1024];
+    size_t number = 0;
+    struct bytes pages = read_file(base, ".pag");
+    for (size_t i = 1; i < pages.length / sizeof zeros; i++)
+        number = memcmp(pages.at + i * sizeof zeros, zeros, sizeof zeros) == 0 ? i : number;
+    free(pages.at);
+    return number;
+}
+
+/* Writes a page in place. */
+static void write_page(const char *base, size_t number, const uint8_t page[1024])
+{
+    struct bytes pages = read_file(base, ".pag");
+    memcpy(pages.at + number * 1024, page, 1024);
+    write_file(base, ".pag", pages.at, pages.length);
+    free(pages.at);
+}
+
+static uint32_t store_long(boddurci_shared *shared, int number)
+{
+    char key[20], value[201];
+    sprintf(key, "%d", number);
+    memset(value, 'v', 200);
+    value[200] = 0;
+    return store(shared, key, value);
+}
+
+/* A split must not overwrite a page that has bytes, although the directory does not lead to it: it fails as on the whole database. */
+static void test_targets(void)
+{
+    uint8_t pages[3][1024] = {{0}, {255, 255, 1}, {0}};
+    boddurci_shared *shared = opened("targets", 0);
+    int next = 0;
+    while (empty_page("targets") == 0 && next < 200)
+        EXPECT(store_long(shared, next++) == BODDURCI_DONE);
+    size_t number = empty_page("targets");
+    struct bytes is = read_file("targets", ".pag");
+    memcpy(pages[2], is.at, 1024);
+    free(is.at);
+    EXPECT(number != 0);
+    for (int i = 1; i <= 2; i++) {
+        write_page("targets", number, pages[i]);
+        uint32_t status = BODDURCI_DONE;
+        for (int tries = 0; status == BODDURCI_DONE && tries < 200; tries++)
+            status = store_long(shared, next++);
+        EXPECT(status == BODDURCI_BAD_FILES && boddurci_open_files("targets", 0, &fault) == NULL && fault.status == BODDURCI_BAD_FILES);
+        is = read_file("targets", ".pag");
+        EXPECT(memcmp(is.at + number * 1024, pages[i], 1024) == 0);
+        free(is.at);
+        next--;
+        write_page("targets", number, pages[0]);
+    }
+    EXPECT(store_long(shared, next) == BODDURCI_DONE && empty_page("targets") != number);
+    boddurci_close_shared(shared);
+}
+
 /* A folder and files that this user may only read. */
 static void test_readers(void)
 {
@@ -407,6 +524,75 @@ static void test_readers(void)
     boddurci_close_shared(shared);
 }
 
+/* ---- two users of one group, of whom only one owns the files */
+
+enum { OWNER = 7001, MEMBER = 7002, GROUP = 7003 };
+static const char of_group[] = "group/db";
+
+/* Runs a test as a user of the group, in a child. Returns whether it has passed. */
+static int passes_as(uid_t user, void (*test)(void))
+{
+    int status;
+    fflush(NULL);
+    pid_t child = fork();
+    if (child == 0) {
+        umask(0007);
+        EXPECT(setgroups(0, NULL) == 0 && setresgid(GROUP, GROUP, GROUP) == 0 && setresuid(user, user, user) == 0);
+        test();
+        exit(0);
+    }
+    return waitpid(child, &status, 0) == child && status == 0;
+}
+
+static void store_as_owner(void)
+{
+    boddurci_shared *shared = opened(of_group, 0);
+    EXPECT(store(shared, "a", "owner") == BODDURCI_DONE && has(shared, "a", "owner"));
+    boddurci_close_shared(shared);
+    boddurci_close_files(boddurci_open_files(of_group, 0, &fault));
+    EXPECT(fault.status == BODDURCI_DONE && !is_marked(of_group));
+}
+
+static void store_as_member(void)
+{
+    boddurci_shared *shared = opened(of_group, 0);
+    EXPECT(store(shared, "a", "member") == BODDURCI_DONE && has(shared, "a", "member"));
+    EXPECT(store(shared, "b", "member") == BODDURCI_DONE && has(shared, "b", "member"));
+    boddurci_close_shared(shared);
+}
+
+static void find_as_owner(void)
+{
+    boddurci_shared *shared = opened(of_group, 0);
+    EXPECT(has(shared, "a", "member") && has(shared, "b", "member"));
+    boddurci_close_shared(shared);
+}
+
+static void delete_as_member(void)
+{
+    boddurci_shared *shared = opened(of_group, 0);
+    EXPECT(boddurci_shared_delete(shared, BYTES("c"), &fault) == BODDURCI_MISSING);
+    boddurci_close_shared(shared);
+}
+
+/* A member of the group makes the redo file, and cannot give it to the owner of .pag: it must not stay. */
+static void test_group(void)
+{
+    struct stat found;
+    if (geteuid() != 0)
+        return;
+    EXPECT(mkdir("group", 0700) == 0 && chown("group", OWNER, GROUP) == 0 && chmod("group", 0770) == 0);
+    EXPECT(passes_as(OWNER, store_as_owner));
+    EXPECT(stat("group/db.pag", &found) == 0 && found.st_uid == OWNER && found.st_gid == GROUP && (found.st_mode & 0777) == 0660);
+    EXPECT(unlink("group/db.redo") == 0 && passes_as(MEMBER, store_as_member) && passes_as(OWNER, find_as_owner));
+    EXPECT(access("group/db.redo", F_OK) != 0 && passes_as(OWNER, store_as_owner) && passes_as(MEMBER, store_as_member));
+    /* The member may use the file of the owner. */
+    EXPECT(stat("group/db.redo", &found) == 0 && found.st_uid == OWNER && passes_as(OWNER, find_as_owner));
+    /* A killed call of the member has left the file. The next one removes it, also if it changes nothing. */
+    EXPECT(is_marked(of_group) && chown("group/db.redo", MEMBER, GROUP) == 0 && passes_as(MEMBER, delete_as_member));
+    EXPECT(access("group/db.redo", F_OK) != 0 && passes_as(OWNER, find_as_owner));
+}
+
 /* A limit on the length of files is a fault, and no signal. */
 static void test_limit(void)
 {
@@ -428,6 +614,11 @@ static int taken(const char *name, int how)
     int file = open(name, O_RDWR);
     EXPECT(file >= 0 && flock(file, how) == 0);
     return file;
+}
+
+static void rest(void)
+{
+    nanosleep(&(struct timespec){0, 20000000}, NULL);
 }
 
 static double seconds(void)
@@ -494,6 +685,75 @@ static void test_services(void)
     boddurci_close_shared(shared);
 }
 
+/* Saves a pair in a service that is killed: the log has no note. */
+static void store_and_die(const char *base, const char *value)
+{
+    int status;
+    pid_t child = fork();
+    if (child == 0) {
+        boddurci_base *service = boddurci_open_files(base, 0, &fault);
+        (void)!boddurci_store(boddurci_take(service), BYTES("a"), (const uint8_t *)value, strlen(value), 1);
+        boddurci_give(service);
+        if (boddurci_save(service, &fault) == BODDURCI_DONE)
+            kill(getpid(), SIGKILL);
+        _exit(1);
+    }
+    EXPECT(waitpid(child, &status, 0) == child && WIFSIGNALED(status) && is_marked(base));
+}
+
+/* A log that must be recovered, while a service that waits for the files has BASE.writer shared: a fetch does not need that lock. */
+static void test_waiting(void)
+{
+    boddurci_shared *shared = opened("waited", 0), *once = opened("waited", BODDURCI_NO_WAIT);
+    EXPECT(store(shared, "a", "1") == BODDURCI_DONE);
+    store_and_die("waited", "2");
+    int writer = taken("waited.writer", LOCK_SH);
+    double start = seconds();
+    EXPECT(has(shared, "a", "2") && seconds() - start < 3 && has(once, "a", "2") && is_marked("waited"));
+    close(writer);
+    EXPECT(has(once, "a", "2") && !is_marked("waited"));
+    boddurci_close_shared(once);
+    boddurci_close_shared(shared);
+}
+
+static void do_nothing(int signal)
+{
+    (void)signal;
+}
+
+/* A service that waits for the files for some time, while other processes take BASE.lock again and again. */
+static void wait_as_service(void)
+{
+    int writer = taken("signals.writer", LOCK_SH), lock = taken("signals.lock", LOCK_SH);
+    for (int i = 0; i < 10; i++) {
+        (void)!flock(lock, LOCK_EX);
+        rest();
+        flock(lock, LOCK_UN);
+        rest();
+    }
+    close(writer);
+    _exit(0);
+}
+
+/* Signals during such a fetch. */
+static void test_signals(void)
+{
+    static const struct itimerval often = {{0, 2000}, {0, 2000}}, never = {{0, 0}, {0, 0}};
+    boddurci_shared *shared = opened("signals", 0);
+    EXPECT(store(shared, "a", "1") == BODDURCI_DONE);
+    EXPECT(sigaction(SIGALRM, &(struct sigaction){.sa_handler = do_nothing}, NULL) == 0);
+    for (int i = 0, status; i < 3; i++) {
+        store_and_die("signals", i % 2 ? "odd" : "even");
+        pid_t child = fork();
+        if (child == 0)
+            wait_as_service();
+        rest();
+        EXPECT(setitimer(ITIMER_REAL, &often, NULL) == 0 && has(shared, "a", i % 2 ? "odd" : "even"));
+        EXPECT(setitimer(ITIMER_REAL, &never, NULL) == 0 && waitpid(child, &status, 0) == child && status == 0);
+    }
+    boddurci_close_shared(shared);
+}
+
 /* ---- programs that do not know the log */
 
 static void store_raw(const char *base, const char *key, const char *value)
@@ -502,11 +762,6 @@ static void store_raw(const char *base, const char *key, const char *value)
     open_raw(&db, base, 0);
     EXPECT(boddurci_store(&db, (const uint8_t *)key, strlen(key), (const uint8_t *)value, strlen(value), 1) == BODDURCI_DONE);
     write_raw(&db, base);
-}
-
-static void rest(void)
-{
-    nanosleep(&(struct timespec){0, 20000000}, NULL);
 }
 
 static void test_others(void)
@@ -621,6 +876,45 @@ static void test_orphans(void)
     close(ends[1]);
 }
 
+static void *store_always(void *shared)
+{
+    boddurci_fault own;
+    for (;;)
+        (void)!boddurci_shared_store(shared, BYTES("a"), BYTES("d"), 1, &own);
+    return NULL;
+}
+
+/* The same, with a fork in the middle of a call of another thread. */
+static void test_orphans_of_threads(void)
+{
+    boddurci_shared *shared = opened("orphans", 0);
+    int ends[2], status;
+    pthread_t thread;
+    EXPECT(pipe(ends) == 0);
+    for (int i = 0; i < 8; i++) {
+        pid_t parent = fork();
+        if (parent == 0) {
+            if (pthread_create(&thread, NULL, store_always, shared) != 0)
+                _exit(1);
+            rest();
+            if (fork() == 0) {
+                char none;
+                close(ends[1]);
+                (void)!read(ends[0], &none, 1);
+                _exit(0);
+            }
+            for (;;)
+                pause();
+        }
+        nanosleep(&(struct timespec){0, 50000000}, NULL);
+        kill(parent, SIGKILL);
+        EXPECT(waitpid(parent, &status, 0) == parent && WIFSIGNALED(status) && store(shared, "a", "e") == BODDURCI_DONE);
+    }
+    boddurci_close_shared(shared);
+    close(ends[0]);
+    close(ends[1]);
+}
+
 static boddurci_shared *waiting;
 
 static void *wait_in_call(void *unused)
@@ -712,17 +1006,24 @@ static int calls(const char *folder)
     test_model("unsigned", BODDURCI_UNSIGNED_KEYS | BODDURCI_NO_WAIT, 40, 1000);
     test_programs();
     test_names();
+    test_boots();
+    test_lost_pages();
     test_sizes();
     test_files();
+    test_targets();
     test_readers();
+    test_group();
     test_limit();
     test_locks();
     test_services();
+    test_waiting();
+    test_signals();
     test_others();
     test_replaced();
     test_long();
     test_forks();
     test_orphans();
+    test_orphans_of_threads();
     test_lost();
     test_threads();
     test_folders();

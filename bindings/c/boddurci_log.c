@@ -521,6 +521,35 @@ uint32_t boddurci_logged_mark(struct boddurci_logged *logged, boddurci_fault *fa
 
 /* ---- closing */
 
+/* Clears the mark, and by the same write the note of a shared base. A process may be killed at any call. If the note went first, the marked
+ * log would be recovered, although another program may have written the data files since. If the mark went first, the note could come to
+ * apply to later records, which may end at the same place. */
+static int clear_mark(struct boddurci_disk *disk)
+{
+    uint8_t header[BODDURCI_HEADER_USED];
+    size_t length;
+    disk->last = BODDURCI_REDO;
+    if (boddurci_unmarked_header(disk->files[BODDURCI_REDO], header, &length) != 0)
+        return -1;
+    return boddurci_disk_write(disk, BODDURCI_REDO, 0, header, length);
+}
+
+/* Makes a step that closes the log: the syncs of both data files, the write that clears the mark, and the sync of the redo file. clear_mark
+ * writes the same byte as that step, and zeros over the note. If a sync fails the note is cleared: the data files may lack what was written,
+ * so the next call is to recover them. */
+static int close_by(struct boddurci_disk *disk, const boddurci_step *step)
+{
+    if (step->file >= 2 && step->kind != BODDURCI_SYNC)
+        return clear_mark(disk);
+    if (boddurci_do_steps(disk, step, 1, (const uint8_t *)step) == 0)
+        return 0;
+    int system = errno, last = (int)disk->last;
+    (void)!clear_note(disk);
+    disk->last = (enum boddurci_file)last;
+    errno = system;
+    return -1;
+}
+
 /* Makes the steps that close the log. */
 static int close_log(struct boddurci_logged *logged)
 {
@@ -530,9 +559,10 @@ static int close_log(struct boddurci_logged *logged)
         errno = ENOMEM;
         return -1;
     }
-    if (clear_note(&logged->disk) != 0)
-        return -1;
-    return boddurci_do_steps(&logged->disk, steps, words / WORDS, (const uint8_t *)steps);
+    for (size_t i = 0; i < words / WORDS; i++)
+        if (close_by(&logged->disk, &steps[i]) != 0)
+            return -1;
+    return 0;
 }
 
 uint32_t boddurci_logged_renew(struct boddurci_logged *logged, boddurci_fault *fault)

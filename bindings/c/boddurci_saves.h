@@ -511,6 +511,10 @@ int boddurci_put_note(int redo, const struct boddurci_boot *boot, const boddurci
 int boddurci_clear_note(int redo);
 void boddurci_clear_note_in(struct boddurci_bytes *redo);
 
+/* Reads the first bytes of the header of an open redo file, and sets those that clear the mark, and the note if it has one. */
+enum { BODDURCI_HEADER_USED = 136 };
+int boddurci_unmarked_header(int redo, uint8_t header[BODDURCI_HEADER_USED], size_t *length);
+
 /* ---- crates/boddurci_c: the database of one page, which is proved */
 
 /* Returns the number of the page to which a key leads by the bytes of .dir, which may be any bytes. */

@@ -53,16 +53,29 @@ static void give_all(void)
     pthread_mutex_unlock(&all_mutex);
 }
 
-/* Closes the locks in a child: the next call opens them again. If another thread was in a call, the base is lost for the child. */
+/* Closes the lock files of a base if another thread of the parent was in the middle of a call. That thread may just have closed one of them,
+ * and another file may have got its descriptor. So a descriptor is closed only if it is the file under the name of the lock. */
+static void leave_locks_of_call(struct boddurci_place *place)
+{
+    for (enum boddurci_file lock = BODDURCI_LOCK; lock <= BODDURCI_WRITER; lock++)
+        if (place->opened[lock] < 0 || !boddurci_is_named(place, lock, place->opened[lock]))
+            place->opened[lock] = -1;
+    boddurci_drop_locks(place);
+}
+
+/* Closes the locks in a child: the next call opens them again. If another thread was in a call, the base is lost for the child. If that call
+ * was on the whole database, the child keeps the locks of the inner base of call_whole, which is not in this list. */
 static void leave_locks(void)
 {
     for (boddurci_shared *shared = all; shared != NULL; shared = shared->next) {
         int is_idle = pthread_mutex_trylock(&shared->mutex) == 0;
         __atomic_store_n(&shared->process, is_idle && shared->process != 0 ? boddurci_note_process() : 0, __ATOMIC_RELAXED);
-        if (!is_idle)
-            continue;
-        boddurci_drop_locks(&shared->place);
-        pthread_mutex_unlock(&shared->mutex);
+        if (is_idle)
+            boddurci_drop_locks(&shared->place);
+        else
+            leave_locks_of_call(&shared->place);
+        if (is_idle)
+            pthread_mutex_unlock(&shared->mutex);
     }
     pthread_mutex_unlock(&all_mutex);
 }
@@ -147,15 +160,37 @@ static uint32_t look_at_size(const boddurci_shared *shared, const char *name, bo
     return base != NULL ? BODDURCI_DONE : fault->status;
 }
 
-static uint32_t open_place(boddurci_shared *shared, const char *name, boddurci_fault *fault)
+/* Whether the redo file has its mark. */
+static int has_marked(const boddurci_shared *shared)
 {
-    int pages = -1;
-    uint32_t status = boddurci_find(&shared->place, name, fault);
-    if (status == BODDURCI_DONE && (shared->flags & BODDURCI_MUST_EXIST))
-        status = boddurci_open_to_read(&shared->place, BODDURCI_PAGES, 1, &pages, fault);
+    int redo;
+    boddurci_fault unsaid;
+    struct boddurci_log_note note;
+    if (boddurci_open_beside(&shared->place, BODDURCI_REDO, O_RDONLY, &redo, &unsaid) != BODDURCI_DONE || redo < 0)
+        return 0;
+    int is_marked = boddurci_find_note(redo, &shared->boot, &note) != BODDURCI_UNMARKED;
+    close(redo);
+    return is_marked;
+}
+
+/* Checks that the database exists. After a crash of the machine .pag may exist only in a marked log, from which the first call makes it. */
+static uint32_t look_for_pages(boddurci_shared *shared, boddurci_fault *fault)
+{
+    int pages;
+    uint32_t status = boddurci_open_to_read(&shared->place, BODDURCI_PAGES, 1, &pages, fault);
     if (pages >= 0)
         close(pages);
     boddurci_see_none(&shared->place);
+    if (status == BODDURCI_FILE_FAILED && fault->system == ENOENT && has_marked(shared))
+        return boddurci_no_fault(fault);
+    return status;
+}
+
+static uint32_t open_place(boddurci_shared *shared, const char *name, boddurci_fault *fault)
+{
+    uint32_t status = boddurci_find(&shared->place, name, fault);
+    if (status == BODDURCI_DONE && (shared->flags & BODDURCI_MUST_EXIST))
+        status = look_for_pages(shared, fault);
     if (status == BODDURCI_DONE)
         status = look_at_size(shared, name, fault);
     if (status == BODDURCI_DONE)
@@ -324,11 +359,14 @@ static uint32_t change(boddurci_shared *shared, struct boddurci_command *command
     return status == BODDURCI_DONE && is_whole ? call_whole(shared, command, end, fault) : status;
 }
 
-/* Recovers the log, and fetches. If this user may not recover it, fetches from the whole database, with the log applied in memory. */
+/* Recovers the log, and fetches. If this user may not recover it, or another process has BASE.writer, fetches from the whole database, with
+ * the log applied in memory, for which BASE.lock is enough. */
 static uint32_t fetch_recovered(boddurci_shared *shared, struct boddurci_command *command, int64_t end, boddurci_fault *fault)
 {
-    uint32_t status = change(shared, command, end, fault);
-    if (status != BODDURCI_FILE_FAILED && status != BODDURCI_UNSAFE)
+    uint32_t status = BODDURCI_LOCKED;
+    if (boddurci_holder_of(&shared->place, BODDURCI_WRITER) == 0)
+        status = change(shared, command, end, fault);
+    if (status != BODDURCI_FILE_FAILED && status != BODDURCI_UNSAFE && status != BODDURCI_LOCKED)
         return status;
     boddurci_no_fault(fault);
     return call_whole(shared, command, end, fault);
@@ -342,11 +380,22 @@ struct fetching {
     int must_recover, is_whole;
 };
 
-/* Fetches under BASE.lock, if that exists. If a save waits for it and `yields` is not 0, that save goes first. */
+/* Takes BASE.lock for a fetch, if that exists. If a save waits for it, that save goes first; but only until a signal comes, since a wait that
+ * begins again after each signal might never end. */
+static uint32_t take_after_saves(struct boddurci_place *place, int64_t end, boddurci_fault *fault)
+{
+    uint32_t status = boddurci_take_shared(place, left_of(end), fault);
+    if (status != BODDURCI_INTERRUPTED)
+        return status;
+    boddurci_no_fault(fault);
+    return boddurci_take_call(place, 1, left_of(end), fault);
+}
+
+/* Fetches under BASE.lock, if that exists; if `yields` is not 0, after a save that waits for it. */
 static uint32_t fetch_once(struct fetching *it, int yields, boddurci_fault *fault)
 {
     struct boddurci_place *place = &it->shared->place;
-    uint32_t status = yields ? boddurci_take_shared(place, left_of(it->end), fault) : boddurci_take_call(place, 1, left_of(it->end), fault);
+    uint32_t status = yields ? take_after_saves(place, it->end, fault) : boddurci_take_call(place, 1, left_of(it->end), fault);
     if (status != BODDURCI_DONE)
         return status;
     status = boddurci_fetch_page(it->shared, it->command, &it->must_recover, &it->is_whole, fault);

@@ -10,6 +10,7 @@
 
 /* The header of a redo file that has a log, as words of 8 bytes, the lowest first. The note is 15 words after the first two. */
 enum { HEADER = 4096, WORD = 8, NOTE_AT = 16, NOTE_WORDS = 15, NOTE_LENGTH = NOTE_WORDS * WORD };
+_Static_assert(BODDURCI_HEADER_USED == NOTE_AT + NOTE_LENGTH, "the mark, the signature and the note");
 enum { SIGNATURE, END, ROOM, COUNT, BOOT, STATES = BOOT + 2, CHECK = STATES + 8 };
 static const uint8_t LOG_SIGNATURE[8] = "sdbmlog1", NOTE_SIGNATURE[8] = "sdbmnot2";
 
@@ -197,6 +198,16 @@ int boddurci_clear_note(int redo)
     if (read_at(redo, 0, header, sizeof header) != 0)
         return -1;
     return is_noted(header) ? write_note(redo, none) : 0;
+}
+
+int boddurci_unmarked_header(int redo, uint8_t header[BODDURCI_HEADER_USED], size_t *length)
+{
+    if (read_at(redo, 0, header, BODDURCI_HEADER_USED) != 0)
+        return -1;
+    *length = is_noted(header) ? BODDURCI_HEADER_USED : 1;
+    header[0] = 0;
+    memset(header + NOTE_AT, 0, NOTE_LENGTH);
+    return 0;
 }
 
 void boddurci_clear_note_in(struct boddurci_bytes *redo)

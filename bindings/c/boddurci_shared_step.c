@@ -93,8 +93,14 @@ static uint32_t find_files(boddurci_shared *shared, int has_times, boddurci_faul
             break;
         status = tries < TRIES ? open_data(shared, fault) : boddurci_fail(fault, BODDURCI_MOVED, 0, "BASE.pag or BASE.dir comes and goes");
     }
-    if (status != BODDURCI_DONE || shared->notes.files[BODDURCI_PAGES].is_there || !(shared->flags & BODDURCI_MUST_EXIST))
-        return status;
+    return status;
+}
+
+/* Checks that .pag exists, if it must. Call it once the log is settled: after a crash of the machine .pag may exist in the log alone. */
+static uint32_t has_to_exist(const boddurci_shared *shared, boddurci_fault *fault)
+{
+    if (shared->notes.files[BODDURCI_PAGES].is_there || !(shared->flags & BODDURCI_MUST_EXIST))
+        return BODDURCI_DONE;
     errno = ENOENT;
     return boddurci_fail_by_system(fault, "a file cannot be opened");
 }
@@ -161,6 +167,20 @@ static uint32_t settle_log(boddurci_shared *shared, boddurci_fault *fault)
     logged->is_open = 1;
     logged->redo.is_known = 0;
     return change == BODDURCI_SAME ? BODDURCI_DONE : boddurci_logged_renew(logged, fault);
+}
+
+/* Closes the log and removes the redo file, if the log is open and the file does not have the owner, the group and the permissions of .pag:
+ * other users would not accept it. A user who may write .pag and does not own it cannot give the file to its owner. */
+static void remove_unlike(boddurci_shared *shared)
+{
+    boddurci_fault unsaid;
+    struct boddurci_disk *disk = &shared->logged.disk;
+    int redo = disk->files[BODDURCI_REDO];
+    if (!shared->logged.is_open || boddurci_is_like_pages(&shared->place, redo))
+        return;
+    int is_named = boddurci_is_named(&shared->place, BODDURCI_REDO, redo);
+    if (boddurci_logged_renew(&shared->logged, &unsaid) == BODDURCI_DONE && is_named)
+        (void)!(boddurci_disk_remove_redo(disk) == 0 && boddurci_disk_sync(disk, BODDURCI_REDO) == 0);
 }
 
 /* Leaves a note for the next call. If another program has written during this one, the log is closed instead: its records may not belong to
@@ -389,12 +409,15 @@ uint32_t boddurci_change_page(boddurci_shared *shared, struct boddurci_command *
     if (status == BODDURCI_DONE)
         status = settle_log(shared, fault);
     if (status == BODDURCI_DONE)
+        status = has_to_exist(shared, fault);
+    if (status == BODDURCI_DONE)
         status = open_page(shared, command, &part, is_whole, fault);
     if (status == BODDURCI_DONE && !*is_whole) {
         status = answer(shared, command, fault);
         if (boddurci_may_change(command, status))
             status = save_page(shared, &part, is_whole, fault);
     }
+    remove_unlike(shared);
     boddurci_give_signal(&shared->logged.disk);
     return status;
 }
@@ -413,6 +436,8 @@ uint32_t boddurci_fetch_page(boddurci_shared *shared, struct boddurci_command *c
         *must_recover = !boddurci_has_writer(&shared->place);
     if (status != BODDURCI_DONE || *must_recover)
         return status;
-    status = open_page(shared, command, &part, is_whole, fault);
+    status = has_to_exist(shared, fault);
+    if (status == BODDURCI_DONE)
+        status = open_page(shared, command, &part, is_whole, fault);
     return status == BODDURCI_DONE && !*is_whole ? answer(shared, command, fault) : status;
 }

@@ -43,6 +43,7 @@ pub struct Shell<'a, R: Runtime<File = File>> {
     is_prompted: bool,
     // The number of lines that requested changes since the last save.
     changes: u64,
+    has_saved: bool,
     // The time of the last save. If the system does not report it, a save is due.
     saved_at: Option<Duration>,
     log: HostLog,
@@ -67,6 +68,7 @@ impl<'a, R: Runtime<File = File> + Clock + AllocGlobal> Shell<'a, R> {
             options,
             is_prompted: is_terminal(rt, 0) && is_terminal(rt, 2),
             changes: 0,
+            has_saved: false,
             saved_at: rt.monotonic().ok(),
             log: HostLog::none(),
         }
@@ -107,10 +109,10 @@ impl<'a, R: Runtime<File = File> + Clock + AllocGlobal> Shell<'a, R> {
         Ok(self.log.with_save(image))
     }
 
-    /// Ends the saves of the session: both data files are whole then. If a file cannot be written, it reports that the next run that writes
-    /// finishes the save.
+    /// Ends the saves of the session: both data files are whole then. If a file cannot be written, and the session has saved, it reports that
+    /// the next run that writes finishes the save.
     pub fn end_saves(&mut self) {
-        if close_session(self.rt, self.held, &mut self.saves).is_err() {
+        if close_session(self.rt, self.held, &mut self.saves).is_err() && self.has_saved {
             note_waiting_save(self.rt, self.place.base);
         }
     }
@@ -222,6 +224,7 @@ impl<R: Runtime<File = File> + Clock + AllocGlobal> Host for Shell<'_, R> {
             self.seen = self.seen.with_made(&self.made);
         }
         self.changes = 0;
+        self.has_saved = true;
         self.saved_at = self.rt.monotonic().ok();
         Ok(())
     }

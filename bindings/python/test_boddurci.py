@@ -662,6 +662,7 @@ class Saves(InFolder):
             os.link(self.base + ".pag", self.base + ".link")
             db[b"b"] = b"2"
             db.sync()
+            time.sleep(0.02)  # a save does not see a time of the same tick
             os.utime(self.base + ".pag")
             db.sync()
             db[b"c"] = b"3"

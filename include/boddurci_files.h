@@ -203,7 +203,7 @@ void boddurci_close_files(boddurci_base *base);
  * it. It continues to wait after a signal. While a process has the base open by boddurci_open_files, or by a session of dbm, each change is
  * LOCKED, and a fetch reads the last save of that process.
  *
- * A call reads .dir whole and a few pages of .pag, whatever the length of .pag. It also checks .dir, which takes some 14 microseconds
+ * A call reads .dir whole and a few pages of .pag, also if .pag is long. It also checks .dir, which takes some 14 microseconds
  * for each KiB: with 900,000 pairs .dir has 60 KiB. A change appends its record to the log in BASE.redo and syncs it under the locks, so it
  * costs one sync. The log stays open between the calls of all processes, with its mark; a note in its header tells the next call where it
  * ends. These calls take longer, and as much memory as opening the base:

@@ -227,8 +227,8 @@ static void close_lock(struct boddurci_place *place, enum boddurci_file lock)
     place->opened[lock] = -1;
 }
 
-/* Opens the file of a lock, for writing if this user may, again if another file has its name by now. A writer makes it if it is missing. OPEN_HERE if this thread has the
- * lock. */
+/* Opens the file of a lock, for writing if this user may, and again if another file has its name by now. A writer makes a missing one.
+ * OPEN_HERE if this thread has the lock. */
 static uint32_t open_lock(struct boddurci_place *place, enum boddurci_file lock, int reads, boddurci_fault *fault)
 {
     uint32_t status = BODDURCI_DONE;
@@ -544,7 +544,7 @@ uint32_t boddurci_find(struct boddurci_place *place, const char *name, boddurci_
 /* A call that waits for BASE.lock to change something says so by a lock of another kind, on the first byte of that file; one that has waited
  * for long, and a fetch that waits, on the second byte. The system prefers readers, and a process that calls again, to one that waits. So
  * new fetches let the first go, and new changes the second. These locks end with the process. On a local file system they are independent of
- * flock; on others nobody announces himself, since flock may lock the same bytes. */
+ * flock. On other file systems no call announces itself, since flock may lock the same bytes. */
 enum { WAITS, STARVES, BYTES };
 
 #ifdef F_OFD_SETLK
@@ -617,8 +617,8 @@ static enum outcome try_call(struct boddurci_place *place, int is_first, int *is
     return errno == EINTR ? TRY_AGAIN : HAS_FAILED;
 }
 
-/* Announces a call that waits for BASE.lock. One of the calls that wait looks for its end again and again for a while, which takes less time
- * than to wake it. One that has waited for long is let go first by new calls, and rests shortly. */
+/* Announces a call that waits for BASE.lock. One waiting call spins for a while, which takes less time than to wake it. New calls wait for a
+ * call that has waited for long, and that call rests shortly. */
 static enum outcome queue(struct boddurci_place *place, int *tries, int *spins, boddurci_fault *fault)
 {
     enum { SPINS = 3, LONG = 20 };

@@ -456,7 +456,7 @@ struct boddurci_group {
     int waiting;                 /* the number of calls in the list; atomic */
     int served;                  /* the number of calls of the last save */
     int others;                  /* the number of calls that waited when the last save ended, and that it served */
-    int skips;                   /* the number of saves that are not to wait for others, after a wait in vain */
+    int skips;                   /* the number of saves that do not wait, after a wait in vain */
     int64_t took;                /* how long the last save took, in nanoseconds; atomic */
 };
 
@@ -517,19 +517,19 @@ int boddurci_unmarked_header(int redo, uint8_t header[BODDURCI_HEADER_USED], siz
 
 /* ---- crates/boddurci_c: the database of one page, which is proved */
 
-/* Returns the number of the page to which a key leads by the bytes of .dir, which may be any bytes. */
+/* Returns the number of the page to which a key leads by the bytes of .dir. They may be invalid: boddurci_open_page checks them. */
 uint32_t boddurci_page_of(const uint8_t *key, size_t key_length, const uint8_t *dir, size_t dir_length, uint32_t unsigned_keys);
 
 /* Replaces the database of an open handle by that of one page. Its programs and its limit stay. Then any one fetch, store, delete or run on
  * that key has the reply that it has on the whole database. `page` is a whole page, and `pag_length` a multiple of its size. BAD_FILES if
- * this page is not enough: the directory or the page is invalid or not as a save leaves it, or the key leads elsewhere. IS_CLOSED,
- * NO_MEMORY. After a refusal the handle is unchanged. */
+ * this page is not enough: the directory or the page is invalid or not as a save leaves it, or the key leads elsewhere; also if memory ran
+ * out. IS_CLOSED. After a refusal the handle is unchanged. */
 uint32_t boddurci_open_page(boddurci *db, const uint8_t *key, size_t key_length, const uint8_t *dir, size_t dir_length, size_t pag_length,
                             uint32_t number, const uint8_t *page, size_t page_length);
 
 /* Returns the plan that saves the database of the page after the command, and the numbers of the pages that it may write. All of these
  * except `number` must be zeros in the file, or past its end. The plan is empty if nothing changes. SHORT_ROOM; STALE if this page is not
- * enough: the last page of .pag would become empty, or .pag too long. IS_CLOSED, NO_MEMORY. */
+ * enough: the last page of .pag would become empty, or .pag too long; also if memory ran out. IS_CLOSED. */
 uint32_t boddurci_plan_page(boddurci *db, const uint8_t *dir, size_t dir_length, size_t pag_length, uint32_t number, const uint8_t *page,
                             size_t page_length, uint32_t *numbers, size_t numbers_room, size_t *numbers_count, uint8_t *plan,
                             size_t plan_room, size_t *plan_length);

@@ -242,3 +242,18 @@ int boddurci_move_pages(struct boddurci_bytes *bytes, uint32_t is_wide, boddurci
     boddurci_let_go(bytes);
     return 0;
 }
+
+int boddurci_read_at(int opened, uint64_t at, uint8_t *room, size_t size)
+{
+    for (size_t done = 0; done < size;) {
+        ssize_t got = pread(opened, room + done, size - done, (off_t)(at + done));
+        if (got < 0 && errno != EINTR)
+            return -1;
+        if (got == 0) {
+            memset(room + done, 0, size - done);
+            return 0;
+        }
+        done += got < 0 ? 0 : (size_t)got;
+    }
+    return 0;
+}

@@ -429,20 +429,6 @@ static uint32_t list_all(boddurci *db, struct reading *reading)
     return status;
 }
 
-/* Reads bytes of a file into a room of zeros; bytes past its end stay zeros. */
-static int read_at(int file, uint64_t at, uint8_t *room, size_t size)
-{
-    for (size_t done = 0; done < size;) {
-        ssize_t got = pread(file, room + done, size - done, (off_t)(at + done));
-        if (got == 0)
-            return 0;
-        if (got < 0 && errno != EINTR)
-            return -1;
-        done += got < 0 ? 0 : (size_t)got;
-    }
-    return 0;
-}
-
 /* The bytes of a page that was read before, or NULL. */
 static const uint8_t *page_in(const struct reading *before, uint32_t number)
 {
@@ -474,7 +460,7 @@ static uint32_t read_pages(int file, struct reading *reading, const struct readi
             memcpy(reading->pages + i * reading->size, had, reading->size);
             continue;
         }
-        if (read_at(file, (uint64_t)reading->listed.at[i] * reading->size, reading->pages + i * reading->size, count * reading->size) != 0)
+        if (boddurci_read_at(file, (uint64_t)reading->listed.at[i] * reading->size, reading->pages + i * reading->size, count * reading->size) != 0)
             return boddurci_fail_by_system(fault, "a file cannot be read");
     }
     return BODDURCI_DONE;
@@ -492,7 +478,7 @@ static uint32_t read_directory(int file, struct reading *reading, boddurci_fault
     if (directory->at == NULL)
         return boddurci_no_memory(fault);
     directory->length = length;
-    return read_at(file, 0, directory->at, length) == 0 ? BODDURCI_DONE : boddurci_fail_by_system(fault, "a file cannot be read");
+    return boddurci_read_at(file, 0, directory->at, length) == 0 ? BODDURCI_DONE : boddurci_fail_by_system(fault, "a file cannot be read");
 }
 
 /* Reads the directory, or the listed pages. The files of a base that was saved are open. A missing file has no bytes. */
@@ -675,11 +661,6 @@ static uint32_t must_be_ours(boddurci_base *base, struct saving *saving, boddurc
     return base->change[0] != 0 && !saving->insists ? is_changed(base, fault) : BODDURCI_DONE;
 }
 
-static uint32_t number_at(const uint8_t *at)
-{
-    return (uint32_t)at[0] | (uint32_t)at[1] << 8 | (uint32_t)at[2] << 16 | (uint32_t)at[3] << 24;
-}
-
 /* Searches a plan for a page that the base has not changed. If the base has changed none, any difference counts. boddurci.h has the form of
  * a plan. */
 static void compare(boddurci_base *base, const struct saving *saving)
@@ -691,8 +672,8 @@ static void compare(boddurci_base *base, const struct saving *saving)
     if (base->doubt == BODDURCI_WRITTEN && own->count != 0)
         note_change(base, saving);
     const uint8_t *at = saving->plan.at + BODDURCI_PLAN_AT + HEADER, *end = saving->plan.at + saving->plan.length;
-    for (; end - at > CHANGE && base->change[0] == 0; at += CHANGE + 2 * (size_t)number_at(at + 5)) {
-        uint32_t page = number_at(at + 1) / (uint32_t)saving->reading.size;
+    for (; end - at > CHANGE && base->change[0] == 0; at += CHANGE + 2 * (size_t)boddurci_number_at(at + 5)) {
+        uint32_t page = (uint32_t)(boddurci_number_at(at + 1) / saving->reading.size);
         if (at[0] != 0 && own->count == 0)
             snprintf(base->change, sizeof base->change, "BASE.dir has other bytes");
         else if (at[0] == 0 && (own->count == 0 || bsearch(&page, own->at, own->count, sizeof page, by_number) == NULL))

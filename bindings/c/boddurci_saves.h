@@ -38,6 +38,9 @@ uint32_t boddurci_fail_by_system(boddurci_fault *fault, const char *what);
 
 /* ---- boddurci_bytes.c: the bytes of a file in memory */
 
+/* Reads bytes of an open file from an offset on. Bytes past its end are zeros. */
+int boddurci_read_at(int opened, uint64_t at, uint8_t *room, size_t size);
+
 void boddurci_let_go(struct boddurci_bytes *bytes);
 
 /* Changes the length of mapped bytes; new bytes are zeros. */
@@ -312,6 +315,9 @@ int boddurci_do_in_memory(struct boddurci_bytes files[2], const struct boddurci_
 /* Whether the data files are within their limits after the steps; whether this process may write files of that length (RLIMIT_FSIZE). */
 int boddurci_is_within_limits(const struct boddurci_steps *steps);
 int boddurci_may_write(struct boddurci_disk *disk, const struct boddurci_steps *steps);
+
+/* A number of a plan: four bytes, the lowest first. */
+uint64_t boddurci_number_at(const uint8_t *at);
 
 /* Sets the lengths of both data files before or after a plan, which is in `bytes` after BODDURCI_PLAN_AT bytes. */
 void boddurci_lengths_of(const uint8_t *bytes, int is_after, uint64_t lengths[2]);

@@ -16,17 +16,6 @@ static const uint8_t LOG_SIGNATURE[8] = "sdbmlog1", NOTE_SIGNATURE[8] = "sdbmnot
 
 /* ---- bytes */
 
-static int read_at(int file, uint64_t at, uint8_t *room, size_t size)
-{
-    ssize_t got;
-    do
-        got = pread(file, room, size, (off_t)at);
-    while (got < 0 && errno == EINTR);
-    if (got >= 0)
-        memset(room + got, 0, size - (size_t)got);
-    return got < 0 ? -1 : 0;
-}
-
 static int write_note(int redo, const uint8_t bytes[NOTE_LENGTH])
 {
     ssize_t put;
@@ -119,7 +108,7 @@ enum boddurci_applied boddurci_find_note(int redo, const struct boddurci_boot *b
 {
     uint8_t header[NOTE_AT + NOTE_LENGTH], next[WORD], *bytes = header + NOTE_AT;
     struct stat found;
-    if (read_at(redo, 0, header, sizeof header) != 0)
+    if (boddurci_read_at(redo, 0, header, sizeof header) != 0)
         return BODDURCI_UNKNOWN;
     if (header[0] != 1)
         return BODDURCI_UNMARKED;
@@ -132,7 +121,7 @@ enum boddurci_applied boddurci_find_note(int redo, const struct boddurci_boot *b
     if (boddurci_look_at(redo, &found) != 0 || found.st_size < HEADER || room > (uint64_t)found.st_size - HEADER || end > room || count > end)
         return BODDURCI_UNKNOWN;
     /* No byte of the beginning of a record is zero. */
-    if (read_at(redo, HEADER + end, next, sizeof next) != 0 || word_at(next) != 0)
+    if (boddurci_read_at(redo, HEADER + end, next, sizeof next) != 0 || word_at(next) != 0)
         return BODDURCI_UNKNOWN;
     note->log.end = (size_t)end;
     note->log.room = (size_t)room;
@@ -195,14 +184,14 @@ int boddurci_clear_note(int redo)
 {
     static const uint8_t none[NOTE_LENGTH];
     uint8_t header[NOTE_AT + WORD];
-    if (read_at(redo, 0, header, sizeof header) != 0)
+    if (boddurci_read_at(redo, 0, header, sizeof header) != 0)
         return -1;
     return is_noted(header) ? write_note(redo, none) : 0;
 }
 
 int boddurci_unmarked_header(int redo, uint8_t header[BODDURCI_HEADER_USED], size_t *length)
 {
-    if (read_at(redo, 0, header, BODDURCI_HEADER_USED) != 0)
+    if (boddurci_read_at(redo, 0, header, BODDURCI_HEADER_USED) != 0)
         return -1;
     *length = is_noted(header) ? BODDURCI_HEADER_USED : 1;
     header[0] = 0;

@@ -18,22 +18,6 @@ struct part {
 
 /* ---- the files */
 
-/* Reads bytes of a file into a room; bytes past its end are zeros. */
-static int read_at(int file, uint64_t at, uint8_t *room, size_t size)
-{
-    for (size_t done = 0; done < size;) {
-        ssize_t got = pread(file, room + done, size - done, (off_t)(at + done));
-        if (got < 0 && errno != EINTR)
-            return -1;
-        if (got == 0) {
-            memset(room + done, 0, size - done);
-            return 0;
-        }
-        done += got < 0 ? 0 : (size_t)got;
-    }
-    return 0;
-}
-
 static void drop(int *file)
 {
     if (*file >= 0)
@@ -217,7 +201,7 @@ static int read_page(boddurci_shared *shared, const struct part *part, uint32_t 
         return 0;
     }
     int file = file_of(shared, BODDURCI_PAGES);
-    return file < 0 ? -1 : read_at(file, at, shared->page, part->size);
+    return file < 0 ? -1 : boddurci_read_at(file, at, shared->page, part->size);
 }
 
 static size_t number_at(const uint8_t *bytes)
@@ -274,7 +258,7 @@ static int read_directory(boddurci_shared *shared, struct part *part, int *is_wh
     if (*is_whole || part->directory == 0)
         return 0;
     int file = file_of(shared, BODDURCI_DIRECTORY);
-    return file < 0 ? -1 : read_at(file, 0, shared->directory, part->directory);
+    return file < 0 ? -1 : boddurci_read_at(file, 0, shared->directory, part->directory);
 }
 
 /* Reads the page of a key, and opens its database. */

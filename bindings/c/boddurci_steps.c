@@ -175,7 +175,7 @@ void boddurci_release_room(struct boddurci_disk *disk)
     errno = why;
 }
 
-static uint64_t number_at(const uint8_t *at)
+uint64_t boddurci_number_at(const uint8_t *at)
 {
     return (uint64_t)at[0] | (uint64_t)at[1] << 8 | (uint64_t)at[2] << 16 | (uint64_t)at[3] << 24;
 }
@@ -183,8 +183,8 @@ static uint64_t number_at(const uint8_t *at)
 void boddurci_lengths_of(const uint8_t *bytes, int is_after, uint64_t lengths[2])
 {
     const uint8_t *at = bytes + BODDURCI_PLAN_AT + (is_after ? 8 : 16);
-    lengths[BODDURCI_PAGES] = number_at(at);
-    lengths[BODDURCI_DIRECTORY] = number_at(at + 4);
+    lengths[BODDURCI_PAGES] = boddurci_number_at(at);
+    lengths[BODDURCI_DIRECTORY] = boddurci_number_at(at + 4);
 }
 
 /* A file that is open has the length that the plan says: the save has looked at it before. */

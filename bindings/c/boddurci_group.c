@@ -106,21 +106,38 @@ static int64_t patience(int64_t took)
     return took / 8 < MOST ? took / 8 : MOST;
 }
 
-/* Waits a moment for the calls that the last save has served: their threads may save again, and then one save serves all. If none has come,
- * the next saves do not wait. A single thread does not wait. */
+/* Waits until a number of calls wait, at most until a time, and returns how many do. */
+static int await_calls(const struct boddurci_group *group, int count, int64_t took, int64_t end)
+{
+    const struct timespec moment = {0, (long)MOMENT};
+    while (waiting_in(group) < count && now() < end)
+        (void)!(took < LONG_SAVE ? sched_yield() : nanosleep(&moment, NULL));
+    return waiting_in(group);
+}
+
+/* Whether a save waits for a moment more, given the calls before the last moment and after it: some came then, and most have come. */
+static int goes_on(int before, int has, int others)
+{
+    return has > before && 3 * has >= 2 * others;
+}
+
+/* Waits a moment for the calls that the last save has served: their threads may save again, and then one save serves all. If most have come
+ * it waits for the rest. If none has come, the next saves do not wait. A single thread does not wait. */
 static void await_others(struct boddurci_group *group)
 {
-    enum { SKIPS = 7 };
-    const struct timespec moment = {0, (long)MOMENT};
-    int64_t took = __atomic_load_n(&group->took, __ATOMIC_RELAXED);
-    int had = waiting_in(group);
-    if (group->others < 2 || group->skips > 0) {
+    enum { SKIPS = 7, MOMENTS = 8 };
+    int64_t took = __atomic_load_n(&group->took, __ATOMIC_RELAXED), end = now();
+    int others = group->others, had = waiting_in(group), before = had, has = had;
+    if (others < 2 || group->skips > 0) {
         group->skips -= group->skips > 0;
         return;
     }
-    for (int64_t end = now() + patience(took); waiting_in(group) < group->others && now() < end;)
-        (void)!(took < LONG_SAVE ? sched_yield() : nanosleep(&moment, NULL));
-    group->skips = had < group->others && waiting_in(group) == had ? SKIPS : 0;
+    for (int i = 0; i < MOMENTS && has < others && (i == 0 || goes_on(before, has, others)); i++) {
+        before = has;
+        end += patience(took);
+        has = await_calls(group, others, took, end);
+    }
+    group->skips = had < others && has == had ? SKIPS : 0;
 }
 
 /* Empties the list of waiting calls. The first of them saves, and leads to the rest by its `next`. */

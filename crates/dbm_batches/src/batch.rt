@@ -7,21 +7,21 @@ ghost use Rattle.store_shared.specs.Closed.{IsRefusedClose};
 ghost use Rattle.store_shared.specs.Shared.{opened_by};
 ghost use Rattle.dbm_script.specs.Shorthand.{spelled};
 ghost use Rattle.dbm_script.specs.Tasks.{AreTasksOf, IsTasksFault};
-ghost use Rattle.dbm_script.specs.declared.shorthand.Lines.TheVariants.{OfBatch};
+ghost use Rattle.dbm_script.specs.declared.shorthand.LineKind.TheVariants.{OfBatch};
 ghost use Rattle.dbm_batches.specs.Batches.{DoesTasks, IsClosedAfter, IsReady, IsSubmitted, LeadTo, OnBatch, OnTasks, batch_causes, doing_causes, ready_causes, reply_line, submit_causes, task_causes, task_for};
-ghost use Rattle.dbm_faults.specs.declared.fault.ServeFault.TheVariants.{Close};
-ghost use Rattle.dbm_faults.specs.Faults.{pool_fault};
+ghost use Rattle.dbm_messages.specs.declared.fault.ServeFault.TheVariants.{Close};
+ghost use Rattle.dbm_messages.specs.Faults.{pool_fault};
 ghost use Rattle.dbm_batches.specs.Causes.{HasCause};
 ghost use Rattle.dbm_reports.specs.Served.{IsPrinted, IsUnserved};
 
-use dbm_faults::ServeFault;
+use dbm_args::Form;
+use dbm_messages::ServeFault;
+use dbm_records::{Batch as Asked, database_and_image};
 use dbm_reports::{Given, Report, ReportFault, Served, Unserved, read_input, write_report};
-use dbm_runs::{Batch as Asked, database_and_image};
 use dbm_script::{
-    Lines, Notation, RunWords, TasksFault, TimeOfDay, read_number, read_tasks, show_reply,
+    LineKind, Notation, RunWords, TasksFault, TimeOfDay, read_number, read_tasks, show_reply,
     spell_out,
 };
-use dbm_words::Form;
 use prog_registry::{ProgId, Registry};
 use sdbm_files::Image;
 use std::alloc::{AllocError, Global};
@@ -164,7 +164,7 @@ fn words_of_lines(
     ensures ok { IfOk result (λ words. AreTasksOf Global notation.now (spelled OfBatch time input.now) words.items) }
     ensures fault { IfErr result (IsTasksFault Global notation.now (spelled OfBatch time input.now)) }
 {
-    let lines = spell_out(alloc, Lines::OfBatch, time, input)?;
+    let lines = spell_out(alloc, LineKind::OfBatch, time, input)?;
     read_tasks(alloc, notation, lines.as_slice())
 }
 

@@ -7,34 +7,34 @@ use Rattle.clap.specs.Words.{IsAmong, Kinds, Row, Text, kind_of}
 use Rattle.clap.specs.declared.error.kind.ErrorKind.TheVariants.{DisplayHelp, DisplayVersion, OutOfMemory}
 use Rattle.clap.specs.declared.error.Error.{Error}
 use Rattle.dbm_command_line.specs.Tool.{tool}
-use Rattle.dbm_words.specs.Given.{IsAccess, has_words}
-use Rattle.dbm_dumps.specs.Backup.{BackupAsks}
-use Rattle.dbm_dumps.specs.Dump.{DumpAsks}
-use Rattle.dbm_dumps.specs.Load.{LoadAsks}
-use Rattle.dbm_listings.specs.Check.{CheckAsks}
-use Rattle.dbm_listings.specs.Keys.{KeysAsks}
-use Rattle.dbm_listings.specs.List.{ListAsks}
-use Rattle.dbm_listings.specs.Stats.{StatsAsks}
-use Rattle.dbm_pairs.specs.Delete.{DeleteAsks}
-use Rattle.dbm_pairs.specs.Fetch.{FetchAsks}
-use Rattle.dbm_pairs.specs.Rename.{RenameAsks}
-use Rattle.dbm_pairs.specs.Store.{StoreAsks}
+use Rattle.dbm_args.specs.Given.{IsAccess, has_words}
+use Rattle.dbm_dump.specs.Backup.{BackupAsks}
+use Rattle.dbm_dump.specs.Dump.{DumpAsks}
+use Rattle.dbm_dump.specs.Load.{LoadAsks}
+use Rattle.dbm_databases.specs.Check.{CheckAsks}
+use Rattle.dbm_databases.specs.Keys.{KeysAsks}
+use Rattle.dbm_databases.specs.List.{ListAsks}
+use Rattle.dbm_databases.specs.Stats.{StatsAsks}
+use Rattle.dbm_records.specs.Delete.{DeleteAsks}
+use Rattle.dbm_records.specs.Fetch.{FetchAsks}
+use Rattle.dbm_records.specs.Rename.{RenameAsks}
+use Rattle.dbm_records.specs.Store.{StoreAsks}
 use Rattle.dbm_programs.specs.Asm.{AsmAsks}
 use Rattle.dbm_programs.specs.Disasm.{DisasmAsks}
 use Rattle.dbm_programs.specs.Programs.{ProgramsAsks}
 use Rattle.dbm_programs.specs.Verify.{VerifyAsks}
-use Rattle.dbm_runs.specs.Batch.{BatchAsks, each_core}
-use Rattle.dbm_runs.specs.Run.{RunAsks}
-use Rattle.dbm_scripts.specs.Script.{ScriptAsks}
-use Rattle.dbm_scripts.specs.Widen.{WidenAsks}
-use Rattle.dbm_sessions.specs.Session.{SessionAsks}
+use Rattle.dbm_records.specs.Batch.{BatchAsks, each_core}
+use Rattle.dbm_records.specs.Run.{RunAsks}
+use Rattle.dbm_databases.specs.Script.{ScriptAsks}
+use Rattle.dbm_databases.specs.Widen.{WidenAsks}
+use Rattle.dbm_session.specs.Session.{SessionAsks}
 use Rattle.dbm_script.specs.declared.shorthand.TimeOfDay.{TimeOfDay}
 use Rattle.dbm_command_line.specs.declared.fault.ToolFault.{ToolFault}
 use Rattle.dbm_command_line.specs.declared.fault.ToolFault.TheVariants.{Refused, NoMemory, NoWord}
-use Rattle.dbm_words.specs.declared.options.Access.{Access}
-use Rattle.dbm_words.specs.declared.options.NotationOptions.{NotationOptions}
-use Rattle.dbm_words.specs.declared.options.TimeUnit.{TimeUnit}
-use Rattle.dbm_words.specs.declared.options.TimeUnit.TheVariants.{Seconds, Milliseconds}
+use Rattle.dbm_args.specs.declared.options.Access.{Access}
+use Rattle.dbm_args.specs.declared.options.NotationOptions.{NotationOptions}
+use Rattle.dbm_args.specs.declared.options.TimeUnit.{TimeUnit}
+use Rattle.dbm_args.specs.declared.options.TimeUnit.TheVariants.{Seconds, Milliseconds}
 use Rattle.dbm_command_line.specs.declared.wish.Ask.{Ask}
 use Rattle.dbm_command_line.specs.declared.wish.Ask.TheVariants as ask
 use Rattle.dbm_command_line.specs.declared.wish.Wish.{Wish}

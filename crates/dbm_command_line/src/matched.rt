@@ -5,13 +5,11 @@ ghost use Rattle.dbm_command_line.specs.Wishes.{SubcommandAsks, WishAsks, lacks_
 
 use crate::wish::{Ask, Wish};
 use clap::ArgMatches;
-use dbm_dumps::{Backup, Dump, Load};
-use dbm_listings::{Check, Keys, List, Stats};
-use dbm_pairs::{Delete, Fetch, Rename, Store};
+use dbm_databases::{Check, Keys, List, Script, Stats, Widen};
+use dbm_dump::{Backup, Dump, Load};
 use dbm_programs::{Asm, Disasm, Programs, Verify};
-use dbm_runs::{Batch, Run};
-use dbm_scripts::{Script, Widen};
-use dbm_sessions::Session;
+use dbm_records::{Batch, Delete, Fetch, Rename, Run, Store};
+use dbm_session::Session;
 
 /// Reads the matches of the subcommand `name`. Returns `None` if a required word is missing, or if there is no subcommand of this
 /// name.

@@ -2,18 +2,20 @@
 ghost use Rattle.std.specs.Prelude.{IfOk};
 ghost use Rattle.clap.specs.Words.{App, Shape};
 ghost use Rattle.clap.specs.Words as rules;
-ghost use Rattle.dbm_words.specs.CommandLine.{IsCommand, IsSubcommand};
+ghost use Rattle.dbm_args.specs.CommandLine.{IsCommand, IsSubcommand};
 ghost use Rattle.dbm_command_line.specs.Tool.{tool};
 ghost use Rattle.dbm_command_line.specs.Tool as spec;
 
 use clap::Command;
-use dbm_dumps::{backup_command, dump_command, load_command};
-use dbm_listings::{check_command, keys_command, list_command, stats_command};
-use dbm_pairs::{delete_command, fetch_command, rename_command, store_command};
+use dbm_databases::{
+    check_command, keys_command, list_command, script_command, stats_command, widen_command,
+};
+use dbm_dump::{backup_command, dump_command, load_command};
 use dbm_programs::{asm_command, disasm_command, programs_command, verify_command};
-use dbm_runs::{batch_command, run_command};
-use dbm_scripts::{script_command, widen_command};
-use dbm_sessions::session_command;
+use dbm_records::{
+    batch_command, delete_command, fetch_command, rename_command, run_command, store_command,
+};
+use dbm_session::session_command;
 use std::alloc::{AllocError, Global};
 
 /// The program with all its subcommands. Fails only if allocation fails.

@@ -2,15 +2,13 @@
 ghost use Rattle.std.specs.Prelude.{◌≡◌, option_map};
 ghost use Rattle.dbm_command_line.specs.Wishes.{asks_clock, asks_cores, base_of, file_of, notation_of, takes_image, time_asked, with_clock, with_time, with_workers, writes_files};
 
-use dbm_dumps::{Backup, Dump, Load};
-use dbm_listings::{Check, Keys, List, Stats};
-use dbm_pairs::{Delete, Fetch, Rename, Store};
+use dbm_args::{Access, NotationOptions, TimeUnit, Words};
+use dbm_databases::{Check, Keys, List, Script, Stats, Widen};
+use dbm_dump::{Backup, Dump, Load};
 use dbm_programs::{Asm, Disasm, Programs, Verify};
-use dbm_runs::{Batch, EACH_CORE, Run};
+use dbm_records::{Batch, Delete, EACH_CORE, Fetch, Rename, Run, Store};
 use dbm_script::TimeOfDay;
-use dbm_scripts::{Script, Widen};
-use dbm_sessions::Session;
-use dbm_words::{Access, NotationOptions, TimeUnit, Words};
+use dbm_session::Session;
 
 /// A request: one subcommand with its words and options, as they were given. No word is read as bytes or as a
 /// number yet. A `base` names the files of a database, `BASE.dir` and `BASE.pag`.

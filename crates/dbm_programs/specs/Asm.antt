@@ -1,7 +1,7 @@
 -- The arguments of `asm`, its possible reports, and the conditions of its faults.
 use Rattle.std.specs.Prelude.{◌≡◌, List, [], ◌∷◌, ◌++◌, codes, ℕ}
 use Rattle.clap.specs.Words.{Shape, Row}
-use Rattle.dbm_words.specs.Given.{IsWord}
+use Rattle.dbm_args.specs.Given.{IsWord}
 use Rattle.dbm_programs.specs.declared.asm.Asm.{Asm}
 use Rattle.dbm_reports.specs.declared.databases.Given.{Given}
 use Rattle.dbm_reports.specs.Causes.{text_causes}
@@ -11,7 +11,7 @@ use Rattle.hex.specs.Hex.{encode_lower}
 use Rattle.bpf_insn.specs.declared.insn.Insn.{Insn}
 use Rattle.bpf_insn.specs.Code.{IsImage}
 use Rattle.bpf_asm.specs.Denotes.{Denotes, IsOnlyCode}
-use Rattle.dbm_words.specs.CommandLine.{required_word, subcommand}
+use Rattle.dbm_args.specs.CommandLine.{required_word, subcommand}
 
 abbrev pub asm : Shape
 asm = subcommand (codes "asm") (required_word (codes "FILE") ∷ [])

@@ -1,18 +1,18 @@
 //! `disasm`: prints the text of a program's image.
 ghost use Rattle.std.specs.Prelude.{◌≡◌, IfOk, IfSome, IsNone, false};
 ghost use Rattle.clap.specs.Words.{found_of, rows_of};
-ghost use Rattle.dbm_words.specs.CommandLine.{IsSubcommand};
-ghost use Rattle.dbm_words.specs.Given.{has_words};
+ghost use Rattle.dbm_args.specs.CommandLine.{IsSubcommand};
+ghost use Rattle.dbm_args.specs.Given.{has_words};
 ghost use Rattle.dbm_programs.specs.Disasm as spec;
 ghost use Rattle.dbm_programs.specs.Disasm.{DisasmAsks};
 
 use bpf_asm::disassemble;
 use bpf_insn::{DecodeFault, decode};
 use clap::{ArgMatches, Command};
+use dbm_args::arguments::file;
+use dbm_args::{Subject, Words, subcommand, word};
 use dbm_reports::{Given, Report, ReportFault, Subcommand, printed};
 use dbm_script::Notation;
-use dbm_words::arguments::file;
-use dbm_words::{Subject, Words, subcommand, word};
 use std::alloc::{AllocError, Global};
 use std::io::Read;
 

@@ -1,13 +1,13 @@
 //! `programs`: lists the stock programs, with their arguments and replies.
 ghost use Rattle.std.specs.Prelude.{IfOk};
 ghost use Rattle.clap.specs.Words.{found_of, rows_of};
-ghost use Rattle.dbm_words.specs.CommandLine.{IsSubcommand};
+ghost use Rattle.dbm_args.specs.CommandLine.{IsSubcommand};
 ghost use Rattle.dbm_programs.specs.Programs as spec;
 ghost use Rattle.dbm_programs.specs.Programs.{ProgramsAsks};
 
 use crate::stock::{show_all, show_one};
 use clap::{Arg, ArgMatches, Command};
-use dbm_words::{Words, subcommand, word};
+use dbm_args::{Words, subcommand, word};
 use std::alloc::{AllocError, Global};
 use stock_names::{ProgramWord, Stock, read_word};
 

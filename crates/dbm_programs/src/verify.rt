@@ -1,8 +1,8 @@
 //! `verify`: verifies a program, and prints why it is refused.
 ghost use Rattle.std.specs.Prelude.{◌≡◌, IfOk, IfSome, IsNone, false, IfErr};
 ghost use Rattle.clap.specs.Words.{found_of, rows_of};
-ghost use Rattle.dbm_words.specs.CommandLine.{IsSubcommand};
-ghost use Rattle.dbm_words.specs.Given.{has_words};
+ghost use Rattle.dbm_args.specs.CommandLine.{IsSubcommand};
+ghost use Rattle.dbm_args.specs.Given.{has_words};
 ghost use Rattle.dbm_programs.specs.Verify as spec;
 ghost use Rattle.dbm_programs.specs.Verify.{VerifyAsks};
 ghost use Rattle.bpf_insn.specs.Code.{IsImage};
@@ -15,10 +15,10 @@ use bpf_explain::{explain_accepted, explain_refused};
 use bpf_insn::{Code, DecodeFault, decode};
 use bpf_verify::{Examined, Refused, VerifyFault, examine};
 use clap::{ArgMatches, Command};
+use dbm_args::arguments::{file, flag, image};
+use dbm_args::{Words, has_flag, subcommand, word};
 use dbm_reports::{Given, Report, ReportFault, Subcommand, file_image, printed, refused};
 use dbm_script::Notation;
-use dbm_words::arguments::{file, flag, image};
-use dbm_words::{Words, has_flag, subcommand, word};
 use prog_registry::RegFault;
 use std::alloc::{AllocError, Global};
 use std::io::Read;

@@ -17,7 +17,7 @@ use crate::lines::{Ask, read_line};
 use crate::notations::Notation;
 use crate::pieces::first_piece;
 use crate::running::answer_run;
-use crate::shorthand::{Lines, TimeOfDay, spell_line};
+use crate::shorthand::{LineKind, TimeOfDay, spell_line};
 use crate::streams::read_all;
 use byte_text::write_all;
 use prog_registry::Registry;
@@ -98,9 +98,9 @@ pub fn run_spelled<A: Allocator + Copy>(
     input: &[u8],
     most: u64,
 ) -> Result<(Image<A>, Vec<u8, A>), LinesFault>
-    ensures runs { IfOk result (λ r. IsScriptRun A notation.now image (spelled Lines.OfScript time input.now) r.1.items r.0) }
+    ensures runs { IfOk result (λ r. IsScriptRun A notation.now image (spelled LineKind.OfScript time input.now) r.1.items r.0) }
     ensures short { IfOk result (λ r. length r.1.items ≤ most) }
-    ensures long { IsErrOf result LinesFault.OutputTooLong → AnswersExceed A notation.now image (spelled Lines.OfScript time input.now) most }
+    ensures long { IsErrOf result LinesFault.OutputTooLong → AnswersExceed A notation.now image (spelled LineKind.OfScript time input.now) most }
     ensures kept { IfOk result (λ r. (r.0.kind ≡ image.kind) × (r.0.size ≡ image.size)) }
 {
     let mut image = image;
@@ -111,7 +111,7 @@ pub fn run_spelled<A: Allocator + Copy>(
     while let Some(left) = rest {
         let (short, after) = first_piece(b'\n', left);
         line.clear();
-        spell_line(Lines::OfScript, time, short, &mut line)?;
+        spell_line(LineKind::OfScript, time, short, &mut line)?;
         answer_line(
             alloc,
             notation,

@@ -2,7 +2,7 @@
 use Rattle.std.proofs.Common.{refl}
 use Rattle.dbm_tool.specs.Endings.{IsExitStatus}
 use Rattle.dbm_tool.specs.declared.ending.Ending.TheVariants.{Served, Failed}
-use Rattle.dbm_faults.specs.declared.fault.ServeFault.TheVariants.{WriteFile}
+use Rattle.dbm_messages.specs.declared.fault.ServeFault.TheVariants.{WriteFile}
 
 pub missing_ends_with_1 : IsExitStatus (Served 1) 1
 missing_ends_with_1 = refl

@@ -10,11 +10,11 @@ use Rattle.dbm_reports.specs.declared.fault.ReportFault.{ReportFault}
 use Rattle.dbm_reports.specs.declared.serving.Served.{Served}
 use Rattle.dbm_reports.specs.declared.serving.Unserved.{Unserved}
 use Rattle.dbm_reports.specs.declared.serving.Unserved.TheVariants as unserved
-use Rattle.dbm_dumps.specs.Causes.{DumpKnown, HasDumpCause}
-use Rattle.dbm_dumps.specs.declared.fault.DumpsFault.{DumpsFault}
-use Rattle.dbm_faults.specs.Faults.{dumps_fault, report_fault}
-use Rattle.dbm_faults.specs.declared.fault.ServeFault.{ServeFault}
-use Rattle.dbm_faults.specs.declared.fault.ServeFault.TheVariants.{FileTooLong, Write}
+use Rattle.dbm_dump.specs.Causes.{DumpKnown, HasDumpCause}
+use Rattle.dbm_dump.specs.declared.copy_fault.CopyFault.{CopyFault}
+use Rattle.dbm_messages.specs.Faults.{dumps_fault, report_fault}
+use Rattle.dbm_messages.specs.declared.fault.ServeFault.{ServeFault}
+use Rattle.dbm_messages.specs.declared.fault.ServeFault.TheVariants.{FileTooLong, Write}
 use Rattle.dbm_batches.specs.Causes.{HasCause}
 use Rattle.dbm_tool.specs.Outcomes.{IsOutcome, IsUnservedBy, failed, outcome_by}
 use Rattle.dbm_tool.specs.Services.{Service, dumping, noted, reporting}
@@ -73,7 +73,7 @@ reported known writes reads input left old new came outcome is ok err gives unre
     (turned (reporting known) writes reads input left old new report_fault (IsCaused known.causes) came (λ fault caused. raised (reporting known).causes fault caused) ok err gives unread)
 
 -- `dump` or `load`
-pub dumped : (known : DumpKnown) (writes reads : Bool) (input left old new : Option (List ℕ)) (came : Result Served (Unserved DumpsFault)) (outcome : WishOutcome) → outcome ≡ outcome_by dumps_fault came
+pub dumped : (known : DumpKnown) (writes reads : Bool) (input left old new : Option (List ℕ)) (came : Result Served (Unserved CopyFault)) (outcome : WishOutcome) → outcome ≡ outcome_by dumps_fault came
     → IfOk came (λ (served : Served). IsPrinted known.reports old new served.status served.database) → IfErr came (IsUnserved known.reports (HasDumpCause known.causes) old new)
     → IfOk came (λ (served : Served). is_some served.database ≡ writes) → (reads ≡ false → left ≡ input) → IsOutcome (dumping known) writes reads input left old new outcome
 dumped known writes reads input left old new came outcome is ok err gives unread =

@@ -8,8 +8,8 @@ use Rattle.dbm_reports.specs.declared.databases.Given.{Given}
 use Rattle.dbm_reports.specs.declared.serving.Served.{Served}
 use Rattle.dbm_reports.specs.declared.serving.Unserved.{Unserved}
 use Rattle.dbm_reports.specs.declared.serving.Unserved.TheVariants as unserved
-use Rattle.dbm_faults.specs.declared.fault.ServeFault.{ServeFault}
-use Rattle.dbm_faults.specs.declared.fault.ServeFault.TheVariants.{FileTooLong, Write}
+use Rattle.dbm_messages.specs.declared.fault.ServeFault.{ServeFault}
+use Rattle.dbm_messages.specs.declared.fault.ServeFault.TheVariants.{FileTooLong, Write}
 use Rattle.dbm_batches.specs.Causes.{HasCause}
 use Rattle.dbm_tool.specs.Services.{Service, service_for}
 use Rattle.dbm_tool.specs.declared.outcome.WishOutcome.{WishOutcome}

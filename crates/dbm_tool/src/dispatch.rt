@@ -1,15 +1,15 @@
 //! Selects the subcommand to serve.
 ghost use Rattle.std.specs.Prelude.{◌≡◌, None};
 ghost use Rattle.dbm_command_line.specs.Wishes.{writes_files};
-ghost use Rattle.dbm_faults.specs.Faults.{dumps_fault, report_fault};
+ghost use Rattle.dbm_messages.specs.Faults.{dumps_fault, report_fault};
 ghost use Rattle.dbm_tool.specs.Outcomes.{IsOutcome, failed, outcome_by};
 ghost use Rattle.dbm_tool.specs.Services.{reads_input, service_for, service_in};
 
 use crate::outcome::{FAULT, WishOutcome};
 use dbm_batches::serve_batch;
 use dbm_command_line::Wish;
-use dbm_dumps::DumpsFault;
-use dbm_faults::ServeFault;
+use dbm_dump::CopyFault;
+use dbm_messages::ServeFault;
 use dbm_reports::{Given, ReportFault, Served, Unserved, notation_by, serve};
 use dbm_script::Notation;
 use std::alloc::Global;
@@ -82,7 +82,7 @@ fn outcome_of(came: Result<Served, Unserved<ReportFault>>) -> WishOutcome
 }
 
 // The outcome of `dump` or `load`.
-fn outcome_of_dump(came: Result<Served, Unserved<DumpsFault>>) -> WishOutcome
+fn outcome_of_dump(came: Result<Served, Unserved<CopyFault>>) -> WishOutcome
     ensures { result ≡ outcome_by dumps_fault came }
 {
     match came {

@@ -4,7 +4,7 @@ ghost use Rattle.dbm_tool.specs.Endings.{IsEndingOf, IsExitStatus, IsRefusalStat
 
 use crate::outcome::{FAULT, WishOutcome};
 use dbm_command_line::ToolFault;
-use dbm_faults::ServeFault;
+use dbm_messages::ServeFault;
 
 /// How a run of the program ends.
 #[derive(Drop)]

@@ -16,19 +16,19 @@ mod stock;
 
 use backup::{refuse_copy, serve_backup};
 use clock::{read_clock, read_time};
+use dbm_args::Access;
 use dbm_command_line::{Ask, Request, ToolFault, Wish, read_words};
-use dbm_faults::ServeFault;
 use dbm_files::{LockedFiles, RunFiles, Saved, save_files, take_rest};
+use dbm_messages::ServeFault;
 use dbm_places::{RunPlace, has_no_files};
 use dbm_reports::{Given, NOT_RUN, ReportFault};
-use dbm_script::{Lines, SCRIPT_LIMIT, read_number};
+use dbm_script::{LineKind, SCRIPT_LIMIT, read_number};
 use dbm_shell::serve_session;
-use dbm_telling::{
+use dbm_stderr::{
     Counted, Kept, Told, Watched, advise, has_bad_line, is_terminal, note_absent, note_object,
     note_of_bad_lines, note_of_half_line, note_of_line_end, note_pending, note_refusal, note_that,
     take_and_tell, tell_saving,
 };
-use dbm_words::Access;
 use ending::{Ending, ending_of, exit_status};
 use quick::{may_be_quick, print_quick, refusal_in, serve_quick};
 use request::{given_of, place_asked, reads_whole, told_of, work_asked, work_of};
@@ -105,7 +105,7 @@ fn run<R: Runtime<File = File> + AllocGlobal + Threads + Wait + Sync>(
             let is_bad_line = matches!(ending, Ending::Failed(ServeFault::BadLine(_)));
             let ending = tell(rt, Some(&told), ending);
             if is_bad_line {
-                note_line_end(rt, Lines::OfBatch, &reader);
+                note_line_end(rt, LineKind::OfBatch, &reader);
             }
             ending
         }
@@ -187,7 +187,7 @@ fn note<R: Runtime<File = File> + AllocGlobal, I: Read>(
         && let Some(note) = note_of_bad_lines(rt.alloc(), told.notation, told.clock, input.text())
     {
         note_that(rt, note);
-        note_line_end(rt, Lines::OfScript, input);
+        note_line_end(rt, LineKind::OfScript, input);
     }
     if matches!(ending, Ending::Served(0))
         && let Some(lines) = told.lines
@@ -198,7 +198,7 @@ fn note<R: Runtime<File = File> + AllocGlobal, I: Read>(
 }
 
 // Notes which line of a script or a batch ends in CR, if one does.
-fn note_line_end<R: Runtime, I: Read>(rt: &R, lines: Lines, input: &Kept<I>) {
+fn note_line_end<R: Runtime, I: Read>(rt: &R, lines: LineKind, input: &Kept<I>) {
     if let Some(note) = note_of_line_end(lines, input.text()) {
         note_that(rt, note);
     }

@@ -1,6 +1,6 @@
 //! The outcome of a request.
 
-use dbm_faults::ServeFault;
+use dbm_messages::ServeFault;
 use sdbm_files::Image;
 use std::alloc::Global;
 

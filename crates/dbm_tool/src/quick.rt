@@ -4,22 +4,23 @@ ghost use Rattle.sdbm_addr.specs.Pairs.{page_bytes};
 ghost use Rattle.sdbm_saves.specs.Redo.{IsPlan, Knows};
 ghost use Rattle.sdbm_saves.specs.Recording.{part_pages};
 ghost use Rattle.dbm_reports.specs.Databases.{page_size_of};
-ghost use Rattle.dbm_quick.specs.Asked.{IsMeant};
+ghost use Rattle.dbm_records.specs.PageRequests.{IsMeant};
 ghost use Rattle.dbm_tool.specs.Services.{service_in};
 
 use byte_text::write_all;
+use dbm_args::Form;
 use dbm_command_line::{Ask, Wish};
-use dbm_faults::ServeFault;
 use dbm_files::{LockedFiles, PlannedPart, Saved, UnreadPages, save_part};
+use dbm_messages::ServeFault;
 use dbm_places::FileBytes;
 use dbm_programs::refusal_of;
-use dbm_quick::{
-    Asked, Quick, asked_by_delete, asked_by_fetch, asked_by_run, asked_by_store, work,
+use dbm_records::{
+    PageRequest, PageResult, answer_on_page, delete_request, fetch_request, run_request,
+    store_request,
 };
 use dbm_reports::{ReportFault, key_bytes_of, notation_by, page_size_of};
 use dbm_script::Notation;
-use dbm_telling::{Kept, Watched, is_refused};
-use dbm_words::Form;
+use dbm_stderr::{Kept, Watched, is_refused};
 use sdbm_addr::PageSize;
 use sdbm_saves::Part;
 use std::alloc::Global;
@@ -49,7 +50,7 @@ pub fn serve_quick<R: Runtime<File = File> + AllocGlobal, I: Read>(
     unread: &UnreadPages,
     held: &mut Option<LockedFiles>,
     reader: &mut Kept<I>,
-) -> Result<Option<Quick>, ServeFault> {
+) -> Result<Option<PageResult>, ServeFault> {
     let alloc = rt.alloc();
     let Ok(notation) = notation_by(alloc, wish.notation()) else {
         return Ok(None);
@@ -69,7 +70,7 @@ pub fn serve_quick<R: Runtime<File = File> + AllocGlobal, I: Read>(
         page: page.as_slice(),
     };
     let (kind, size) = (key_bytes_of(form), page_size_of(form));
-    let Some(quick) = work(alloc, &notation, asked, part, kind, size) else {
+    let Some(quick) = answer_on_page(alloc, &notation, asked, part, kind, size) else {
         return Ok(None);
     };
     if !are_free(alloc, unread, number, quick.numbers.as_slice(), size) || !unread.is_guarded(rt) {
@@ -93,7 +94,7 @@ fn save_quick<R: Runtime<File = File> + AllocGlobal, I: Read>(
     held: LockedFiles,
     part: Part<'_>,
     size: PageSize,
-    quick: &Quick,
+    quick: &PageResult,
     reader: &mut Kept<I>,
 ) -> Result<(), ServeFault>
     requires { IfSome quick.now.plan (λ plan. IsPlan plan.items × Knows plan.items (part_pages part size, part.directory.now)) }
@@ -138,14 +139,14 @@ fn asked_of(
     notation: &Notation<Global>,
     wish: Wish<'_>,
     file: &[u8],
-) -> Option<(Form, Asked)>
+) -> Option<(Form, PageRequest)>
     ensures { IfSome result (λ meant. IsMeant meant.0 file.now notation.now (λ given report. (input : Option (List ℕ)) → (service_in notation.now wish.entry given input).reports report) meant.1) }
 {
     match wish {
-        Wish::Fetch(fetch) => meant(fetch.form, asked_by_fetch(alloc, notation, &fetch)),
-        Wish::Store(store) => meant(store.form, asked_by_store(alloc, notation, &store)),
-        Wish::Delete(delete) => meant(delete.form, asked_by_delete(alloc, notation, &delete)),
-        Wish::Run(run) => match asked_by_run(alloc, notation, &run, file) {
+        Wish::Fetch(fetch) => meant(fetch.form, fetch_request(alloc, notation, &fetch)),
+        Wish::Store(store) => meant(store.form, store_request(alloc, notation, &store)),
+        Wish::Delete(delete) => meant(delete.form, delete_request(alloc, notation, &delete)),
+        Wish::Run(run) => match run_request(alloc, notation, &run, file) {
             Ok(asked) => Some((run.form, asked)),
             Err(_) => None,
         },
@@ -154,7 +155,7 @@ fn asked_of(
 }
 
 // The request, if there is one, together with the form of its files.
-fn meant(form: Form, asked: Result<Option<Asked>, ReportFault>) -> Option<(Form, Asked)>
+fn meant(form: Form, asked: Result<Option<PageRequest>, ReportFault>) -> Option<(Form, PageRequest)>
     ensures { IfSome result (λ meant. (meant.0 ≡ form) × (asked ≡ Ok (Some meant.1))) }
 {
     match asked {

@@ -5,15 +5,15 @@ ghost use Rattle.dbm_tool.specs.Stock.{file_in};
 ghost use Rattle.sdbm_files.specs.Limits.{pag_limit};
 
 use crate::stock::{file_in, file_or_unknown};
+use dbm_args::{NotationOptions, Numbers, Words};
 use dbm_command_line::{Ask, Request, Wish};
-use dbm_dumps::Backup;
+use dbm_dump::Backup;
 use dbm_places::{FileBytes, RunPlace};
 use dbm_programs::Programs;
 use dbm_reports::Given;
-use dbm_script::Lines;
-use dbm_sessions::Session;
-use dbm_telling::{Told, Work};
-use dbm_words::{NotationOptions, Numbers, Words};
+use dbm_script::LineKind;
+use dbm_session::Session;
+use dbm_stderr::{Told, Work};
 use sdbm_addr::PageSize;
 use sdbm_files::PAG_LIMIT;
 
@@ -90,10 +90,10 @@ fn told_of_wish<'a>(wish: &Wish<'a>) -> Told<'a> {
 }
 
 // The kind of lines on standard input, if it is a script or a batch.
-fn lines_of(wish: &Wish<'_>) -> Option<Lines> {
+fn lines_of(wish: &Wish<'_>) -> Option<LineKind> {
     match wish {
-        Wish::Script(_) => Some(Lines::OfScript),
-        Wish::Batch(_) => Some(Lines::OfBatch),
+        Wish::Script(_) => Some(LineKind::OfScript),
+        Wish::Batch(_) => Some(LineKind::OfBatch),
         _ => None,
     }
 }

@@ -1,8 +1,8 @@
 //! Detects files of small pages that are to be opened with wide pages.
 use crate::request::told_of;
 use dbm_command_line::Request;
-use dbm_faults::ServeFault;
 use dbm_files::{RunFiles, UnreadPages, take_rest};
+use dbm_messages::ServeFault;
 use dbm_places::RunPlace;
 use sdbm_addr::{KeyBytes, PageSize};
 use sdbm_sizes::{MOST_PAGES, page_looks_small, pages_look_small};

@@ -1,15 +1,15 @@
 //! Stock programs that a command line names.
 ghost use Rattle.std.specs.Prelude.{◌≡◌, ◌⊎◌, IfOk, IfErr, option_map};
 ghost use Rattle.dbm_command_line.specs.Wishes.{file_of, takes_image};
-ghost use Rattle.dbm_faults.specs.declared.fault.ServeFault.TheVariants.{NoMemory, NoStock};
+ghost use Rattle.dbm_messages.specs.declared.fault.ServeFault.TheVariants.{NoMemory, NoStock};
 ghost use Rattle.stock_names.specs.declared.ProgramWord.TheVariants.{Unknown};
 ghost use Rattle.dbm_tool.specs.Stock.{IsStockFile, file_in, word_in};
 
 use crate::quick::print_quick;
 use dbm_command_line::Wish;
-use dbm_faults::ServeFault;
+use dbm_messages::ServeFault;
 use dbm_programs::Programs;
-use dbm_telling::Kept;
+use dbm_stderr::Kept;
 use std::alloc::Global;
 use std::fs::File;
 use std::io::Read;

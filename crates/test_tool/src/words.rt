@@ -1,7 +1,7 @@
 //! The requests of command lines, their refusals, and the texts of help.
 
+use dbm_args::{Access, TimeUnit};
 use dbm_command_line::{Ask, Request, ToolFault, Wish, read_words};
-use dbm_words::{Access, TimeUnit};
 use std::alloc::{AllocError, Global};
 use std::fmt::Write;
 

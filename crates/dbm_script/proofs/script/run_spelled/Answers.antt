@@ -3,7 +3,7 @@ use Rattle.prog_registry.specs.Registry.{Registered}
 use Rattle.dbm_script.specs.Pieces.{pieces_of, pieces_left}
 use Rattle.dbm_script.specs.Script.{RunsLines, RunsScript, stage}
 use Rattle.dbm_script.specs.Shorthand.{spelled, spelled_line}
-use Rattle.dbm_script.specs.declared.shorthand.Lines.TheVariants.{OfScript}
+use Rattle.dbm_script.specs.declared.shorthand.LineKind.TheVariants.{OfScript}
 use Rattle.dbm_script.proofs.LinesStay.{lines_stay, spelled_first}
 use Rattle.dbm_script.proofs.Runs.{IsScriptRun-from, next_done, one_more}
 use Rattle.dbm_script.proofs.script.run_spelled.Goals as goal

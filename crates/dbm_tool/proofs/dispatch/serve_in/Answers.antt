@@ -1,20 +1,20 @@
 use Rattle.std.proofs.Common.{refl}
-use Rattle.dbm_dumps.specs.Dump.{dump_in}
-use Rattle.dbm_dumps.specs.Load.{load_in}
-use Rattle.dbm_listings.specs.Check.{check_in}
-use Rattle.dbm_listings.specs.Keys.{keys_in}
-use Rattle.dbm_listings.specs.List.{list_in}
-use Rattle.dbm_listings.specs.Stats.{stats_in}
-use Rattle.dbm_pairs.specs.Delete.{delete_in}
-use Rattle.dbm_pairs.specs.Fetch.{fetch_in}
-use Rattle.dbm_pairs.specs.Store.{store_in}
+use Rattle.dbm_dump.specs.Dump.{dump_in}
+use Rattle.dbm_dump.specs.Load.{load_in}
+use Rattle.dbm_databases.specs.Check.{check_in}
+use Rattle.dbm_databases.specs.Keys.{keys_in}
+use Rattle.dbm_databases.specs.List.{list_in}
+use Rattle.dbm_databases.specs.Stats.{stats_in}
+use Rattle.dbm_records.specs.Delete.{delete_in}
+use Rattle.dbm_records.specs.Fetch.{fetch_in}
+use Rattle.dbm_records.specs.Store.{store_in}
 use Rattle.dbm_programs.specs.Asm.{asm_in}
 use Rattle.dbm_programs.specs.Disasm.{disasm_in}
 use Rattle.dbm_programs.specs.Verify.{verify_in}
-use Rattle.dbm_pairs.specs.Rename.{rename_in}
-use Rattle.dbm_runs.specs.Run.{run_in}
-use Rattle.dbm_scripts.specs.Script.{script_in}
-use Rattle.dbm_scripts.specs.Widen.{widen_in}
+use Rattle.dbm_records.specs.Rename.{rename_in}
+use Rattle.dbm_records.specs.Run.{run_in}
+use Rattle.dbm_databases.specs.Script.{script_in}
+use Rattle.dbm_databases.specs.Widen.{widen_in}
 use Rattle.dbm_tool.specs.Services.{batch_in}
 use Rattle.dbm_tool.proofs.Turns.{batched, dumped, reported}
 use Rattle.dbm_tool.proofs.dispatch.serve_in.Goals as goal

@@ -1,7 +1,7 @@
 use Rattle.std.proofs.Common.{◌≡◌, ℕ, List, Option, Some, refl, subst, sym, ◌∙◌, ap}
 use Rattle.dbm_command_line.specs.Wishes.{writes_files}
-use Rattle.dbm_faults.specs.Faults.{report_fault}
-use Rattle.dbm_words.specs.declared.options.NotationOptions.{NotationOptions}
+use Rattle.dbm_messages.specs.Faults.{report_fault}
+use Rattle.dbm_args.specs.declared.options.NotationOptions.{NotationOptions}
 use Rattle.dbm_reports.specs.Causes.{IsCaused}
 use Rattle.dbm_reports.specs.Known.{layout_causes}
 use Rattle.dbm_reports.specs.Notations.{notation_by}

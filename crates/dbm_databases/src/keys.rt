@@ -13,7 +13,7 @@ use crate::streamed::serve_rows;
 use clap::{ArgMatches, Command};
 use dbm_args::arguments::{base, insist, null, prefix, text, timeout, unsigned, verbose, wide};
 use dbm_args::{Form, Named, NotationOptions, Words, form, has_flag, notation, subcommand, word};
-use dbm_reports::{Given, ReportFault, Served, Unserved};
+use dbm_reports::{Given, Outcome, ReportFault, Unserved};
 use dbm_script::Notation;
 use std::alloc::{AllocError, Global};
 use std::io::Write;
@@ -68,7 +68,7 @@ impl<'a> Keys<'a> {
         notation: &Notation<Global>,
         given: &Given,
         writer: &mut W,
-    ) -> Result<Served, Unserved<ReportFault>>
+    ) -> Result<Outcome, Unserved<ReportFault>>
         ensures ok { IfOk result (λ served. IsPrinted (keys_in notation.now self.now given.now).reports (W.contents writer.old) (W.contents writer.new) served.status served.database) }
         ensures fault { IfErr result (IsUnserved (keys_in notation.now self.now given.now).reports (IsCaused (keys_in notation.now self.now given.now).causes) (W.contents writer.old) (W.contents writer.new)) }
         ensures database { IfOk result (λ served. is_some served.database ≡ false) }

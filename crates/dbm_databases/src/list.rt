@@ -17,7 +17,7 @@ use dbm_args::arguments::{
 use dbm_args::{
     Form, Named, NotationOptions, Words, aliased_subcommand, form, has_flag, notation, word,
 };
-use dbm_reports::{Given, ReportFault, Served, Unserved};
+use dbm_reports::{Given, Outcome, ReportFault, Unserved};
 use dbm_script::Notation;
 use std::alloc::{AllocError, Global};
 use std::io::Write;
@@ -75,7 +75,7 @@ impl<'a> List<'a> {
         notation: &Notation<Global>,
         given: &Given,
         writer: &mut W,
-    ) -> Result<Served, Unserved<ReportFault>>
+    ) -> Result<Outcome, Unserved<ReportFault>>
         ensures ok { IfOk result (λ served. IsPrinted (list_in notation.now self.now given.now).reports (W.contents writer.old) (W.contents writer.new) served.status served.database) }
         ensures fault { IfErr result (IsUnserved (list_in notation.now self.now given.now).reports (IsCaused (list_in notation.now self.now given.now).causes) (W.contents writer.old) (W.contents writer.new)) }
         ensures database { IfOk result (λ served. is_some served.database ≡ false) }

@@ -10,7 +10,7 @@ ghost use Rattle.dbm_databases.specs.Widen.{Widens};
 use clap::{ArgMatches, Command};
 use dbm_args::arguments::{base, must_exist, timeout, unsigned, verbose};
 use dbm_args::{Form, Words, has_flag, subcommand, word};
-use dbm_reports::{Given, Report, ReportFault, Subcommand, open, show_ok};
+use dbm_reports::{Given, Notes, Report, ReportFault, Subcommand, open, show_ok};
 use dbm_script::Notation;
 use sdbm_files::{Image, widen};
 use std::alloc::{AllocError, Global};
@@ -109,5 +109,6 @@ fn widen_pages(alloc: Global, image: Image<Global>) -> Result<Report, AllocError
         text: show_ok(alloc, image.count())?,
         status: 0,
         database: Some(image),
+        notes: Notes::none(),
     })
 }

@@ -14,7 +14,7 @@ use dbm_args::arguments::{
     base, flag, insist, must_exist, timeout, unsigned, valued_option, verbose, wide,
 };
 use dbm_args::{Form, Words, form, has_flag, subcommand, word};
-use dbm_reports::{Given, Report, Subcommand, open};
+use dbm_reports::{Given, Notes, Report, Subcommand, open};
 use dbm_script::Notation;
 use itoa::Buffer;
 use sdbm_addr::Mode;
@@ -133,6 +133,7 @@ fn loaded_report(alloc: Global, loaded: Loaded) -> Result<Report, AllocError>
         text: show_loaded(alloc, count)?,
         status: 0,
         database: Some(image),
+        notes: Notes::none(),
     })
 }
 

@@ -203,12 +203,14 @@ fn behind(rows: String, last: Report) -> Result<Report, AllocError>
     let Report {
         status,
         database,
+        notes,
         ..
     } = last;
     Ok(Report {
         text,
         status,
         database,
+        notes,
     })
 }
 

@@ -13,7 +13,7 @@ use dbm_args::arguments::{
     base, flag, insist, key, layout, quick, raw_key, text, timeout, unsigned, verbose, wide,
 };
 use dbm_args::{Form, NotationOptions, Words, aliased_subcommand, form, has_flag, notation, word};
-use dbm_reports::{Given, Report, ReportFault, Subcommand, answer_status, look, word_asked};
+use dbm_reports::{Given, Notes, Report, ReportFault, Subcommand, answer_status, look, word_asked};
 use dbm_script::{Answer, Notation, answer_command};
 use sdbm_files::Image;
 use std::alloc::{AllocError, Global};
@@ -155,6 +155,7 @@ fn look_raw(
         text: value_bytes(alloc, answer)?,
         status,
         database: None,
+        notes: Notes::none(),
     })
 }
 

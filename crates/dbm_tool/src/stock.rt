@@ -5,14 +5,12 @@ ghost use Rattle.dbm_messages.specs.declared.fault.ServeFault.TheVariants.{NoMem
 ghost use Rattle.stock_names.specs.declared.ProgramWord.TheVariants.{Unknown};
 ghost use Rattle.dbm_tool.specs.Stock.{IsStockFile, file_in, word_in};
 
-use crate::quick::print_quick;
+use crate::printing::print_lines;
 use dbm_command_line::Wish;
 use dbm_messages::ServeFault;
 use dbm_programs::Programs;
-use dbm_stderr::Kept;
 use std::alloc::Global;
 use std::fs::File;
-use std::io::Read;
 use std::rt::Runtime;
 use stock_names::{ProgramWord, read_word};
 
@@ -53,17 +51,16 @@ pub fn stock_file(alloc: Global, wish: &Wish<'_>) -> Result<Option<Vec<u8>>, Ser
     }
 }
 
-/// Prints the stock programs, or one of them.
+/// Prints the stock programs, or one of them. Returns `false` if standard output is a pipe whose reader is gone.
 ///
 /// # Errors
 /// `NoStock` if no stock program has the name, `Write` if the text cannot be printed, and `NoMemory`.
-pub fn print_programs<R: Runtime<File = File> + AllocGlobal, I: Read>(
+pub fn print_programs<R: Runtime<File = File> + AllocGlobal>(
     rt: &R,
     programs: &Programs<'_>,
-    reader: &mut Kept<I>,
-) -> Result<(), ServeFault> {
+) -> Result<bool, ServeFault> {
     let Some(text) = programs.text(rt.alloc())? else {
         return Err(ServeFault::NoStock);
     };
-    print_quick(rt, true, text.as_bytes(), reader)
+    print_lines(rt, text.as_bytes())
 }

@@ -6,13 +6,15 @@ ghost use Rattle.dbm_args.specs.Given.{has_words};
 ghost use Rattle.dbm_reports.specs.Causes.{IsCaused};
 ghost use Rattle.dbm_reports.specs.Served.{IsPrinted, IsUnserved};
 ghost use Rattle.dbm_databases.specs.Keys as spec;
-ghost use Rattle.dbm_databases.specs.Keys.{KeysAsks, keys_in};
+ghost use Rattle.dbm_databases.specs.Keys.{KeysAsks, keys_in, keys_head};
 
 use crate::rows::keys_listing;
 use crate::streamed::serve_rows;
 use clap::{ArgMatches, Command};
 use dbm_args::arguments::{base, insist, null, prefix, text, timeout, unsigned, verbose, wide};
-use dbm_args::{Form, Named, NotationOptions, Words, form, has_flag, notation, subcommand, word};
+use dbm_args::{
+    Form, Head, Named, NotationOptions, Words, form, has_flag, notation, subcommand, word,
+};
 use dbm_reports::{Given, Outcome, ReportFault, Unserved};
 use dbm_script::Notation;
 use std::alloc::{AllocError, Global};
@@ -41,6 +43,16 @@ impl<'a> Keys<'a> {
             prefix: word(matches, "prefix"),
             null: has_flag(matches, "null"),
         })
+    }
+
+    /// What it needs beside its own words.
+    pub fn head(&self) -> Head<'a>
+        ensures { result ≡ keys_head self.now }
+    {
+        Head {
+            notation: self.notation,
+            ..Head::on(Some(self.base))
+        }
     }
 
     /// The arguments that messages may show.

@@ -6,7 +6,7 @@ ghost use Rattle.dbm_args.specs.Given.{has_words};
 ghost use Rattle.dbm_reports.specs.Causes.{IsCaused};
 ghost use Rattle.dbm_reports.specs.Served.{IsPrinted, IsUnserved};
 ghost use Rattle.dbm_databases.specs.List as spec;
-ghost use Rattle.dbm_databases.specs.List.{ListAsks, list_in};
+ghost use Rattle.dbm_databases.specs.List.{ListAsks, list_in, list_head};
 
 use crate::rows::pairs_listing;
 use crate::streamed::serve_rows;
@@ -15,7 +15,7 @@ use dbm_args::arguments::{
     base, insist, json, layout, null, prefix, text, timeout, unsigned, verbose, wide,
 };
 use dbm_args::{
-    Form, Named, NotationOptions, Words, aliased_subcommand, form, has_flag, notation, word,
+    Form, Head, Named, NotationOptions, Words, aliased_subcommand, form, has_flag, notation, word,
 };
 use dbm_reports::{Given, Outcome, ReportFault, Unserved};
 use dbm_script::Notation;
@@ -48,6 +48,16 @@ impl<'a> List<'a> {
             null: has_flag(matches, "null"),
             json: has_flag(matches, "json"),
         })
+    }
+
+    /// What it needs beside its own words.
+    pub fn head(&self) -> Head<'a>
+        ensures { result ≡ list_head self.now }
+    {
+        Head {
+            notation: self.notation,
+            ..Head::on(Some(self.base))
+        }
     }
 
     /// The arguments that messages may show.

@@ -27,7 +27,8 @@ pub fn serve_wish<T: Threads + Wait + Sync, R: Read, W: Write>(
 ) -> Result<Outcome, ServeFault>
     ensures { IsOutcome (service_for wish.entry given.now (R.remaining reader.old)) (writes_files wish.entry) (reads_input wish.entry) (R.remaining reader.old) (R.remaining reader.new) (W.contents writer.old) (W.contents writer.new) result }
 {
-    match notation_by(alloc, wish.notation()) {
+    let head = wish.head();
+    match notation_by(alloc, head.notation) {
         Ok(notation) => serve_in(rt, alloc, &notation, wish, given, reader, writer),
         Err(fault) => Err(ServeFault::from(fault)),
     }

@@ -57,7 +57,7 @@ pub fn serve_quick<R: Runtime<File = File> + AllocGlobal>(
     held: &mut Option<LockedFiles>,
 ) -> Result<Option<PageServed>, ServeFault> {
     let alloc = rt.alloc();
-    let Ok(notation) = notation_by(alloc, wish.notation()) else {
+    let Ok(notation) = notation_by(alloc, wish.head().notation) else {
         return Ok(None);
     };
     let Some((form, asked)) = asked_of(alloc, &notation, wish, bytes.program.as_slice()) else {

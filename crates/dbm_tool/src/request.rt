@@ -23,10 +23,11 @@ pub fn place_of<'a>(wish: &Wish<'a>) -> RunPlace<'a>
     ensures writes { result.writes ≡ writes_files wish.now }
     ensures limit { result.pages_limit ≡ pag_limit }
 {
+    let head = wish.head();
     RunPlace {
-        base: wish.base(),
-        file: file_in(wish.file()),
-        writes: wish.writes(),
+        base: head.base,
+        file: file_in(head.file),
+        writes: head.writes,
         pages_limit: PAG_LIMIT,
         page_size: size_of(&wish.words()),
     }
@@ -70,8 +71,8 @@ pub fn context_of<'a>(request: &Request<'a>) -> DiagnosticContext<'a> {
 fn words_of<'a>(ask: &Ask<'a>) -> Words<'a> {
     match ask {
         Ask::Wish(wish) => Words {
-            base: wish.base(),
-            file: file_or_unknown(wish.file()),
+            base: wish.head().base,
+            file: file_or_unknown(wish.head().file),
             ..wish.words()
         },
         Ask::Session(session) => session.words(),

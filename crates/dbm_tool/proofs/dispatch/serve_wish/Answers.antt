@@ -1,7 +1,7 @@
 use Rattle.std.proofs.Common.{◌≡◌, ℕ, List, Option, Some, Result, Err, refl, subst, sym, ap}
 use Rattle.dbm_command_line.specs.Wishes.{writes_files}
 use Rattle.dbm_messages.specs.Faults.{report_fault}
-use Rattle.dbm_args.specs.declared.options.NotationOptions.{NotationOptions}
+use Rattle.dbm_args.specs.declared.options.Head.{Head}
 use Rattle.dbm_reports.specs.Causes.{IsCaused}
 use Rattle.dbm_reports.specs.Known.{layout_causes}
 use Rattle.dbm_reports.specs.Notations.{notation_by}
@@ -18,7 +18,7 @@ use Rattle.dbm_tool.proofs.dispatch.serve_wish.Goals as goal
 pub returns-in-Ok : goal.returns-in-Ok
 returns-in-Ok g c =
     noted_outcome (notation_for c.args.wish) c.in-Ok.notation (λ n. service_in n c.args.wish c.args.given.now (g.R.Read.remaining c.args.reader.now)) _ _ _ _ _ _ _
-    (subst (λ (options : NotationOptions). notation_by options.text options.layout ≡ Some c.in-Ok.notation) c.notation.ensures c.in-Ok.ensures.ok) c.serve_in.ensures
+    (subst (λ (head : Head). notation_by head.notation.text head.notation.layout ≡ Some c.in-Ok.notation) c.head.ensures c.in-Ok.ensures.ok) c.serve_in.ensures
 
 pub returns-in-Err : goal.returns-in-Err
 returns-in-Err g c =
@@ -29,4 +29,4 @@ returns-in-Err g c =
     (sym (ap (Err {A = Outcome}) c.from.ensures))
     (failed_early (service_for c.args.wish c.args.given.now input) (writes_files c.args.wish) (reads_input c.args.wish) input input old old (report_fault c.in-Err.fault)
     (unlaid (notation_for c.args.wish) known c.in-Err.fault
-    (subst (λ (options : NotationOptions). IsCaused (layout_causes (notation_by options.text options.layout)) c.in-Err.fault) c.notation.ensures c.in-Err.ensures.fault)) (keeps_all old) (λ none. refl))
+    (subst (λ (head : Head). IsCaused (layout_causes (notation_by head.notation.text head.notation.layout)) c.in-Err.fault) c.head.ensures c.in-Err.ensures.fault)) (keeps_all old) (λ none. refl))

@@ -2,7 +2,7 @@
 use Rattle.std.specs.Prelude.{◌≡◌, List, ◌∷◌, codes, IsSomeAnd, Some}
 use Rattle.clap.specs.Words.{Shape, Row}
 use Rattle.dbm_args.specs.Given.{IsForm, IsGiven, IsNotation, IsWord, is_given}
-use Rattle.dbm_databases.specs.declared.list.List.{List as Listed, List}
+use Rattle.dbm_databases.specs.declared.list.List.{List as Listed}
 use Rattle.std.specs.declared.alloc.Global.{Global}
 use Rattle.dbm_script.specs.declared.notations.Notation.{Notation}
 use Rattle.dbm_reports.specs.declared.databases.Given.{Given}
@@ -28,5 +28,5 @@ list_in n list given = record {
 }
 
 -- what it needs beside its own words
-abbrev pub list_head : List → Head
+abbrev pub list_head : Listed → Head
 list_head list = record (head_on (Some list.base)) { notation = list.notation }

@@ -64,7 +64,7 @@ impl<'a> Run<'a> {
 
     /// What it needs beside its own words.
     pub fn head(&self) -> Head<'a>
-        ensures { result ≡ run_head self.now }
+        ensures { result ≡ run_head self.entry.now }
     {
         Head {
             file: Some(self.file),

@@ -5,7 +5,7 @@ use Rattle.dbm_databases.proofs.count.count_chosen.Given as goal
 
 -- the first pairs are counted
 abbrev pub invariant-loop-pair : goal.invariant-loop-pair
-invariant-loop-pair g l = record {
+invariant-loop-pair l = record {
   is : l.count ≡ length (chosen l.prefix (pairs_lent (take l.pair-index l.pairs)));
   few : l.count ≤ l.pair-index;
 }

@@ -14,7 +14,7 @@ returns-in_err-image-clause-fault c =
 
 pub returns-clause-ok : goal.returns-clause-ok
 returns-clause-ok c = (
-  c.in_ok-image.image,
+  c.in_ok-image.field-0.image,
   (
     record {
       runs = c.in_ok-image.ensures.runs;

@@ -1,7 +1,7 @@
 /* Threads that save one base at the same time. The first argument is a folder. The tests are the number of saves for their calls, the data
- * on the disk when a call returns, faults, order, signals, cancelled threads and a fork. tests/c_library builds and runs it. A second
- * argument is the number of changes of each of 64 threads; then the number of their saves is printed. Two threads have to share saves if
- * that is more than 2.
+ * on the disk when a call returns, faults, order, pages that change meanwhile, signals, cancelled threads and a fork. tests/c_library builds
+ * and runs it. A second argument is the number of changes of each of 64 threads; then the number of their saves is printed. Two threads have
+ * to share saves if that is more than 2.
  *
  * This program replaces the flushes. Each takes a millisecond, and copies its file: the copies are the files after a loss of power. */
 #define _GNU_SOURCE
@@ -15,6 +15,7 @@
 #include <stdlib.h>
 #include <string.h>
 #include <sys/stat.h>
+#include <sys/uio.h>
 #include <sys/wait.h>
 #include <time.h>
 #include <unistd.h>
@@ -106,6 +107,19 @@ int fdatasync(int file)
 int fsync(int file)
 {
     return fdatasync(file);
+}
+
+/* Replaces the function of the C library by which a save reads without waiting for the disk. If requested it fails, as if the bytes were on
+ * the disk only. */
+static int cached, is_uncached;
+
+ssize_t preadv2(int file, const struct iovec *pieces, int count, off_t at, int flags)
+{
+    cached++;
+    if (!is_uncached)
+        return preadv(file, pieces, count, at);
+    errno = flags != 0 ? EAGAIN : EINVAL;
+    return -1;
 }
 
 /* ---- threads that wait */
@@ -410,6 +424,56 @@ static void test_slow(void)
     boddurci_close_files(base);
 }
 
+/* The linker puts this in front of pread. If requested each of the next calls first changes two keys, as other threads may while a save
+ * reads. */
+ssize_t __real_pread(int file, void *room, size_t size, off_t at);
+ssize_t __wrap_pread(int file, void *room, size_t size, off_t at);
+
+enum { KEYS = 3000 };
+
+static boddurci_base *moving;
+static int stores, changing;
+
+static int moving_key(int which)
+{
+    return KEYS / 4 * which;
+}
+
+ssize_t __wrap_pread(int file, void *room, size_t size, off_t at)
+{
+    if (stores > 0) {
+        store(moving, moving_key(stores), changing);
+        store(moving, moving_key(stores) + 1, changing);
+        stores--;
+    }
+    return __real_pread(file, room, size, at);
+}
+
+/* A save has the pages that other threads change while it reads, whether it has to wait for the disk or not. Its record, which is the only
+ * one in the log, belongs to the files before. */
+static void test_moving(void)
+{
+    moving = opened("moving");
+    for (int i = 0; i < KEYS; i++)
+        store(moving, i, 0);
+    EXPECT(boddurci_save(moving, NULL) == BODDURCI_DONE);
+    for (changing = 1; changing <= 3; changing++) {
+        int times = changing < 3 ? 1 : 2;
+        boddurci_close_files(moving);
+        moving = boddurci_open_files("moving", 0, NULL);
+        unsigned long before = flushes;
+        cached = 0;
+        is_uncached = changing > 1;
+        store(moving, 1, changing);
+        stores = times;
+        EXPECT(boddurci_save(moving, NULL) == BODDURCI_DONE && stores == 0 && cached != 0 && flushes - before == 1);
+        EXPECT(left_value(1) == changing);
+        for (int i = 1; i <= times; i++)
+            EXPECT(left_value(moving_key(i)) == changing && left_value(moving_key(i) + 1) == changing);
+    }
+    boddurci_close_files(moving);
+}
+
 static atomic_int heard;
 
 static void hear(int number)
@@ -462,6 +526,7 @@ int main(int argc, char **argv)
     test_failing();
     test_order();
     test_slow();
+    test_moving();
     test_disturbed();
     printf("%lu answers as expected\n", looked);
     return 0;

@@ -8,6 +8,7 @@
 #include <string.h>
 #include <sys/mman.h>
 #include <sys/stat.h>
+#include <sys/uio.h>
 #include <unistd.h>
 
 void boddurci_let_go(struct boddurci_bytes *bytes)
@@ -243,10 +244,24 @@ int boddurci_move_pages(struct boddurci_bytes *bytes, uint32_t is_wide, boddurci
     return 0;
 }
 
-int boddurci_read_at(int opened, uint64_t at, uint8_t *room, size_t size)
+/* Reads some bytes. It does not wait for the disk if `is_cached`. */
+static ssize_t read_some(int opened, uint64_t at, uint8_t *room, size_t size, int is_cached)
+{
+    if (!is_cached)
+        return pread(opened, room, size, (off_t)at);
+#ifdef RWF_NOWAIT
+    const struct iovec piece = {room, size};
+    return preadv2(opened, &piece, 1, (off_t)at, RWF_NOWAIT);
+#else
+    errno = EAGAIN;
+    return -1;
+#endif
+}
+
+static int read_whole(int opened, uint64_t at, uint8_t *room, size_t size, int is_cached)
 {
     for (size_t done = 0; done < size;) {
-        ssize_t got = pread(opened, room + done, size - done, (off_t)(at + done));
+        ssize_t got = read_some(opened, at + done, room + done, size - done, is_cached);
         if (got < 0 && errno != EINTR)
             return -1;
         if (got == 0) {
@@ -256,4 +271,14 @@ int boddurci_read_at(int opened, uint64_t at, uint8_t *room, size_t size)
         done += got < 0 ? 0 : (size_t)got;
     }
     return 0;
+}
+
+int boddurci_read_at(int opened, uint64_t at, uint8_t *room, size_t size)
+{
+    return read_whole(opened, at, room, size, 0);
+}
+
+int boddurci_read_cached(int opened, uint64_t at, uint8_t *room, size_t size)
+{
+    return read_whole(opened, at, room, size, 1);
 }

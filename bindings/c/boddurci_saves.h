@@ -41,6 +41,9 @@ uint32_t boddurci_fail_by_system(boddurci_fault *fault, const char *what);
 /* Reads bytes of an open file from an offset on. Bytes past its end are zeros. */
 int boddurci_read_at(int opened, uint64_t at, uint8_t *room, size_t size);
 
+/* The same, but if the bytes are not in the page cache of the system it fails instead of waiting for the disk. */
+int boddurci_read_cached(int opened, uint64_t at, uint8_t *room, size_t size);
+
 void boddurci_let_go(struct boddurci_bytes *bytes);
 
 /* Changes the length of mapped bytes; new bytes are zeros. */
@@ -463,8 +466,15 @@ struct boddurci_group {
     int served;                  /* the number of calls of the last save */
     int others;                  /* the number of calls that waited when the last save ended, and that it served */
     int skips;                   /* the number of saves that do not wait, after a wait in vain */
+    int processors;              /* of the machine */
+    int watchers;                /* the number of threads that watch for the end of a save; atomic */
+    int awaited;                 /* the number of calls that a thread sleeps for before it saves, else 0 */
+    pthread_cond_t came;         /* signalled when they have come */
     int64_t took;                /* how long the last save took, in nanoseconds; atomic */
 };
+
+/* Locks a mutex that is held for a few microseconds at most. It tries for a while, since that takes less time than to sleep and be woken. */
+void boddurci_lock_soon(pthread_mutex_t *mutex);
 
 int boddurci_group_init(struct boddurci_group *group);
 void boddurci_group_destroy(struct boddurci_group *group);
@@ -474,6 +484,35 @@ typedef uint32_t boddurci_saving(boddurci_base *base, int insists, boddurci_faul
 /* Returns the outcome of a save that began after this call. One thread at a time calls `save`, for all calls that wait then, and insists if
  * one of them does. */
 uint32_t boddurci_group_save(struct boddurci_group *group, boddurci_saving *save, boddurci_base *base, int insists, boddurci_fault *fault);
+
+/* ---- boddurci_files.c: an open base; boddurci_save.c saves it */
+
+struct boddurci_base {
+    boddurci db;
+    struct boddurci_place place;
+    struct boddurci_logged logged;
+    uint32_t flags;
+    pid_t process;               /* that has opened the base */
+    struct boddurci_notes notes; /* of the data files, when the base last read or wrote them */
+    int is_noted;                /* the notes describe files that equal the database except on its changed pages */
+    int is_planned;              /* a save has compared their lengths and the directory */
+    int may_have_written;        /* this save has made calls that may change the times of the data files */
+    enum boddurci_change doubt;  /* how the times differed, if a comparison of all pages is still due */
+    char change[100];            /* how another program has changed the data files, until a save overwrites that; else empty */
+    pthread_mutex_t mutex;       /* of db */
+    struct boddurci_group saves; /* of the files; a call that needs both waits for its turn to save before it takes the mutex */
+};
+
+/* Whether a parent of this process has opened the base. */
+int boddurci_is_of_another(const boddurci_base *base);
+
+/* The same calls as boddurci_take and boddurci_give, for a save, which has tested that the base belongs to this process. */
+boddurci *boddurci_take_own(boddurci_base *base);
+void boddurci_give_own(boddurci_base *base);
+
+/* Marks the log of a writer whose files are those that were read or saved last, then releases BASE.lock. Without a mark it keeps the lock:
+ * older versions, which know only BASE.lock, would write. */
+void boddurci_mark_and_give(boddurci_base *base);
 
 /* ---- boddurci_shared_log.c: the log between the calls of a shared base */
 

@@ -30,9 +30,15 @@
 #   timeout => SECONDS   the longest wait for a process that has the database tied for writing; without it there is no limit
 #   no_wait => 1         tries once
 #   limit => BYTES       the greatest length of BASE.pag, by default 1 GiB, which is also the most
+#   shared => 1          several processes change the database at the same time
 #
 # If the wait is over `tie` dies and names the other process. A change that would make BASE.pag longer than the limit dies and is not made;
 # existing pages stay. Set a limit if strangers choose your keys: they can make BASE.pag as long as the limit.
+#
+# With `shared` the hash holds no lock and no pages between its calls. Each fetch, store and `run` is one durable step among all processes
+# that share the database, so `sync` does nothing. `keys` and `each` find the keys that the database has at that time. `delete` is two steps:
+# a fetch of the value that it returns, and the deletion. `timeout` and `no_wait` are for each call, and a `limit` is not possible, nor is
+# the mode "n". A child that is forked may use the hash.
 #
 # The module needs FFI::Platypus (Debian: libffi-platypus-perl) and the shared object that `./dbm --build-library` makes. It loads the first
 # of these: the file that BODDURCI_LIBRARY names by its absolute path, the one next to this module, the one in out/boddurci of the
@@ -51,8 +57,8 @@ use Scalar::Util qw(refaddr);
 use Time::HiRes qw(clock_gettime CLOCK_MONOTONIC);
 
 # Statuses of boddurci.h and boddurci_files.h, and the texts of some of them. The library has texts for all.
-my ($DONE, $MISSING, $REFUSED, $BAD_TEXT, $CHANGED, $IS_CLOSED, $NO_PROGRAM, $NO_STOCK, $FORKED, $INTERRUPTED)
-    = (0, 1, 5, 6, 8, 16, 20, 24, 39, 41);
+my ($DONE, $MISSING, $BAD_FILES, $REFUSED, $BAD_TEXT, $CHANGED, $IS_CLOSED, $NO_PROGRAM, $NO_STOCK) = (0, 1, 4, 5, 6, 8, 16, 20, 24);
+my ($FILE_FAILED, $LOCKED, $FORKED, $INTERRUPTED) = (32, 33, 39, 41);
 my %WORDS = (
     2  => "the key is there",
     3  => "crowded: no room for the pair, however often its page is split",
@@ -101,7 +107,8 @@ my $ffi = FFI::Platypus->new(api => 1, lib => $library);
 }
 my @bytes = ("string", "size_t");
 my @room = ("opaque", "size_t", "size_t*");
-$ffi->attach(["boddurci_$_->[0]" => "_$_->[0]"], $_->[1], $_->[2])
+my %CALLS;
+$ffi->attach(["boddurci_$_->[0]" => "_$_->[0]"], $_->[1], $_->[2]), $CALLS{$_->[0]} = __PACKAGE__->can("_$_->[0]")
     for (
         ["open_files_within", ["string", "uint32", "sint64", "opaque"] => "opaque"],
         ["files_text",  ["uint32"] => "string"],
@@ -115,10 +122,19 @@ $ffi->attach(["boddurci_$_->[0]" => "_$_->[0]"], $_->[1], $_->[2])
         ["delete",      ["opaque", @bytes] => "uint32"],
         ["assemble",    [@bytes, @room, "size_t*", @room] => "uint32"],
         ["submit",      ["opaque", @bytes, "uint32*", "size_t*", @room] => "uint32"],
-        ["submit_stock", ["opaque", @bytes, "uint32*"] => "uint32"],
+        ["stock",       ["opaque", "string", "uint32*"] => "uint32"],
         ["run",         ["opaque", "uint32", @bytes, @bytes, "uint32", "size_t", "uint64", "uint64*", "uint64*"] => "uint32"],
         ["first",       ["opaque", "opaque"] => "uint32"],
         ["next",        ["opaque", "opaque", @room, @room] => "uint32"],
+        ["open_shared", ["string", "uint32", "opaque"] => "opaque"],
+        ["close_shared", ["opaque"] => "void"],
+        ["shared_wait", ["opaque", "sint64"] => "uint32"],
+        ["shared_fetch", ["opaque", @bytes, @room, "opaque"] => "uint32"],
+        ["shared_store", ["opaque", @bytes, @bytes, "uint32", "opaque"] => "uint32"],
+        ["shared_delete", ["opaque", @bytes, "opaque"] => "uint32"],
+        ["shared_run",  ["opaque", "uint32", @bytes, @bytes, "uint32", "size_t", "uint64", "uint64*", "uint64*", "opaque"] => "uint32"],
+        ["shared_submit", ["opaque", @bytes, "uint32*", "size_t*", @room] => "uint32"],
+        ["shared_stock", ["opaque", "string", "uint32*"] => "uint32"],
     );
 
 # Returns a buffer of $size bytes: a reference to its bytes, which no other scalar shares, and its address and size for a call.
@@ -180,24 +196,30 @@ my %open;
 sub TIEHASH {
     my ($class, $base, $mode, %options) = @_;
     my $flags = $FLAGS{ $mode // "r" } // croak "the mode is r, w, c or n";
-    my $timeout = delete $options{timeout};
-    $timeout = "$timeout" if defined $timeout;
-    my $limit = delete $options{limit};
-    $limit = "$limit" if defined $limit;
+    my ($timeout, $limit) = map { defined $_ ? "$_" : undef } delete @options{"timeout", "limit"};
+    my $is_shared = delete $options{shared};
     $flags |= $options{$_} ? $OPTIONS{$_} // croak "no option $_" : 0 for keys %options;
     my $name = defined $base ? "$base" : "";
     croak "the name has a zero byte" if $name =~ /\0/;
     croak "a timeout is a number of seconds, 0 or more, and less than a billion"
         if defined $timeout && !($timeout =~ /^[0-9.]+$/ && $timeout >= 0 && $timeout < 1e9);
     croak "a limit is a number of bytes of at most 15 digits" if defined $limit && $limit !~ /^[0-9]{1,15}\z/;
+    croak "a shared database has the mode r, w or c, and no limit" if $is_shared && ($flags & 32 || defined $limit);
     _end_left();
-    my $record = { name => $name, reads => $flags & 4, process => $$, token => [] };
+    return Boddurci::Shared->_tied($name, $flags, $timeout) if $is_shared;
+    my $self = $class->_opened($name, $flags, $timeout);
+    _check(_limit($self->_db, $limit)) if defined $limit;
+    # An object that is destroyed before it is returned saves nothing: with the mode n that would be an empty database.
+    return ($$self->{keeps} = 1, $self)[1];
+}
+
+sub _opened {
+    my ($class, $name, $flags, $timeout) = @_;
+    my $record = { name => $name, reads => $flags & 4, process => $$, kind => "", token => [] };
     my $self = bless \$record, $class;
     $open{ refaddr $record } = $record;
     $self->_open($flags, $timeout);
-    _check(_limit($self->_db, $limit)) if defined $limit;
-    # An object that is destroyed before it is returned saves nothing: with the mode n that would be an empty database.
-    return ($record->{keeps} = 1, $self)[1];
+    return $self;
 }
 
 # Neither a database nor its record is copied into the interpreter of another thread.
@@ -213,11 +235,23 @@ sub _db {
     return $$self->{db};
 }
 
+# Makes a call of the library. Returns its status.
+sub _made {
+    my ($self, $call, $writes, @given) = @_;
+    return $CALLS{$call}->($self->_db($writes), @given);
+}
+
+# Submits a program, in a call that uses no file.
+sub _submitted {
+    my ($self, $call, @given) = @_;
+    return $CALLS{"$$self->{kind}$call"}->($self->_db, @given);
+}
+
 sub FETCH {
     my ($self, $key) = @_;
     my @key = _given($key);
     my ($room, @room) = _room($VALUE_MOST);
-    my $status = _fetch($self->_db, @key, @room, \my $length);
+    my $status = $self->_made("fetch", 0, @key, @room, \my $length);
     return undef if $status == $MISSING;
     _check($status);
     return substr $$room, 0, $length;
@@ -231,14 +265,18 @@ sub EXISTS {
 sub STORE {
     my ($self, $key, $value) = @_;
     my @pair = (_given($key), _given($value));
-    _check(_store($self->_db(1), @pair, 1));
+    _check($self->_made("store", 1, @pair, 1));
 }
 
+# Another process that shares the database may delete the key in between.
 sub DELETE {
     my ($self, $key) = @_;
     my @key = _given($key);
     my $value = $self->FETCH($key[0]);
-    _check(_delete($self->_db(1), @key)) if defined $value;
+    return undef unless defined $value;
+    my $status = $self->_made("delete", 1, @key);
+    return undef if $status == $MISSING;
+    _check($status);
     return $value;
 }
 
@@ -302,7 +340,7 @@ sub image {
     my ($self, $image) = @_;
     my @image = _given($image);
     my ($told, @told) = _room($VALUE_MOST);
-    my $status = _submit($self->_db, @image, \my $number, \my $unit, @told, \my $length);
+    my $status = $self->_submitted("submit", @image, \my $number, \my $unit, @told, \my $length);
     croak substr $$told, 0, $length if $status == $REFUSED;
     _check($status);
     return bless { number => $number, of => $$self->{token} }, "Boddurci::Program";
@@ -311,9 +349,9 @@ sub image {
 # Returns the stock program of a name, for `run` of this database only. If there is no such program, dies with the ten names.
 sub stock {
     my ($self, $name) = @_;
-    my @name = _given($name);
-    my $status = _submit_stock($self->_db, @name, \my $number);
-    croak _shown($name[0]), ": ", _files_text($status) if $status == $NO_STOCK;
+    my ($text) = _given($name);
+    my $status = $text =~ /\0/ ? $NO_STOCK : $self->_submitted("stock", $text, \my $number);
+    croak _shown($text), ": ", _files_text($status) if $status == $NO_STOCK;
     _check($status);
     return bless { number => $number, of => $$self->{token} }, "Boddurci::Program";
 }
@@ -345,7 +383,7 @@ sub run {
     my $has_blank = defined $more{blank} ? 1 : 0;
     my ($blank, $now) = map { 0 + "$_" } $more{blank} // 0, $more{now} // time;
     my $number = $self->_number($program);
-    my $status = _run($self->_db(1), $number, @bytes, $has_blank, $blank, $now, \my $end, \my $word);
+    my $status = $self->_made("run", 1, $number, @bytes, $has_blank, $blank, $now, \my $end, \my $word);
     return if $status == $MISSING;
     _check($status);
     return ($end, $word);
@@ -416,7 +454,6 @@ sub _end_left {
 }
 
 sub UNTIE { $_[0]->close }
-
 sub DESTROY { $_[0]->_end }
 
 # At the end of the program everything that a save needs still exists.
@@ -426,11 +463,80 @@ END { _end_left(1) }
 package Boddurci::Changed;
 use overload '""' => sub { $_[0]{text} }, fallback => 1;
 
+# A database that several processes change at the same time: `tie` with `shared` returns it. Its record has a handle and no base.
+package Boddurci::Shared;
+use Carp qw(carp croak);
+use Cwd qw(getcwd);
+use Time::HiRes qw(clock_gettime CLOCK_MONOTONIC);
+our @ISA = ("Boddurci");
+
+# Milliseconds. A call waits as long for a lock, and then again: handlers of signals run in between.
+my $SLICE = 200;
+
+sub _tied {
+    my ($class, $name, $flags, $timeout) = @_;
+    my ($fault, $at) = Boddurci::_room(208);
+    # The working folder may change.
+    $name = (getcwd() // ".") . "/$name" if $name =~ m{^[^/]};
+    my $record = { name => $name, flags => $flags & ~4, reads => $flags & 4, timeout => $timeout, kind => "shared_", token => [] };
+    my $self = bless \$record, $class;
+    $record->{handle} = Boddurci::_open_shared($name, $record->{flags}, $at) // Boddurci::_die_of($fault);
+    my $wait = defined $timeout && $timeout * 1000 < $SLICE ? int($timeout * 1000) : $SLICE;
+    Boddurci::_shared_wait($record->{handle}, $flags & $OPTIONS{no_wait} ? 0 : $wait);
+    return $self;
+}
+
+sub _db {
+    my ($self, $writes) = @_;
+    croak "the database is only read" if $writes && $$self->{reads};
+    return $$self->{handle} // Boddurci::_refuse($IS_CLOSED);
+}
+
+# Makes a call on the files, again while they are locked and the time is not over. Returns its status.
+sub _made {
+    my ($self, $call, $writes, @given) = @_;
+    my ($fault, $at) = Boddurci::_room(208);
+    my $end = defined $$self->{timeout} ? clock_gettime(CLOCK_MONOTONIC) + $$self->{timeout} : undef;
+    my $status = $LOCKED;
+    while ($status == $LOCKED) {
+        $status = $CALLS{"$$self->{kind}$call"}->($self->_db($writes), @given, $at);
+        last if $$self->{flags} & $OPTIONS{no_wait} || (defined $end && clock_gettime(CLOCK_MONOTONIC) >= $end);
+    }
+    Boddurci::_die_of($fault) if $status >= $FILE_FAILED || $status == $BAD_FILES || $status == $IS_CLOSED;
+    my (undef, $system, $text) = unpack $FAULT, $$fault;
+    carp $text if $status == $DONE && $system;
+    return $status;
+}
+
+sub _keys {
+    my ($self) = @_;
+    $self->_db;
+    my $read = Boddurci->_opened($$self->{name}, $$self->{flags} | 4, $$self->{timeout});
+    my @found = $read->_keys;
+    $read->close;
+    return @found;
+}
+
+# Each change is durable.
+sub sync {
+    my ($self, %options) = @_;
+    Boddurci::Stocked::_need_options(\%options, "insist");
+    $self->_db;
+}
+
+sub close {
+    my ($self) = @_;
+    Boddurci::_close_shared(delete $$self->{handle}) if $$self->{handle};
+}
+
+# At the end of the program there is nothing to save, and the library may be gone.
+sub _end { $_[0]->close if ${^GLOBAL_PHASE} ne "DESTRUCT" }
+
 # A key of a database, and the stock program that runs on its record.
 package Boddurci::Stocked;
 use Carp qw(croak);
 
-our @CARP_NOT = ("Boddurci", map { "Boddurci::$_" } qw(Counter Lease FencedLease Semaphore RateLimit));
+our @CARP_NOT = ("Boddurci", map { "Boddurci::$_" } qw(Counter Lease FencedLease Semaphore RateLimit Shared));
 
 my $MOST = "18446744073709551615";
 

@@ -496,6 +496,77 @@ SKIP: {
     untie %db;
 }
 
+# Shared databases. Each call is a step of its own: there is nothing to save, and children use the hash.
+{
+    my $shared = "$base.shared";
+    dies_with(sub { tie my %none, "Boddurci", $shared, "w", shared => 1 }, qr/No such file/);
+    dies_with(sub { tie my %none, "Boddurci", $shared, "n", shared => 1 }, qr/the mode r, w or c, and no limit/);
+    dies_with(sub { tie my %none, "Boddurci", $shared, "c", shared => 1, limit => 1 << 20 }, qr/the mode r, w or c, and no limit/);
+    tie my %one, "Boddurci", $shared, "c", shared => 1;
+    isa_ok(tied(%one), "Boddurci::Shared");
+    ok(!exists $one{a} && !%one && !keys %one);
+    $one{a} = "x\0z";
+    tie my %other, "Boddurci", $shared, "w", shared => 1, timeout => 0.3;
+    is($other{a}, "x\0z");
+    $other{b} = "y" x 900;
+    is_deeply({%one}, { a => "x\0z", b => "y" x 900 });
+    is(delete $one{b}, "y" x 900);
+    is(delete $other{b}, undef);
+    is(join(",", keys %other), "a");
+    dies_with(sub { $one{big} = "x" x 1006 }, qr/too many bytes/);
+    tied(%one)->sync;
+    my $program = tied(%one)->program(text_of("$top/examples/counter.s"));
+    is_deeply([tied(%one)->run($program, "hits")], []);
+    is_deeply([tied(%one)->run($program, "hits", blank => 8)], [1, 0]);
+    dies_with(sub { tied(%other)->run($program, "hits") }, qr/not accepted by this database/);
+    dies_with(sub { tied(%one)->program("mov r0, 0\nhop\n") }, qr/line 2: Mnemonic/);
+    dies_with(sub { tied(%one)->stock($_) }, qr/the names are/) for "nothing", "counter\0";
+    my $lease = tied(%one)->lease("door");
+    ok($lease->acquire(7, 30) && !defined $lease->acquire(8, 30) && $lease->release(7) && !$lease->release(7));
+    my $hits = tied(%one)->counter("hits");
+    my @children = map { my $child = fork // die; $child || do { $hits->add for 1 .. 20; POSIX::_exit(0) } } 1 .. 3;
+    $hits->add for 1 .. 20;
+    waitpid($_, 0), is($?, 0) for @children;
+    is(tied(%other)->counter("hits")->get, 81);
+
+    # Beside a process that has the whole database a change waits, runs handlers of signals meanwhile, and dies.
+    pipe(my $has_it, my $says) or die;
+    my $owner = fork // die;
+    if (!$owner) {
+        tie my %own, "Boddurci", $shared, "w";
+        $own{a} = "2";
+        tied(%own)->sync;
+        syswrite $says, "x";
+        sleep 60;
+        POSIX::_exit(0);
+    }
+    sysread $has_it, my $byte, 1;
+    dies_with(sub { $other{a} = "3" }, qr/process $owner \(.*\) has the database open to be written/);
+    is($other{a}, "2");
+    {
+        local $SIG{ALRM} = sub { die "a signal" };
+        alarm 1;
+        dies_with(sub { $one{a} = "3" }, qr/a signal/);
+    }
+    kill KILL => $owner;
+    waitpid $owner, 0;
+    $one{a} = "3";
+    tie my %reads, "Boddurci", $shared, "r", shared => 1;
+    is($reads{a}, "3");
+    dies_with(sub { $reads{a} = "4" }, qr/only read/);
+    my $db = tied %one;
+    untie %one;
+    dies_with(sub { $db->FETCH("a") }, qr/the database is closed/);
+    dies_with(sub { my @keys = $db->_keys }, qr/the database is closed/);
+    %other = ();
+    is_deeply([keys %reads], []);
+
+    # An open one at the end of the program, and a name that is resolved once.
+    my $script = 'tie our %db, "Boddurci", "shared", "c", shared => 1; chdir "/"; $db{a} = "b"; print keys %db';
+    my ($folder, $file) = $shared =~ m{^(.*)/([^/]*)$};
+    is(qx{cd $folder && $^X -I$top/bindings/perl -MBoddurci -e '$script' 2>&1}, "a");
+}
+
 # The POD has no errors.
 SKIP: {
     skip "no Pod::Checker", 1 unless eval { require Pod::Checker; 1 };

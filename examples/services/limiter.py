@@ -11,6 +11,7 @@ So a key is a hash of the name with a secret, which is made with the database, i
 again.
 """
 
+import contextlib
 import hashlib
 import os
 import pathlib
@@ -72,8 +73,8 @@ class Limiter(socketserver.ThreadingUnixStreamServer):
 
 
 def secret_of(base):
-    """Returns the secret of a database, and makes it if it is missing. The lock of the database keeps other services away meanwhile. A
-    secret of another length ends the service: with an empty one the hash would have no key."""
+    """Returns the secret of a database, and makes it if it is missing. The link is made atomically, so services that start at the same time
+    have one secret. A secret of another length ends the service: with an empty one the hash would have no key."""
     path = pathlib.Path(base + ".secret")
     if not path.exists():
         number, new = tempfile.mkstemp(prefix=f"{path.name}.", dir=path.parent)
@@ -81,11 +82,13 @@ def secret_of(base):
             file.write(os.urandom(SECRET))
             file.flush()
             os.fsync(file.fileno())
-        os.rename(new, path)
+        with contextlib.suppress(FileExistsError):
+            os.link(new, path)
+        os.unlink(new)
         sync_folder(path.parent)
     secret = path.read_bytes()
     if len(secret) != SECRET:
-        sys.exit(f"limiter.py: {str(path)!r} has {len(secret)} bytes, and a secret has {SECRET}: put the right file back, or delete it")
+        sys.exit(f"{str(path)!r} has {len(secret)} bytes, and a secret has {SECRET}: put the right file back, or delete it")
     return secret
 
 

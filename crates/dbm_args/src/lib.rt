@@ -10,7 +10,7 @@ mod shape;
 mod shown;
 
 pub use matched::{access, form, has_flag, notation, word};
-pub use options::{Access, Form, NotationOptions, TimeUnit};
+pub use options::{Access, Form, Head, NotationOptions, TimeUnit};
 pub use printed::{Printed, is_plain};
 pub use shape::{aliased_subcommand, subcommand};
 pub use shown::{Named, Numbers, Subject, Words};

@@ -1,4 +1,6 @@
 //! The values of options that several subcommands take.
+ghost use Rattle.std.specs.Prelude.{◌≡◌};
+ghost use Rattle.dbm_args.specs.Heads.{head_on};
 
 /// The format of a database's files, from `--unsigned` and `--wide`.
 #[derive(Clone, Copy, Debug)]
@@ -16,6 +18,39 @@ pub struct NotationOptions<'a> {
     pub text: bool,
     /// The layout of printed values; all other bytes are text.
     pub layout: Option<&'a str>,
+}
+
+/// What a subcommand needs beside its own words: its files, and the notation of its bytes.
+#[derive(Clone, Copy)]
+pub struct Head<'a> {
+    /// The database whose files are read.
+    pub base: Option<&'a str>,
+    /// The program's file, which is read too.
+    pub file: Option<&'a str>,
+    /// The program's file is an image and not a text.
+    pub image: bool,
+    /// The files of the database are written after it, even if nothing has changed.
+    pub writes: bool,
+    /// The notation of the bytes in its words and lines.
+    pub notation: NotationOptions<'a>,
+}
+
+impl<'a> Head<'a> {
+    /// The head of a subcommand that reads a database, if any, and whose words and lines have no bytes.
+    pub fn on(base: Option<&'a str>) -> Head<'a>
+        ensures { result ≡ head_on base.entry }
+    {
+        Head {
+            base,
+            file: None,
+            image: false,
+            writes: false,
+            notation: NotationOptions {
+                text: false,
+                layout: None,
+            },
+        }
+    }
 }
 
 /// How to open a database's files, from `--timeout`, `--must-exist`, `--quick`, `--verbose` and `--insist`.

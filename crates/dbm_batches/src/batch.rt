@@ -17,7 +17,7 @@ ghost use Rattle.dbm_reports.specs.Served.{IsPrinted, IsUnserved};
 use dbm_args::Form;
 use dbm_messages::ServeFault;
 use dbm_records::{Batch as Asked, database_and_image};
-use dbm_reports::{Given, Report, ReportFault, Served, Unserved, read_input, write_report};
+use dbm_reports::{Given, Notes, Outcome, Report, ReportFault, Unserved, read_input, write_report};
 use dbm_script::{
     LineKind, Notation, RunWords, TasksFault, TimeOfDay, read_number, read_tasks, show_reply,
     spell_out,
@@ -63,7 +63,7 @@ pub fn serve_batch<T: Threads + Wait + Sync, R: Read, W: Write>(
     given: &Given,
     reader: &mut R,
     writer: &mut W,
-) -> Result<Served, Unserved<ServeFault>>
+) -> Result<Outcome, Unserved<ServeFault>>
     ensures ok { IfOk result (λ served. IsPrinted (OnBatch notation.now asked.entry.form given.now asked.entry.workers asked.entry.image asked.entry.time (R.remaining reader.old)) (W.contents writer.old) (W.contents writer.new) served.status served.database) }
     ensures fault { IfErr result (IsUnserved (OnBatch notation.now asked.entry.form given.now asked.entry.workers asked.entry.image asked.entry.time (R.remaining reader.old)) (HasCause (batch_causes notation.now asked.entry.form given.now asked.entry.workers asked.entry.image asked.entry.time (R.remaining reader.old))) (W.contents writer.old) (W.contents writer.new)) }
     ensures database { IfOk result (λ served. is_some served.database ≡ true) }
@@ -151,6 +151,7 @@ fn run_batch<T: Threads + Wait + Sync>(
         text: show_replies(alloc, notation, done.replies.as_slice())?,
         status: 0,
         database: Some(done.database),
+        notes: Notes::none(),
     })
 }
 

@@ -72,6 +72,7 @@ report_of v text small = record {
   text = record { ptr = v.ptr; len = length text; cap = length text; alloc = v.alloc; items = text; ok = (refl, omega arith); small = small };
   status = 0;
   database = None;
+  notes = record { bad_lines = record { first = 0; count = 0 }; refuses_program = false };
 }
 
 pub cut_short : (v : Vec ℕ) (text : List ℕ) (old new : Option (List ℕ)) → length text < 2 ^ 63 → WritesPart old new text → WasCutShort (Prints text) old new

@@ -1,5 +1,5 @@
 -- The arguments of `script`, its possible reports, and the conditions of its faults.
-use Rattle.std.specs.Prelude.{◌≡◌, List, ◌∷◌, Some, codes, Option, ℕ, None, IsSomeAnd}
+use Rattle.std.specs.Prelude.{◌≡◌, List, ◌∷◌, Some, codes, Option, ℕ, None, IsSomeAnd, is_some}
 use Rattle.clap.specs.Words.{Shape, Row}
 use Rattle.std.specs.Borrow.{Bor}
 use Rattle.dbm_args.specs.Given.{IsForm, IsGiven, IsNotation, is_given}
@@ -11,6 +11,8 @@ use Rattle.dbm_databases.specs.Playing.{alone_causes, numbered_causes, script_ca
 use Rattle.dbm_reports.specs.Known.{Known}
 use Rattle.dbm_reports.specs.Reports.{OnDatabase}
 use Rattle.dbm_args.specs.CommandLine.{flag, valued_option, subcommand, writing_in}
+use Rattle.dbm_args.specs.Heads.{head_on}
+use Rattle.dbm_args.specs.declared.options.Head.{Head}
 
 abbrev pub script : Shape
 script = subcommand (codes "script") (valued_option (codes "base") ∷ valued_option (codes "max-output") ∷ flag (codes "strict") ∷ flag (codes "clock") ∷ writing_in)
@@ -29,3 +31,7 @@ script_in n (Some base) script given input = record {
   reports = λ report. IsSomeAnd (output_limit script.max_output) (λ most. OnDatabase script.form given (PlaysOn script.strict n (spelled_input script.time input) most report));
   causes = numbered_causes (output_limit script.max_output) (script_causes n script.form given script.time input);
 }
+
+-- what it needs beside its own words
+abbrev pub script_head : Script → Head
+script_head script = record (head_on script.base) { writes = is_some script.base; notation = script.notation }

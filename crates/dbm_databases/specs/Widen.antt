@@ -1,5 +1,5 @@
 -- The arguments of `widen`, its possible reports, and the conditions of its faults.
-use Rattle.std.specs.Prelude.{◌≡◌, false, List, ◌∷◌, Some, codes, Bool}
+use Rattle.std.specs.Prelude.{◌≡◌, false, List, ◌∷◌, Some, codes, Bool, true}
 use Rattle.clap.specs.Words.{Shape, Row}
 use Rattle.dbm_args.specs.declared.options.Form.{Form}
 use Rattle.dbm_args.specs.Given.{IsWord, is_given}
@@ -13,6 +13,8 @@ use Rattle.sdbm_addr.specs.Database.{Database, map_of}
 use Rattle.sdbm_files.specs.Widened.{widened}
 use Rattle.dbm_reports.specs.declared.report.Report.{Report}
 use Rattle.dbm_args.specs.CommandLine.{required_word, flag, subcommand, writing_access}
+use Rattle.dbm_args.specs.Heads.{head_on}
+use Rattle.dbm_args.specs.declared.options.Head.{Head}
 
 abbrev pub widen : Shape
 widen = subcommand (codes "widen") (required_word (codes "BASE") ∷ flag (codes "unsigned") ∷ writing_access)
@@ -36,3 +38,7 @@ widen_in widen given = record {
   reports = λ report. OnDatabase (small_form widen.unsigned) given (Widens report);
   causes = opening_causes (small_form widen.unsigned) given;
 }
+
+-- what it needs beside its own words
+abbrev pub widen_head : Widen → Head
+widen_head widen = record (head_on (Some widen.base)) { writes = true }

@@ -4,12 +4,12 @@ ghost use Rattle.clap.specs.Words.{found_of, rows_of};
 ghost use Rattle.dbm_args.specs.CommandLine.{IsSubcommand};
 ghost use Rattle.dbm_args.specs.Given.{has_words};
 ghost use Rattle.dbm_databases.specs.Check as spec;
-ghost use Rattle.dbm_databases.specs.Check.{CheckAsks};
+ghost use Rattle.dbm_databases.specs.Check.{CheckAsks, check_head};
 ghost use Rattle.dbm_databases.specs.Listings.{Counts};
 
 use clap::{ArgMatches, Command};
 use dbm_args::arguments::{base, insist, json, timeout, unsigned, verbose, wide};
-use dbm_args::{Form, Words, form, has_flag, subcommand, word};
+use dbm_args::{Form, Head, Words, form, has_flag, subcommand, word};
 use dbm_reports::{Given, Report, ReportFault, Subcommand, open, printed, show_ok};
 use dbm_script::Notation;
 use dbm_stats::show_count_object;
@@ -36,6 +36,13 @@ impl<'a> Check<'a> {
             form: form(matches),
             json: has_flag(matches, "json"),
         })
+    }
+
+    /// What it needs beside its own words.
+    pub fn head(&self) -> Head<'a>
+        ensures { result ≡ check_head self.now }
+    {
+        Head::on(Some(self.base))
     }
 
     /// The arguments that messages may show.

@@ -6,14 +6,16 @@ ghost use Rattle.dbm_args.specs.Given.{has_words};
 ghost use Rattle.dbm_reports.specs.Causes.{IsCaused};
 ghost use Rattle.dbm_reports.specs.Served.{IsPrinted, IsUnserved};
 ghost use Rattle.dbm_databases.specs.Keys as spec;
-ghost use Rattle.dbm_databases.specs.Keys.{KeysAsks, keys_in};
+ghost use Rattle.dbm_databases.specs.Keys.{KeysAsks, keys_in, keys_head};
 
 use crate::rows::keys_listing;
 use crate::streamed::serve_rows;
 use clap::{ArgMatches, Command};
 use dbm_args::arguments::{base, insist, null, prefix, text, timeout, unsigned, verbose, wide};
-use dbm_args::{Form, Named, NotationOptions, Words, form, has_flag, notation, subcommand, word};
-use dbm_reports::{Given, ReportFault, Served, Unserved};
+use dbm_args::{
+    Form, Head, Named, NotationOptions, Words, form, has_flag, notation, subcommand, word,
+};
+use dbm_reports::{Given, Outcome, ReportFault, Unserved};
 use dbm_script::Notation;
 use std::alloc::{AllocError, Global};
 use std::io::Write;
@@ -43,6 +45,16 @@ impl<'a> Keys<'a> {
         })
     }
 
+    /// What it needs beside its own words.
+    pub fn head(&self) -> Head<'a>
+        ensures { result ≡ keys_head self.now }
+    {
+        Head {
+            notation: self.notation,
+            ..Head::on(Some(self.base))
+        }
+    }
+
     /// The arguments that messages may show.
     pub fn words(&self) -> Words<'a> {
         Words {
@@ -68,7 +80,7 @@ impl<'a> Keys<'a> {
         notation: &Notation<Global>,
         given: &Given,
         writer: &mut W,
-    ) -> Result<Served, Unserved<ReportFault>>
+    ) -> Result<Outcome, Unserved<ReportFault>>
         ensures ok { IfOk result (λ served. IsPrinted (keys_in notation.now self.now given.now).reports (W.contents writer.old) (W.contents writer.new) served.status served.database) }
         ensures fault { IfErr result (IsUnserved (keys_in notation.now self.now given.now).reports (IsCaused (keys_in notation.now self.now given.now).causes) (W.contents writer.old) (W.contents writer.new)) }
         ensures database { IfOk result (λ served. is_some served.database ≡ false) }

@@ -6,7 +6,7 @@ ghost use Rattle.dbm_args.specs.Given.{has_words};
 ghost use Rattle.dbm_reports.specs.Causes.{IsCaused};
 ghost use Rattle.dbm_reports.specs.Served.{IsPrinted, IsUnserved};
 ghost use Rattle.dbm_databases.specs.List as spec;
-ghost use Rattle.dbm_databases.specs.List.{ListAsks, list_in};
+ghost use Rattle.dbm_databases.specs.List.{ListAsks, list_in, list_head};
 
 use crate::rows::pairs_listing;
 use crate::streamed::serve_rows;
@@ -15,9 +15,9 @@ use dbm_args::arguments::{
     base, insist, json, layout, null, prefix, text, timeout, unsigned, verbose, wide,
 };
 use dbm_args::{
-    Form, Named, NotationOptions, Words, aliased_subcommand, form, has_flag, notation, word,
+    Form, Head, Named, NotationOptions, Words, aliased_subcommand, form, has_flag, notation, word,
 };
-use dbm_reports::{Given, ReportFault, Served, Unserved};
+use dbm_reports::{Given, Outcome, ReportFault, Unserved};
 use dbm_script::Notation;
 use std::alloc::{AllocError, Global};
 use std::io::Write;
@@ -50,6 +50,16 @@ impl<'a> List<'a> {
         })
     }
 
+    /// What it needs beside its own words.
+    pub fn head(&self) -> Head<'a>
+        ensures { result ≡ list_head self.now }
+    {
+        Head {
+            notation: self.notation,
+            ..Head::on(Some(self.base))
+        }
+    }
+
     /// The arguments that messages may show.
     pub fn words(&self) -> Words<'a> {
         Words {
@@ -75,7 +85,7 @@ impl<'a> List<'a> {
         notation: &Notation<Global>,
         given: &Given,
         writer: &mut W,
-    ) -> Result<Served, Unserved<ReportFault>>
+    ) -> Result<Outcome, Unserved<ReportFault>>
         ensures ok { IfOk result (λ served. IsPrinted (list_in notation.now self.now given.now).reports (W.contents writer.old) (W.contents writer.new) served.status served.database) }
         ensures fault { IfErr result (IsUnserved (list_in notation.now self.now given.now).reports (IsCaused (list_in notation.now self.now given.now).causes) (W.contents writer.old) (W.contents writer.new)) }
         ensures database { IfOk result (λ served. is_some served.database ≡ false) }

@@ -6,10 +6,12 @@ ghost use Rattle.dbm_reports.specs.Causes.{IsCaused};
 ghost use Rattle.dbm_reports.specs.Reports.{OnDatabase};
 ghost use Rattle.dbm_databases.specs.Playing.{Plays, PlaysAs, PlaysAlone, PlaysOn, alone_causes, output_limit, play_causes, script_causes, spelled_input};
 
-use crate::strict::has_bad_line;
+use crate::strict::{find_bad_lines, has_bad_line};
 use dbm_args::Form;
-use dbm_reports::{Given, Report, ReportFault, key_bytes_of, open, page_size_of, read_input};
-use dbm_script::{LineKind, Notation, TimeOfDay, read_number, run_spelled, spell_out};
+use dbm_reports::{
+    Given, Notes, Report, ReportFault, key_bytes_of, open, page_size_of, read_input,
+};
+use dbm_script::{LineKind, Notation, ScriptRun, TimeOfDay, read_number, run_spelled, spell_out};
 use sdbm_files::Image;
 use std::alloc::Global;
 use std::io::Read;
@@ -45,7 +47,12 @@ pub fn report_alone<R: Read>(
 {
     let image = Image::empty(alloc, key_bytes_of(form), page_size_of(form));
     let script = read_input(alloc, reader)?;
-    let Report { text, status, .. } = play_as(
+    let Report {
+        text,
+        status,
+        notes,
+        ..
+    } = play_as(
         alloc,
         notation,
         image,
@@ -58,6 +65,7 @@ pub fn report_alone<R: Read>(
         text,
         status,
         database: None,
+        notes,
     })
 }
 
@@ -125,10 +133,12 @@ fn play_strictly(
     let lines = spell_out(alloc, LineKind::OfScript, time, script)?;
     let bad = has_bad_line(alloc, notation, lines.as_slice())?;
     if bad {
+        let bad_lines = find_bad_lines(alloc, notation, lines.as_slice())?;
         return Ok(Report {
             text: Vec::new(alloc),
             status: BARRED,
             database: Some(image),
+            notes: Notes::of_lines(bad_lines),
         });
     }
     play(alloc, notation, image, time, script, most)
@@ -146,10 +156,15 @@ fn play(
     ensures ok { IfOk result (λ report. (after : Database) × (Plays notation.now image (Some (spelled LineKind.OfScript time script.now)) most after report × (report.database ≡ Some after))) }
     ensures fault { IfErr result (IsCaused (play_causes notation.now image (Some (spelled LineKind.OfScript time script.now)) most)) }
 {
-    let (image, text) = run_spelled(alloc, notation, image, time, script, most)?;
+    let ScriptRun {
+        image,
+        text,
+        bad_lines,
+    } = run_spelled(alloc, notation, image, time, script, most)?;
     Ok(Report {
         text,
         status: 0,
         database: Some(image),
+        notes: Notes::of_lines(bad_lines),
     })
 }

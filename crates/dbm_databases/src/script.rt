@@ -4,14 +4,16 @@ ghost use Rattle.clap.specs.Words.{found_of, rows_of};
 ghost use Rattle.dbm_args.specs.CommandLine.{IsSubcommand};
 ghost use Rattle.dbm_args.specs.Given.{has_words};
 ghost use Rattle.dbm_databases.specs.Script as spec;
-ghost use Rattle.dbm_databases.specs.Script.{ScriptAsks};
+ghost use Rattle.dbm_databases.specs.Script.{ScriptAsks, script_head};
 
 use crate::playing::{output_limit, report_alone, report_played};
 use clap::{ArgMatches, Command};
 use dbm_args::arguments::{
     flag, insist, layout, must_exist, text, timeout, unsigned, valued_option, verbose, wide,
 };
-use dbm_args::{Form, NotationOptions, Numbers, Words, form, has_flag, notation, subcommand, word};
+use dbm_args::{
+    Form, Head, NotationOptions, Numbers, Words, form, has_flag, notation, subcommand, word,
+};
 use dbm_reports::{Given, Report, ReportFault, Subcommand};
 use dbm_script::{Notation, TimeOfDay};
 use std::alloc::{AllocError, Global};
@@ -48,6 +50,17 @@ impl<'a> Script<'a> {
             clock: has_flag(matches, "clock"),
             time: None,
         })
+    }
+
+    /// What it needs beside its own words.
+    pub fn head(&self) -> Head<'a>
+        ensures { result ≡ script_head self.now }
+    {
+        Head {
+            writes: self.base.is_some(),
+            notation: self.notation,
+            ..Head::on(self.base)
+        }
     }
 
     /// The arguments that messages may show.

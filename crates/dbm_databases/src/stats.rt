@@ -4,12 +4,12 @@ ghost use Rattle.clap.specs.Words.{found_of, rows_of};
 ghost use Rattle.dbm_args.specs.CommandLine.{IsSubcommand};
 ghost use Rattle.dbm_args.specs.Given.{has_words};
 ghost use Rattle.dbm_databases.specs.Stats as spec;
-ghost use Rattle.dbm_databases.specs.Stats.{StatsAsks};
+ghost use Rattle.dbm_databases.specs.Stats.{StatsAsks, stats_head};
 ghost use Rattle.dbm_databases.specs.Listings.{Figures, figures_shown};
 
 use clap::{ArgMatches, Command};
 use dbm_args::arguments::{base, insist, json, timeout, unsigned, verbose, wide};
-use dbm_args::{Form, Words, form, has_flag, subcommand, word};
+use dbm_args::{Form, Head, Words, form, has_flag, subcommand, word};
 use dbm_reports::{Given, Report, ReportFault, Subcommand, open, printed};
 use dbm_script::Notation;
 use dbm_stats::{Stats as Numbers, figures_object, figures_text, stats_of};
@@ -36,6 +36,13 @@ impl<'a> Stats<'a> {
             form: form(matches),
             json: has_flag(matches, "json"),
         })
+    }
+
+    /// What it needs beside its own words.
+    pub fn head(&self) -> Head<'a>
+        ensures { result ≡ stats_head self.now }
+    {
+        Head::on(Some(self.base))
     }
 
     /// The arguments that messages may show.

@@ -14,7 +14,7 @@ use crate::chosen::open_asked;
 use crate::rows::{Listing, show_chosen};
 use byte_text::{CutShort, write_all};
 use dbm_args::Form;
-use dbm_reports::{Given, ReportFault, Served, Unserved};
+use dbm_reports::{Given, Notes, Outcome, ReportFault, Unserved};
 use dbm_script::Notation;
 use sdbm_files::Image;
 use std::alloc::{AllocError, Global};
@@ -43,7 +43,7 @@ pub fn serve_rows<W: Write>(
     prefix: Option<&str>,
     listing: Listing,
     writer: &mut W,
-) -> Result<Served, Unserved<ReportFault>>
+) -> Result<Outcome, Unserved<ReportFault>>
     ensures ok { IfOk result (λ served. IsPrinted (λ report. IsSomeAnd (prefix_asked notation.now prefix.entry) (λ begin. OnDatabase form given.now (Lists notation.now listing begin report))) (W.contents writer.old) (W.contents writer.new) served.status served.database) }
     ensures fault { IfErr result (IsUnserved (λ report. IsSomeAnd (prefix_asked notation.now prefix.entry) (λ begin. OnDatabase form given.now (Lists notation.now listing begin report))) (IsCaused (listing_causes notation.now form given.now prefix.entry)) (W.contents writer.old) (W.contents writer.new)) }
     ensures database { IfOk result (λ served. served.database ≡ None) }
@@ -65,7 +65,7 @@ fn print_rows<W: Write>(
     listing: Listing,
     prefix: &[u8],
     writer: &mut W,
-) -> Result<Served, Unserved<ReportFault>>
+) -> Result<Outcome, Unserved<ReportFault>>
     ensures ok { IfOk result (λ served. IsPrinted (λ report. Lists notation.now listing prefix.now report image.now) (W.contents writer.old) (W.contents writer.new) served.status served.database) }
     ensures fault { IfErr result (IsUnserved (λ report. Lists notation.now listing prefix.now report image.now) (λ fault. fault ≡ ReportFault.NoMemory) (W.contents writer.old) (W.contents writer.new)) }
     ensures database { IfOk result (λ served. served.database ≡ None) }
@@ -78,9 +78,10 @@ fn print_rows<W: Write>(
         return Err(Unserved::Unreported(ReportFault::NoMemory));
     };
     match write_rows(alloc, notation, listing, prefix, lent, &mut room, writer) {
-        Ok(()) => Ok(Served {
+        Ok(()) => Ok(Outcome {
             status: 0,
             database: None,
+            notes: Notes::none(),
         }),
         Err(fault) => Err(fault),
     }

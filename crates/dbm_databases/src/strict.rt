@@ -2,7 +2,7 @@
 ghost use Rattle.std.specs.Prelude.{◌≡◌, IfOk};
 ghost use Rattle.dbm_databases.specs.Playing.{has_bad_line, is_bad_line};
 
-use dbm_script::{Notation, first_piece, read_line};
+use dbm_script::{BadLines, LineCount, Notation, first_piece, read_line};
 use std::alloc::{AllocError, Global};
 
 /// Returns `true` if a line of a script is neither empty nor a request.
@@ -26,6 +26,22 @@ pub fn has_bad_line(
         rest = after;
     }
     Ok(false)
+}
+
+/// Returns the bad lines of a script, for a note. No clause says which.
+///
+/// # Errors
+/// `AllocError` if allocation fails.
+pub fn find_bad_lines(
+    alloc: Global,
+    notation: &Notation<Global>,
+    script: &[u8],
+) -> Result<BadLines, AllocError> {
+    let mut counted = LineCount::new();
+    for line in script.split(|byte| *byte == b'\n') {
+        counted.add(!is_bad_line(alloc, notation, line)?);
+    }
+    Ok(counted.bad_lines())
 }
 
 // Returns `true` if a line is neither empty nor a request.

@@ -4,13 +4,13 @@ ghost use Rattle.clap.specs.Words.{found_of, rows_of};
 ghost use Rattle.dbm_args.specs.CommandLine.{IsSubcommand};
 ghost use Rattle.dbm_args.specs.Given.{has_words};
 ghost use Rattle.dbm_databases.specs.Widen as spec;
-ghost use Rattle.dbm_databases.specs.Widen.{WidenAsks};
+ghost use Rattle.dbm_databases.specs.Widen.{WidenAsks, widen_head};
 ghost use Rattle.dbm_databases.specs.Widen.{Widens};
 
 use clap::{ArgMatches, Command};
 use dbm_args::arguments::{base, must_exist, timeout, unsigned, verbose};
-use dbm_args::{Form, Words, has_flag, subcommand, word};
-use dbm_reports::{Given, Report, ReportFault, Subcommand, open, show_ok};
+use dbm_args::{Form, Head, Words, has_flag, subcommand, word};
+use dbm_reports::{Given, Notes, Report, ReportFault, Subcommand, open, show_ok};
 use dbm_script::Notation;
 use sdbm_files::{Image, widen};
 use std::alloc::{AllocError, Global};
@@ -33,6 +33,16 @@ impl<'a> Widen<'a> {
             base: word(matches, "BASE")?,
             unsigned: has_flag(matches, "unsigned"),
         })
+    }
+
+    /// What it needs beside its own words.
+    pub fn head(&self) -> Head<'a>
+        ensures { result ≡ widen_head self.now }
+    {
+        Head {
+            writes: true,
+            ..Head::on(Some(self.base))
+        }
     }
 
     /// The arguments that messages may show.
@@ -109,5 +119,6 @@ fn widen_pages(alloc: Global, image: Image<Global>) -> Result<Report, AllocError
         text: show_ok(alloc, image.count())?,
         status: 0,
         database: Some(image),
+        notes: Notes::none(),
     })
 }

@@ -15,6 +15,8 @@ use Rattle.dbm_reports.specs.declared.report.Report.{Report}
 use Rattle.dbm_args.specs.declared.options.Form.{Form}
 use Rattle.dbm_dump.specs.Causes.{DumpCauses, DumpKnown, bad_format, no_dump}
 use Rattle.dbm_dump.specs.declared.dump.Dump.{Dump}
+use Rattle.dbm_args.specs.Heads.{head_on}
+use Rattle.dbm_args.specs.declared.options.Head.{Head}
 
 abbrev pub dump : Shape
 dump = subcommand (codes "dump") (required_word (codes "BASE") ∷ valued_option (codes "format") ∷ reading_options)
@@ -36,3 +38,7 @@ dump_in dump given = record {
   reports = λ report. IsSomeAnd (format_of dump.format) (λ format. OnDatabase dump.form given (Dumps format report));
   causes = dump_causes (format_of dump.format) dump.form given;
 }
+
+-- what it needs beside its own words
+abbrev pub dump_head : Dump → Head
+dump_head dump = head_on (Some dump.base)

@@ -1,5 +1,5 @@
 -- The arguments of `load`, its results and its errors.
-use Rattle.std.specs.Prelude.{◌≡◌, ℕ, ◌++◌, Bool, cond, List, [], ◌∷◌, Option, Some, None, codes, decimal, IfSome, IsSomeAnd}
+use Rattle.std.specs.Prelude.{◌≡◌, ℕ, ◌++◌, Bool, cond, List, [], ◌∷◌, Option, Some, None, codes, decimal, IfSome, IsSomeAnd, true}
 use Rattle.clap.specs.Words.{Shape, Row}
 use Rattle.sdbm_addr.specs.Database.{Database}
 use Rattle.sdbm_addr.specs.declared.Mode.{Mode}
@@ -19,6 +19,8 @@ use Rattle.dbm_reports.specs.declared.databases.Given.{Given}
 use Rattle.dbm_reports.specs.declared.report.Report.{Report}
 use Rattle.dbm_dump.specs.Causes.{DumpCauses, DumpKnown, bad_format}
 use Rattle.dbm_dump.specs.declared.load.Load.{Load}
+use Rattle.dbm_args.specs.Heads.{head_on}
+use Rattle.dbm_args.specs.declared.options.Head.{Head}
 
 abbrev pub load : Shape
 load = subcommand (codes "load") (required_word (codes "BASE") ∷ valued_option (codes "format") ∷ flag (codes "keep") ∷ writing_options)
@@ -65,3 +67,7 @@ load_in load given input = record {
   reports = λ report. IsSomeAnd (start_of load.format) (λ start. OnDatabase load.form given (Loads start (mode_of load.keep) input report));
   causes = load_causes (start_of load.format) (mode_of load.keep) load.form given input;
 }
+
+-- what it needs beside its own words
+abbrev pub load_head : Load → Head
+load_head load = record (head_on (Some load.base)) { writes = true }

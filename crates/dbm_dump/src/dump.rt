@@ -4,13 +4,13 @@ ghost use Rattle.clap.specs.Words.{found_of, rows_of};
 ghost use Rattle.dbm_args.specs.CommandLine.{IsSubcommand};
 ghost use Rattle.dbm_args.specs.Given.{has_words};
 ghost use Rattle.dbm_dump.specs.Dump as spec;
-ghost use Rattle.dbm_dump.specs.Dump.{DumpAsks, Dumps};
+ghost use Rattle.dbm_dump.specs.Dump.{DumpAsks, Dumps, dump_head};
 
 use crate::copy_fault::CopyFault;
 use crate::{DumpFault, Format, dump_pairs, format_of};
 use clap::{ArgMatches, Command};
 use dbm_args::arguments::{base, insist, timeout, unsigned, valued_option, verbose, wide};
-use dbm_args::{Form, Named, Words, form, subcommand, word};
+use dbm_args::{Form, Head, Named, Words, form, subcommand, word};
 use dbm_reports::{Given, Report, Subcommand, open, printed};
 use dbm_script::Notation;
 use sdbm_files::Image;
@@ -36,6 +36,13 @@ impl<'a> Dump<'a> {
             form: form(matches),
             format: word(matches, "format"),
         })
+    }
+
+    /// What it needs beside its own words.
+    pub fn head(&self) -> Head<'a>
+        ensures { result ≡ dump_head self.now }
+    {
+        Head::on(Some(self.base))
     }
 
     /// Its words as messages show them.

@@ -4,7 +4,7 @@ ghost use Rattle.clap.specs.Words.{found_of, rows_of};
 ghost use Rattle.dbm_args.specs.CommandLine.{IsSubcommand};
 ghost use Rattle.dbm_args.specs.Given.{has_words};
 ghost use Rattle.dbm_dump.specs.Load as spec;
-ghost use Rattle.dbm_dump.specs.Load.{LoadAsks, loaded_line, mode_of};
+ghost use Rattle.dbm_dump.specs.Load.{LoadAsks, loaded_line, mode_of, load_head};
 
 use crate::copy_fault::CopyFault;
 use crate::dump::named_format;
@@ -13,8 +13,8 @@ use clap::{ArgMatches, Command};
 use dbm_args::arguments::{
     base, flag, insist, must_exist, timeout, unsigned, valued_option, verbose, wide,
 };
-use dbm_args::{Form, Words, form, has_flag, subcommand, word};
-use dbm_reports::{Given, Report, Subcommand, open};
+use dbm_args::{Form, Head, Words, form, has_flag, subcommand, word};
+use dbm_reports::{Given, Notes, Report, Subcommand, open};
 use dbm_script::Notation;
 use itoa::Buffer;
 use sdbm_addr::Mode;
@@ -42,6 +42,16 @@ impl<'a> Load<'a> {
             format: word(matches, "format"),
             keep: has_flag(matches, "keep"),
         })
+    }
+
+    /// What it needs beside its own words.
+    pub fn head(&self) -> Head<'a>
+        ensures { result ≡ load_head self.now }
+    {
+        Head {
+            writes: true,
+            ..Head::on(Some(self.base))
+        }
     }
 
     /// Its words as messages show them.
@@ -133,6 +143,7 @@ fn loaded_report(alloc: Global, loaded: Loaded) -> Result<Report, AllocError>
         text: show_loaded(alloc, count)?,
         status: 0,
         database: Some(image),
+        notes: Notes::none(),
     })
 }
 

@@ -4,13 +4,13 @@ ghost use Rattle.clap.specs.Words.{found_of, rows_of};
 ghost use Rattle.dbm_args.specs.CommandLine.{IsSubcommand};
 ghost use Rattle.dbm_args.specs.Given.{has_words};
 ghost use Rattle.dbm_programs.specs.Disasm as spec;
-ghost use Rattle.dbm_programs.specs.Disasm.{DisasmAsks};
+ghost use Rattle.dbm_programs.specs.Disasm.{DisasmAsks, disasm_head};
 
 use bpf_asm::disassemble;
 use bpf_insn::{DecodeFault, decode};
 use clap::{ArgMatches, Command};
 use dbm_args::arguments::file;
-use dbm_args::{Subject, Words, subcommand, word};
+use dbm_args::{Head, Subject, Words, subcommand, word};
 use dbm_reports::{Given, Report, ReportFault, Subcommand, printed};
 use dbm_script::Notation;
 use std::alloc::{AllocError, Global};
@@ -31,6 +31,17 @@ impl<'a> Disasm<'a> {
         Some(Disasm {
             file: word(matches, "FILE")?,
         })
+    }
+
+    /// What it needs beside its own words.
+    pub fn head(&self) -> Head<'a>
+        ensures { result ≡ disasm_head self.now }
+    {
+        Head {
+            file: Some(self.file),
+            image: true,
+            ..Head::on(None)
+        }
     }
 
     /// The arguments that messages may show.

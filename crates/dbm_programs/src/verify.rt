@@ -4,7 +4,7 @@ ghost use Rattle.clap.specs.Words.{found_of, rows_of};
 ghost use Rattle.dbm_args.specs.CommandLine.{IsSubcommand};
 ghost use Rattle.dbm_args.specs.Given.{has_words};
 ghost use Rattle.dbm_programs.specs.Verify as spec;
-ghost use Rattle.dbm_programs.specs.Verify.{VerifyAsks};
+ghost use Rattle.dbm_programs.specs.Verify.{VerifyAsks, verify_head};
 ghost use Rattle.bpf_insn.specs.Code.{IsImage};
 ghost use Rattle.prog_registry.specs.Judged.{IsJudged, IsProgramOf};
 ghost use Rattle.dbm_reports.specs.Causes.{IsCaused, file_causes};
@@ -16,7 +16,7 @@ use bpf_insn::{Code, DecodeFault, decode};
 use bpf_verify::{Examined, Refused, VerifyFault, examine};
 use clap::{ArgMatches, Command};
 use dbm_args::arguments::{file, flag, image};
-use dbm_args::{Words, has_flag, subcommand, word};
+use dbm_args::{Head, Words, has_flag, subcommand, word};
 use dbm_reports::{Given, Report, ReportFault, Subcommand, file_image, printed, refused};
 use dbm_script::Notation;
 use prog_registry::RegFault;
@@ -42,6 +42,17 @@ impl<'a> Verify<'a> {
             image: has_flag(matches, "image"),
             explain: has_flag(matches, "explain"),
         })
+    }
+
+    /// What it needs beside its own words.
+    pub fn head(&self) -> Head<'a>
+        ensures { result ≡ verify_head self.now }
+    {
+        Head {
+            file: Some(self.file),
+            image: self.image,
+            ..Head::on(None)
+        }
     }
 
     /// The arguments that messages may show.
@@ -203,12 +214,14 @@ fn behind(rows: String, last: Report) -> Result<Report, AllocError>
     let Report {
         status,
         database,
+        notes,
         ..
     } = last;
     Ok(Report {
         text,
         status,
         database,
+        notes,
     })
 }
 

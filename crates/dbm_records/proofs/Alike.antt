@@ -26,7 +26,7 @@ use Rattle.store_parts.proofs.PartOf.{changed_kind, changed_size}
 
 -- the same report, with another database
 abbrev pub report_on : Report → Option Database → Report
-report_on report after = record { text = report.text; status = report.status; database = after }
+report_on report after = record { text = report.text; status = report.status; database = after; notes = report.notes }
 
 -- an answer on the part is one on the whole
 pub record IsAnsweredAlike (number : ℕ) (part db : Database) (command : Command Global) (answer : Answer Global) (part' : Database) : Type 0 where

@@ -50,20 +50,20 @@ module _ (n : Notation Global) (asked : PageRequest) (keyed : IsKeyed asked) (pa
         let same : r.part' ≡ after = cc in
         subst (λ (d : Database). IsChangedAlike part.number image db d r.after) same r.changed
 
-  pub looked : report.database ≡ None → (numbers : Vec ℕ) → IsPageResult n asked part kind size (record { text = report.text; status = report.status; numbers = numbers; plan = None })
+  pub looked : report.database ≡ None → (numbers : Vec ℕ) → IsPageResult n asked part kind size (record { text = report.text; status = report.status; notes = report.notes; numbers = numbers; plan = None })
   looked none numbers db pag kinds sizes whole = at (both numbers.items db pag kinds sizes whole)
     where
       at : ((report.database ≡ None) × Answers n asked db report) ⊎ IsReportedAlike part.number image db (Answers n asked db) report
-          → ComesTo n asked (record { text = report.text; status = report.status; numbers = numbers; plan = None }) db pag part.directory.now
+          → ComesTo n asked (record { text = report.text; status = report.status; notes = report.notes; numbers = numbers; plan = None }) db pag part.directory.now
       at (inl (is, answers)) = record { after = None; answers = subst (λ (o : Option Database). Answers n asked db (report_on report o)) is answers; saves = λ files. refl }
       at (inr r) = absurd (let clash : None ≡ Some r.part' = sym none ∙ r.is in cc)
 
   pub changed_so : (after : Database) → report.database ≡ Some after → (numbers : Vec ℕ) (plan : Option (Vec ℕ)) → IsPlannedPart part after numbers.items plan
-      → IsPageResult n asked part kind size (record { text = report.text; status = report.status; numbers = numbers; plan = plan })
+      → IsPageResult n asked part kind size (record { text = report.text; status = report.status; notes = report.notes; numbers = numbers; plan = plan })
   changed_so after some numbers plan planned db pag kinds sizes whole = at (both numbers.items db pag kinds sizes whole)
     where
       at : ((report.database ≡ None) × Answers n asked db report) ⊎ IsReportedAlike part.number image db (Answers n asked db) report
-          → ComesTo n asked (record { text = report.text; status = report.status; numbers = numbers; plan = plan }) db pag part.directory.now
+          → ComesTo n asked (record { text = report.text; status = report.status; notes = report.notes; numbers = numbers; plan = plan }) db pag part.directory.now
       at (inl (none, answers)) = absurd (let clash : None ≡ Some after = sym none ∙ some in cc)
       at (inr r) = record {
         after = Some r.after;

@@ -16,6 +16,8 @@ use Rattle.dbm_script.specs.declared.answers.Answer.{Answer}
 use Rattle.sdbm_addr.specs.Database.{Database}
 use Rattle.store_cmd.specs.declared.Command.{Command}
 use Rattle.dbm_args.specs.CommandLine.{flag, required_word, subcommand, with_alias, reading_in}
+use Rattle.dbm_args.specs.Heads.{head_on}
+use Rattle.dbm_args.specs.declared.options.Head.{Head}
 
 abbrev pub fetch : Shape
 fetch = with_alias (codes "get") (subcommand (codes "fetch") (required_word (codes "BASE") ∷ required_word (codes "KEY") ∷ flag (codes "raw") ∷ flag (codes "raw-key") ∷ flag (codes "quick") ∷ reading_in))
@@ -48,3 +50,7 @@ fetch_in n fetch given = record {
   reports = λ report. OnCommand n fetch.form given (fetch_words (word_asked fetch.raw_key n fetch.key.now)) (λ db command. FetchShows fetch.raw n db command report);
   causes = command_causes n fetch.form given (fetch_words (word_asked fetch.raw_key n fetch.key.now));
 }
+
+-- what it needs beside its own words
+abbrev pub fetch_head : Fetch → Head
+fetch_head fetch = record (head_on (Some fetch.base)) { notation = fetch.notation }

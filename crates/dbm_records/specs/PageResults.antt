@@ -13,9 +13,9 @@ use Rattle.dbm_records.specs.declared.page_request.PageRequest.{PageRequest}
 use Rattle.dbm_records.specs.declared.page_result.PageResult.{PageResult}
 use Rattle.dbm_records.specs.PageRequests.{Answers}
 
--- the report: its text, its status, and the database that has to be saved
+-- the report: its text, its status, its notes, and the database that has to be saved
 abbrev pub report_with : PageResult → Option Database → Report
-report_with quick after = record { text = quick.text; status = quick.status; database = after }
+report_with quick after = record { text = quick.text; status = quick.status; database = after; notes = quick.notes }
 
 -- On the whole files the text and the status are the same. On files that a save has left, the plan turns them into those of the database
 -- that has to be saved then.

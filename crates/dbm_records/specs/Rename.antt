@@ -21,6 +21,8 @@ use Rattle.dbm_reports.specs.Known.{Known}
 use Rattle.dbm_reports.specs.Words.{word_asked}
 use Rattle.dbm_reports.specs.Reports.{answer_status}
 use Rattle.dbm_args.specs.CommandLine.{required_word, flag, subcommand, writing_options}
+use Rattle.dbm_args.specs.Heads.{head_on}
+use Rattle.dbm_args.specs.declared.options.Head.{Head}
 
 abbrev pub rename : Shape
 rename = subcommand (codes "rename") (required_word (codes "BASE") ∷ required_word (codes "KEY") ∷ required_word (codes "NEWKEY") ∷ flag (codes "replace") ∷ flag (codes "raw-key") ∷ flag (codes "text") ∷ writing_options)
@@ -80,3 +82,7 @@ rename_in n rename given = record {
   reports = λ report. OnCommand n rename.form given (store_words (word_asked rename.raw_key n rename.key.now) (word_asked rename.raw_key n rename.new_key.now) (not rename.replace)) (λ db command. RenamesBy n db command report);
   causes = command_causes n rename.form given (store_words (word_asked rename.raw_key n rename.key.now) (word_asked rename.raw_key n rename.new_key.now) (not rename.replace));
 }
+
+-- what it needs beside its own words
+abbrev pub rename_head : Rename → Head
+rename_head rename = record (head_on (Some rename.base)) { writes = true; notation = rename.notation }

@@ -1,5 +1,5 @@
 -- The arguments of `run`, its results and its errors.
-use Rattle.std.specs.Prelude.{◌≡◌, ℕ, List, ◌∷◌, codes}
+use Rattle.std.specs.Prelude.{◌≡◌, ℕ, List, ◌∷◌, codes, Some, true}
 use Rattle.clap.specs.Words.{Shape, Row}
 use Rattle.dbm_args.specs.Given.{IsForm, IsGiven, IsNotation, IsWord, is_given}
 use Rattle.dbm_records.specs.declared.run.Run.{Run}
@@ -10,6 +10,8 @@ use Rattle.dbm_records.specs.Running.{RunTexts, run_causes, OnRun}
 use Rattle.dbm_reports.specs.Known.{Known}
 use Rattle.dbm_reports.specs.Words.{word_asked}
 use Rattle.dbm_args.specs.CommandLine.{required_word, flag, valued_option, subcommand, writing_in}
+use Rattle.dbm_args.specs.Heads.{head_on}
+use Rattle.dbm_args.specs.declared.options.Head.{Head}
 
 abbrev pub run : Shape
 run = subcommand (codes "run") (required_word (codes "BASE") ∷ required_word (codes "KEY") ∷ required_word (codes "FILE") ∷ required_word (codes "ARG") ∷ required_word (codes "BLANK") ∷ required_word (codes "NOW") ∷ valued_option (codes "expect") ∷ flag (codes "image") ∷ flag (codes "raw-key") ∷ flag (codes "quick") ∷ writing_in)
@@ -30,3 +32,7 @@ run_in n run given = record {
   reports = OnRun n run.form given (texts_of n run) run.image;
   causes = run_causes n run.form given (texts_of n run) run.image;
 }
+
+-- what it needs beside its own words
+abbrev pub run_head : Run → Head
+run_head run = record (head_on (Some run.base)) { file = Some run.file; image = run.image; writes = true; notation = run.notation }

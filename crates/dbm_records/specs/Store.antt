@@ -1,5 +1,5 @@
 -- The arguments of `store`, its possible reports, and the conditions of its faults.
-use Rattle.std.specs.Prelude.{◌≡◌, ◌≢◌, ◌&&◌, ℕ, Bool, true, false, List, ◌∷◌, None, codes, Option, IfSome}
+use Rattle.std.specs.Prelude.{◌≡◌, ◌≢◌, ◌&&◌, ℕ, Bool, true, false, List, ◌∷◌, None, codes, Option, IfSome, Some}
 use Rattle.std.specs.Str.{bytes_eq}
 use Rattle.store_cmd.specs.declared.Command.{Command}
 use Rattle.store_cmd.specs.declared.Command.TheVariants as asked
@@ -17,6 +17,8 @@ use Rattle.dbm_reports.specs.Known.{Known}
 use Rattle.dbm_reports.specs.Words.{word_asked}
 use Rattle.dbm_reports.specs.Reports.{Changes}
 use Rattle.dbm_args.specs.CommandLine.{required_word, flag, subcommand, with_alias, writing_in}
+use Rattle.dbm_args.specs.Heads.{head_on}
+use Rattle.dbm_args.specs.declared.options.Head.{Head}
 
 abbrev pub store : Shape
 store = with_alias (codes "put") (subcommand (codes "store") (required_word (codes "BASE") ∷ required_word (codes "KEY") ∷ required_word (codes "VALUE") ∷ flag (codes "insert") ∷ flag (codes "raw-key") ∷ flag (codes "raw-value") ∷ flag (codes "quick") ∷ writing_in))
@@ -62,3 +64,7 @@ store_by true n store given input = record {
 
 abbrev pub store_in : Notation Global → Store → Given → Option (List ℕ) → Known
 store_in n store given input = store_by (takes_input store) n store given input
+
+-- what it needs beside its own words
+abbrev pub store_head : Store → Head
+store_head store = record (head_on (Some store.base)) { writes = true; notation = store.notation }

@@ -4,13 +4,15 @@ ghost use Rattle.clap.specs.Words.{found_of, new_rule, rows_of, rule_of};
 ghost use Rattle.dbm_args.specs.CommandLine.{IsSubcommand};
 ghost use Rattle.dbm_args.specs.Given.{has_words};
 ghost use Rattle.dbm_records.specs.Batch as spec;
-ghost use Rattle.dbm_records.specs.Batch.{BatchAsks};
+ghost use Rattle.dbm_records.specs.Batch.{BatchAsks, batch_head};
 
 use clap::{Arg, ArgMatches, Command};
 use dbm_args::arguments::{
     base, file, flag, image, insist, layout, must_exist, text, timeout, unsigned, verbose, wide,
 };
-use dbm_args::{Form, NotationOptions, Numbers, Words, form, has_flag, notation, subcommand, word};
+use dbm_args::{
+    Form, Head, NotationOptions, Numbers, Words, form, has_flag, notation, subcommand, word,
+};
 use dbm_script::TimeOfDay;
 use std::alloc::{AllocError, Global};
 
@@ -49,6 +51,19 @@ impl<'a> Batch<'a> {
             clock: has_flag(matches, "clock"),
             time: None,
         })
+    }
+
+    /// What it needs beside its own words.
+    pub fn head(&self) -> Head<'a>
+        ensures { result ≡ batch_head self.now }
+    {
+        Head {
+            file: Some(self.file),
+            image: self.image,
+            writes: true,
+            notation: self.notation,
+            ..Head::on(Some(self.base))
+        }
     }
 
     /// Its words as messages show them.

@@ -4,14 +4,16 @@ ghost use Rattle.clap.specs.Words.{found_of, rows_of};
 ghost use Rattle.dbm_args.specs.CommandLine.{IsSubcommand};
 ghost use Rattle.dbm_args.specs.Given.{has_words};
 ghost use Rattle.dbm_records.specs.Delete as spec;
-ghost use Rattle.dbm_records.specs.Delete.{DeleteAsks};
+ghost use Rattle.dbm_records.specs.Delete.{DeleteAsks, delete_head};
 
 use crate::command::{command_on, named_key};
 use clap::{ArgMatches, Command};
 use dbm_args::arguments::{
     base, insist, key, layout, must_exist, quick, raw_key, text, timeout, unsigned, verbose, wide,
 };
-use dbm_args::{Form, NotationOptions, Words, aliased_subcommand, form, has_flag, notation, word};
+use dbm_args::{
+    Form, Head, NotationOptions, Words, aliased_subcommand, form, has_flag, notation, word,
+};
 use dbm_reports::{Given, Report, ReportFault, Subcommand, change, word_asked};
 use dbm_script::Notation;
 use std::alloc::{AllocError, Global};
@@ -41,6 +43,17 @@ impl<'a> Delete<'a> {
             key: word(matches, "KEY")?,
             raw_key: has_flag(matches, "raw-key"),
         })
+    }
+
+    /// What it needs beside its own words.
+    pub fn head(&self) -> Head<'a>
+        ensures { result ≡ delete_head self.now }
+    {
+        Head {
+            writes: true,
+            notation: self.notation,
+            ..Head::on(Some(self.base))
+        }
     }
 
     /// The arguments that messages may show.

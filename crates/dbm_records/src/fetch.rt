@@ -4,7 +4,7 @@ ghost use Rattle.clap.specs.Words.{found_of, rows_of};
 ghost use Rattle.dbm_args.specs.CommandLine.{IsSubcommand};
 ghost use Rattle.dbm_args.specs.Given.{has_words};
 ghost use Rattle.dbm_records.specs.Fetch as spec;
-ghost use Rattle.dbm_records.specs.Fetch.{FetchAsks, FetchShows, ShowsValue, bytes_or_none};
+ghost use Rattle.dbm_records.specs.Fetch.{FetchAsks, FetchShows, ShowsValue, bytes_or_none, fetch_head};
 ghost use Rattle.dbm_records.specs.Commands.{value_in};
 
 use crate::command::{command_on, named_key, value_of};
@@ -12,8 +12,10 @@ use clap::{ArgMatches, Command};
 use dbm_args::arguments::{
     base, flag, insist, key, layout, quick, raw_key, text, timeout, unsigned, verbose, wide,
 };
-use dbm_args::{Form, NotationOptions, Words, aliased_subcommand, form, has_flag, notation, word};
-use dbm_reports::{Given, Report, ReportFault, Subcommand, answer_status, look, word_asked};
+use dbm_args::{
+    Form, Head, NotationOptions, Words, aliased_subcommand, form, has_flag, notation, word,
+};
+use dbm_reports::{Given, Notes, Report, ReportFault, Subcommand, answer_status, look, word_asked};
 use dbm_script::{Answer, Notation, answer_command};
 use sdbm_files::Image;
 use std::alloc::{AllocError, Global};
@@ -47,6 +49,16 @@ impl<'a> Fetch<'a> {
             raw: has_flag(matches, "raw"),
             raw_key: has_flag(matches, "raw-key"),
         })
+    }
+
+    /// What it needs beside its own words.
+    pub fn head(&self) -> Head<'a>
+        ensures { result ≡ fetch_head self.now }
+    {
+        Head {
+            notation: self.notation,
+            ..Head::on(Some(self.base))
+        }
     }
 
     /// The arguments that messages may show.
@@ -155,6 +167,7 @@ fn look_raw(
         text: value_bytes(alloc, answer)?,
         status,
         database: None,
+        notes: Notes::none(),
     })
 }
 

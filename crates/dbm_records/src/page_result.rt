@@ -7,7 +7,7 @@ ghost use Rattle.dbm_records.specs.PageRequests.{IsKeyed, key_in};
 ghost use Rattle.dbm_records.specs.PageResults.{IsPageResult};
 
 use crate::page_request::PageRequest;
-use dbm_reports::Report;
+use dbm_reports::{Notes, Report};
 use dbm_script::Notation;
 use sdbm_addr::{KeyBytes, PageSize};
 use sdbm_saves::Part;
@@ -21,6 +21,8 @@ pub struct PageResult {
     pub text: Vec<u8>,
     /// The exit status.
     pub status: u8,
+    /// What notes say of it.
+    pub notes: Notes,
     /// The numbers of the pages that the plan may write. In the file, all of them except the page that was read have to be zeros.
     pub numbers: Vec<u32>,
     /// The plan that saves it, if the files have to change.
@@ -52,11 +54,13 @@ pub fn answer_on_page(
         text,
         status,
         database,
+        notes,
     } = report;
     let Some(after) = database else {
         return Some(PageResult {
             text,
             status,
+            notes,
             numbers: Vec::new(alloc),
             plan: None,
         });
@@ -65,6 +69,7 @@ pub fn answer_on_page(
     Some(PageResult {
         text,
         status,
+        notes,
         numbers,
         plan,
     })

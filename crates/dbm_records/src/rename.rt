@@ -4,7 +4,7 @@ ghost use Rattle.clap.specs.Words.{found_of, rows_of};
 ghost use Rattle.dbm_args.specs.CommandLine.{IsSubcommand};
 ghost use Rattle.dbm_args.specs.Given.{has_words};
 ghost use Rattle.dbm_records.specs.Rename as spec;
-ghost use Rattle.dbm_records.specs.Rename.{RenameAsks};
+ghost use Rattle.dbm_records.specs.Rename.{RenameAsks, rename_head};
 
 use crate::command::{command_on, named_key};
 use crate::renaming::rename;
@@ -13,7 +13,9 @@ use clap::{ArgMatches, Command};
 use dbm_args::arguments::{
     base, flag, insist, key, must_exist, required_word, text, timeout, unsigned, verbose, wide,
 };
-use dbm_args::{Form, Named, NotationOptions, Words, form, has_flag, notation, subcommand, word};
+use dbm_args::{
+    Form, Head, Named, NotationOptions, Words, form, has_flag, notation, subcommand, word,
+};
 use dbm_reports::{Given, Report, ReportFault, Subcommand, word_asked};
 use dbm_script::Notation;
 use std::alloc::{AllocError, Global};
@@ -47,6 +49,17 @@ impl<'a> Rename<'a> {
             replace: has_flag(matches, "replace"),
             raw_key: has_flag(matches, "raw-key"),
         })
+    }
+
+    /// What it needs beside its own words.
+    pub fn head(&self) -> Head<'a>
+        ensures { result ≡ rename_head self.now }
+    {
+        Head {
+            writes: true,
+            notation: self.notation,
+            ..Head::on(Some(self.base))
+        }
     }
 
     /// The arguments that messages may show.

@@ -3,7 +3,7 @@ ghost use Rattle.std.specs.Prelude.{◌≡◌, IfOk, IfErr, None, Some, true};
 ghost use Rattle.dbm_records.specs.Rename.{RenamesBy, Renames, StoresAnew, is_stored, is_store};
 
 use crate::command::value_of;
-use dbm_reports::{Report, answer_status, shown};
+use dbm_reports::{Notes, Report, answer_status, shown};
 use dbm_script::{Answer, Notation, answer_command};
 use sdbm_addr::{Bytes, Mode};
 use sdbm_files::Image;
@@ -32,6 +32,7 @@ pub fn rename(
         text,
         status,
         database: Some(image),
+        notes: Notes::none(),
     })
 }
 

@@ -4,7 +4,7 @@ ghost use Rattle.clap.specs.Words.{found_of, rows_of};
 ghost use Rattle.dbm_args.specs.CommandLine.{IsSubcommand};
 ghost use Rattle.dbm_args.specs.Given.{has_words};
 ghost use Rattle.dbm_records.specs.Run as spec;
-ghost use Rattle.dbm_records.specs.Run.{RunAsks};
+ghost use Rattle.dbm_records.specs.Run.{RunAsks, run_head};
 ghost use Rattle.dbm_reports.specs.Causes.{IsCaused};
 ghost use Rattle.dbm_records.specs.Run.{texts_by};
 ghost use Rattle.dbm_records.specs.Running.{AreRunWords, expected_code, word_causes};
@@ -16,7 +16,7 @@ use dbm_args::arguments::{
     timeout, unsigned, valued_option, verbose, wide,
 };
 use dbm_args::{
-    Form, Named, NotationOptions, Numbers, Words, form, has_flag, notation, subcommand, word,
+    Form, Head, Named, NotationOptions, Numbers, Words, form, has_flag, notation, subcommand, word,
 };
 use dbm_reports::{Given, Report, ReportFault, Subcommand, word_asked};
 use dbm_script::{Notation, RunWords, read_number, read_run_words};
@@ -60,6 +60,19 @@ impl<'a> Run<'a> {
             image: has_flag(matches, "image"),
             raw_key: has_flag(matches, "raw-key"),
         })
+    }
+
+    /// What it needs beside its own words.
+    pub fn head(&self) -> Head<'a>
+        ensures { result ≡ run_head self.now }
+    {
+        Head {
+            file: Some(self.file),
+            image: self.image,
+            writes: true,
+            notation: self.notation,
+            ..Head::on(Some(self.base))
+        }
     }
 
     /// Its words as messages show them.

@@ -4,7 +4,7 @@ ghost use Rattle.clap.specs.Words.{found_of, rows_of};
 ghost use Rattle.dbm_args.specs.CommandLine.{IsSubcommand};
 ghost use Rattle.dbm_args.specs.Given.{has_words};
 ghost use Rattle.dbm_records.specs.Store as spec;
-ghost use Rattle.dbm_records.specs.Store.{StoreAsks, store_by, takes_input, with_value};
+ghost use Rattle.dbm_records.specs.Store.{StoreAsks, store_by, takes_input, with_value, store_head};
 ghost use Rattle.dbm_reports.specs.Causes.{IsCaused};
 ghost use Rattle.dbm_records.specs.Commands.{store_name};
 
@@ -15,7 +15,7 @@ use dbm_args::arguments::{
     unsigned, verbose, wide,
 };
 use dbm_args::{
-    Form, Named, NotationOptions, Words, aliased_subcommand, form, has_flag, notation, word,
+    Form, Head, Named, NotationOptions, Words, aliased_subcommand, form, has_flag, notation, word,
 };
 use dbm_reports::{Given, Report, ReportFault, Subcommand, change, read_input, word_asked};
 use dbm_script::Notation;
@@ -55,6 +55,17 @@ impl<'a> Store<'a> {
             raw_key: has_flag(matches, "raw-key"),
             raw_value: has_flag(matches, "raw-value"),
         })
+    }
+
+    /// What it needs beside its own words.
+    pub fn head(&self) -> Head<'a>
+        ensures { result ≡ store_head self.now }
+    {
+        Head {
+            writes: true,
+            notation: self.notation,
+            ..Head::on(Some(self.base))
+        }
     }
 
     /// The arguments that messages may show.

@@ -3,6 +3,7 @@
 
 mod answering;
 mod answers;
+mod bad_lines;
 mod commands;
 mod digits;
 mod direct;
@@ -22,6 +23,7 @@ mod tasks;
 
 pub use answering::answer_command;
 pub use answers::{Answer, show_answer, show_reply};
+pub use bad_lines::{BadLines, LineCount};
 pub use byte_text::read_number;
 pub use commands::read_command;
 pub use fault::{LinesFault, ScriptFault};
@@ -33,7 +35,7 @@ pub use numbers::read_blank;
 pub use pieces::first_piece;
 pub use run_words::{RunWords, WordFault, read_run_words};
 pub use running::{RunAsk, answer_run, command_of_run};
-pub use script::{answer_line, run_lines, run_script, run_spelled};
+pub use script::{ScriptRun, answer_line, run_lines, run_script, run_spelled};
 pub use shorthand::{LineKind, TimeOfDay, spell_line, spell_out};
 pub use streams::{SCRIPT_LIMIT, read_all};
 pub use tasks::{TasksFault, read_tasks};

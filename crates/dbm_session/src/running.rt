@@ -210,7 +210,7 @@ fn answer_scripted<H: Host>(
         mut image,
         mut registry,
     } = session;
-    answer_line(
+    let _is_command = answer_line(
         alloc,
         notation,
         &mut image,

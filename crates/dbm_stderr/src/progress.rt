@@ -132,22 +132,22 @@ impl<R: Runtime<File = File> + Clock + AllocGlobal> Meter<R> {
 
 /// A reader of a dump that reports its progress at a terminal once a second.
 #[derive(Drop)]
-pub struct Counted<R: Runtime, I: Read> {
+pub struct ProgressReader<R: Runtime, I: Read> {
     reader: I,
     meter: Option<Meter<R>>,
 }
 
-impl<R: Runtime<File = File> + Clock + AllocGlobal, I: Read> Counted<R, I> {
+impl<R: Runtime<File = File> + Clock + AllocGlobal, I: Read> ProgressReader<R, I> {
     /// Wraps a reader before anything is read. It reports progress only for a `load`.
     pub fn new(rt: &R, reader: I, work: Option<Work>) -> Self {
-        Counted {
+        ProgressReader {
             reader,
             meter: Meter::new(rt, work),
         }
     }
 }
 
-impl<R: Runtime<File = File> + Clock + AllocGlobal, I: Read> Read for Counted<R, I> {
+impl<R: Runtime<File = File> + Clock + AllocGlobal, I: Read> Read for ProgressReader<R, I> {
     ghost remaining = { λ counted. I.remaining counted.reader };
 
     fn read(&mut self, buf: &mut [u8]) -> io::Result<usize> {

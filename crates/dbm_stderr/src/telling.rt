@@ -1,13 +1,14 @@
 //! Prints sentences on standard error after a fault, and notes next to an answer.
 
+use crate::context::DiagnosticContext;
 use crate::findings::{find_object, find_too_long, find_unread, find_unsafe, find_unwritten};
-use crate::told::Told;
 use dbm_args::Words;
 use dbm_messages::{
-    Finding, Look, Sentence, ServeFault, absent_note, finding_sentence, look_for, memory_sentence,
-    object_note, pending_note, refusal_note, sentence_of, unsaved_note,
+    Finding, Look, Sentence, ServeFault, absent_note, bad_lines_note, finding_sentence, look_for,
+    memory_sentence, object_note, pending_note, refusal_note, sentence_of, unsaved_note,
 };
 use dbm_places::{has_no_files, names_of, resolve, sources};
+use dbm_script::BadLines;
 use std::alloc::AllocError;
 use std::fs::File;
 use std::rt::Runtime;
@@ -20,11 +21,11 @@ fn say<R: Runtime>(rt: &R, before: &str, sentence: Sentence<'_>) {
 /// Prints one line: what a fault is about, and what to do.
 pub fn advise<R: Runtime<File = File> + AllocGlobal>(
     rt: &R,
-    told: Option<&Told<'_>>,
+    context: Option<&DiagnosticContext<'_>>,
     fault: ServeFault,
 ) {
-    let done = match told {
-        Some(told) => advise_on(rt, told, fault),
+    let done = match context {
+        Some(context) => advise_on(rt, context, fault),
         None => {
             tell_found(rt, &Words::none(), fault, None);
             Ok(())
@@ -38,15 +39,15 @@ pub fn advise<R: Runtime<File = File> + AllocGlobal>(
 // The same for words that were read. Examines the files again if that shows which of them the fault was about.
 fn advise_on<R: Runtime<File = File> + AllocGlobal>(
     rt: &R,
-    told: &Told<'_>,
+    context: &DiagnosticContext<'_>,
     fault: ServeFault,
 ) -> Result<(), AllocError> {
     // If a name leads elsewhere by now, the message shows the base that the words named.
     let base = match fault {
         ServeFault::Moved(_) | ServeFault::Changed => None,
-        _ => base_behind(rt, told.words.base),
+        _ => base_behind(rt, context.words.base),
     };
-    let words = &with_base(told.words, base.as_ref());
+    let words = &with_base(context.words, base.as_ref());
     match look_for(fault) {
         Look::Nothing => tell_found(rt, words, fault, None),
         Look::Object => tell_object(rt, words, fault),
@@ -54,7 +55,7 @@ fn advise_on<R: Runtime<File = File> + AllocGlobal>(
         Look::Unwritten => tell_unwritten(rt, words, fault)?,
         Look::Unsafe => tell_unsafe(rt, words, fault)?,
         Look::TooLong => {
-            let sources = sources(rt.alloc(), told.place)?;
+            let sources = sources(rt.alloc(), context.place)?;
             tell_found(rt, words, fault, find_too_long(rt, sources.as_slice()));
         }
     }
@@ -153,8 +154,8 @@ pub fn note_that<R: Runtime>(rt: &R, note: Sentence<'_>) {
 }
 
 /// Notes that neither file of the database exists.
-pub fn note_absent<R: Runtime<File = File> + AllocGlobal>(rt: &R, told: &Told<'_>) {
-    if let Some(base) = told.place.base
+pub fn note_absent<R: Runtime<File = File> + AllocGlobal>(rt: &R, context: &DiagnosticContext<'_>) {
+    if let Some(base) = context.place.base
         && has_no_files(rt, Some(base))
     {
         note_that(rt, absent_note(base));
@@ -162,8 +163,8 @@ pub fn note_absent<R: Runtime<File = File> + AllocGlobal>(rt: &R, told: &Told<'_
 }
 
 /// Notes that a save is durable in the redo file, but not yet done in the files of the database.
-pub fn note_pending<R: Runtime>(rt: &R, told: &Told<'_>) {
-    note_waiting_save(rt, told.place.base);
+pub fn note_pending<R: Runtime>(rt: &R, context: &DiagnosticContext<'_>) {
+    note_waiting_save(rt, context.place.base);
 }
 
 /// The same for the files of a base.
@@ -177,17 +178,24 @@ pub fn note_unsaved<R: Runtime>(rt: &R, lines: u64) {
 }
 
 /// Notes that a refused program image is an object file, if it is one.
-pub fn note_object<R: Runtime<File = File>>(rt: &R, told: &Told<'_>) {
-    if let Some(file) = told.place.file
-        && told.words.image
+pub fn note_object<R: Runtime<File = File>>(rt: &R, context: &DiagnosticContext<'_>) {
+    if let Some(file) = context.place.file
+        && context.words.image
         && find_object(rt, file).is_some()
     {
         note_that(rt, object_note(file));
     }
 }
 
+/// Notes the first line of a script that is not a command, and the number of further ones. Prints nothing if all are commands.
+pub fn note_bad_lines<R: Runtime>(rt: &R, bad_lines: BadLines) {
+    if bad_lines.count > 0 {
+        note_that(rt, bad_lines_note(bad_lines.first, bad_lines.count - 1));
+    }
+}
+
 /// Notes why a program is refused, and how to see more.
-pub fn note_refusal<R: Runtime>(rt: &R, told: &Told<'_>, refusal: &str) {
-    let file = told.place.file.unwrap_or("FILE");
-    note_that(rt, refusal_note(refusal, file, told.words.image));
+pub fn note_refusal<R: Runtime>(rt: &R, context: &DiagnosticContext<'_>, refusal: &str) {
+    let file = context.place.file.unwrap_or("FILE");
+    note_that(rt, refusal_note(refusal, file, context.words.image));
 }

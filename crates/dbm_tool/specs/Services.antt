@@ -2,7 +2,7 @@
 use Rattle.std.specs.Prelude.{ℕ, Bool, true, false, List, Option, Some, None}
 use Rattle.std.specs.declared.alloc.Global.{Global}
 use Rattle.dbm_script.specs.declared.notations.Notation.{Notation}
-use Rattle.dbm_command_line.specs.Wishes.{notation_of}
+use Rattle.dbm_command_line.specs.Wishes.{head_of}
 use Rattle.dbm_command_line.specs.declared.wish.Wish.{Wish}
 use Rattle.dbm_command_line.specs.declared.wish.Wish.TheVariants as wish
 use Rattle.dbm_records.specs.declared.batch.Batch.{Batch}
@@ -79,7 +79,7 @@ service_in n (wish.Verify verify) given input = reporting (verify_in verify give
 
 -- the notation of a request, if its layout is valid
 abbrev pub notation_for : Wish → Option (Notation Global)
-notation_for wish = notation_by (notation_of wish).text (notation_of wish).layout
+notation_for wish = notation_by (head_of wish).notation.text (head_of wish).notation.layout
 
 -- the facts in a notation; an unknown layout has no result
 abbrev pub noted : Option (Notation Global) → (Notation Global → Service) → Service

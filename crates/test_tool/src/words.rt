@@ -56,9 +56,9 @@ fn wish_text(global: Global, wish: &Wish<'_>) -> Option<String> {
     write!(
         out,
         " base {:?} file {:?} writes {}",
-        wish.base(),
-        wish.file(),
-        wish.writes()
+        wish.head().base,
+        wish.head().file,
+        wish.head().writes
     )
     .ok()?;
     Some(out)

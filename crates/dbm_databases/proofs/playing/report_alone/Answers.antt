@@ -37,8 +37,8 @@ returns-clause-ok g c =
     let here = asked_known c.args.strict c.args.notation.now c.empty-image.result known (spelled OfScript c.args.time c.as_slice.result.now) c.args.most played.0 c.in_ok-text.field-0 (spelled_read c.args.time _ c.as_slice.result.now _ (rw c.as_slice.ensures.value c.in_ok-script.ensures.ok) refl) played.1.0 in (
       played.0,
       (
-        subst (λ (db : Database). PlaysAs c.args.strict c.args.notation.now db known c.args.most played.0 (record { text = c.in_ok-text.field-0.text; status = c.in_ok-text.field-0.status; database = None })) empty
-            (asked_text c.args.strict c.args.notation.now c.empty-image.result known c.args.most played.0 c.in_ok-text.field-0 (record { text = c.in_ok-text.field-0.text; status = c.in_ok-text.field-0.status; database = None }) refl refl here),
+        subst (λ (db : Database). PlaysAs c.args.strict c.args.notation.now db known c.args.most played.0 (record { text = c.in_ok-text.field-0.text; status = c.in_ok-text.field-0.status; database = None; notes = c.in_ok-text.field-0.notes })) empty
+            (asked_text c.args.strict c.args.notation.now c.empty-image.result known c.args.most played.0 c.in_ok-text.field-0 (record { text = c.in_ok-text.field-0.text; status = c.in_ok-text.field-0.status; database = None; notes = c.in_ok-text.field-0.notes }) refl refl here),
         refl,
       ),
     )

@@ -53,10 +53,10 @@ pub returns-in-Widen : goal.returns-in-Widen
 returns-in-Widen g c = rw (c.in-Widen.is) (reported (widen_in c.in-Widen.widen c.args.given.now) _ _ _ _ _ _ c.serve-in-Widen.result c.outcome_of-in-Widen.result c.outcome_of-in-Widen.ensures c.serve-in-Widen.ensures.ok c.serve-in-Widen.ensures.fault c.serve-in-Widen.ensures.database c.serve-in-Widen.ensures.unread)
 
 pub returns-in-Dump : goal.returns-in-Dump
-returns-in-Dump g c = rw (c.in-Dump.is) (dumped (dump_in c.in-Dump.dump c.args.given.now) _ _ _ _ _ _ c.serve-in-Dump.result c.outcome_of_dump.result c.outcome_of_dump.ensures c.serve-in-Dump.ensures.ok c.serve-in-Dump.ensures.fault c.serve-in-Dump.ensures.database c.serve-in-Dump.ensures.unread)
+returns-in-Dump g c = rw (c.in-Dump.is) (dumped (dump_in c.in-Dump.dump c.args.given.now) _ _ _ _ _ _ c.serve-in-Dump.result c.outcome_of-in-Dump.result c.outcome_of-in-Dump.ensures c.serve-in-Dump.ensures.ok c.serve-in-Dump.ensures.fault c.serve-in-Dump.ensures.database c.serve-in-Dump.ensures.unread)
 
 pub returns-in-Load : goal.returns-in-Load
-returns-in-Load g c = rw (c.in-Load.is) (dumped (load_in c.in-Load.load c.args.given.now (g.R.Read.remaining c.args.reader.now)) _ _ _ _ _ _ c.serve-in-Load.result c.outcome_of_dump-in-Load.result c.outcome_of_dump-in-Load.ensures c.serve-in-Load.ensures.ok c.serve-in-Load.ensures.fault c.serve-in-Load.ensures.database c.serve-in-Load.ensures.unread)
+returns-in-Load g c = rw (c.in-Load.is) (dumped (load_in c.in-Load.load c.args.given.now (g.R.Read.remaining c.args.reader.now)) _ _ _ _ _ _ c.serve-in-Load.result c.outcome_of-in-Load.result c.outcome_of-in-Load.ensures c.serve-in-Load.ensures.ok c.serve-in-Load.ensures.fault c.serve-in-Load.ensures.database c.serve-in-Load.ensures.unread)
 
 pub returns-in-Asm : goal.returns-in-Asm
 returns-in-Asm g c = rw (c.in-Asm.is) (reported (asm_in c.args.given.now) _ _ _ _ _ _ c.serve-in-Asm.result c.outcome_of-in-Asm.result c.outcome_of-in-Asm.ensures c.serve-in-Asm.ensures.ok c.serve-in-Asm.ensures.fault c.serve-in-Asm.ensures.database c.serve-in-Asm.ensures.unread)
@@ -70,4 +70,4 @@ returns-in-Verify g c = rw (c.in-Verify.is) (reported (verify_in c.in-Verify.ver
 pub returns-in-Batch : goal.returns-in-Batch
 returns-in-Batch g c =
     rw (c.in-Batch.is)
-    (batched (batch_in c.args.n.now c.in-Batch.asked c.args.given.now (g.R.Read.remaining c.args.reader.now)) _ _ _ _ _ c.serve_batch.result c.outcome_of_batch.result c.outcome_of_batch.ensures c.serve_batch.ensures.ok c.serve_batch.ensures.fault c.serve_batch.ensures.database)
+    (batched (batch_in c.args.n.now c.in-Batch.asked c.args.given.now (g.R.Read.remaining c.args.reader.now)) _ _ _ _ _ c.serve_batch.result c.outcome_of-in-Batch.result c.outcome_of-in-Batch.ensures c.serve_batch.ensures.ok c.serve_batch.ensures.fault c.serve_batch.ensures.database)

@@ -16,7 +16,7 @@ ghost use Rattle.dbm_reports.specs.Served.{IsPrinted, IsUnserved};
 
 use dbm_args::Form;
 use dbm_messages::ServeFault;
-use dbm_records::{Batch as Asked, database_and_image};
+use dbm_records::{Batch as BatchRequest, database_and_image};
 use dbm_reports::{Given, Notes, Outcome, Report, ReportFault, Unserved, read_input, write_report};
 use dbm_script::{
     LineKind, Notation, RunWords, TasksFault, TimeOfDay, read_number, read_tasks, show_reply,
@@ -59,7 +59,7 @@ pub fn serve_batch<T: Threads + Wait + Sync, R: Read, W: Write>(
     rt: &T,
     alloc: Global,
     notation: &Notation<Global>,
-    asked: Asked<'_>,
+    asked: BatchRequest<'_>,
     given: &Given,
     reader: &mut R,
     writer: &mut W,
@@ -85,7 +85,7 @@ pub fn report_batch<T: Threads + Wait + Sync, R: Read>(
     rt: &T,
     alloc: Global,
     notation: &Notation<Global>,
-    asked: Asked<'_>,
+    asked: BatchRequest<'_>,
     given: &Given,
     reader: &mut R,
 ) -> Result<Report, ServeFault>

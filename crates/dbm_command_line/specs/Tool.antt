@@ -10,6 +10,7 @@ use Rattle.dbm_records.specs.Run.{run}
 use Rattle.dbm_records.specs.Batch.{batch}
 use Rattle.dbm_databases.specs.List.{list}
 use Rattle.dbm_databases.specs.Keys.{keys}
+use Rattle.dbm_databases.specs.Count.{count}
 use Rattle.dbm_databases.specs.Check.{check}
 use Rattle.dbm_databases.specs.Stats.{stats}
 use Rattle.dbm_databases.specs.Script.{script}
@@ -39,5 +40,5 @@ bare = record titled {
 abbrev pub tool : App
 tool = record {
   top = record bare { is_leaf = false };
-  subs = fetch ∷ store ∷ delete ∷ rename ∷ list ∷ keys ∷ check ∷ stats ∷ script ∷ session ∷ widen ∷ backup ∷ dump ∷ load ∷ asm ∷ disasm ∷ verify ∷ programs ∷ run ∷ batch ∷ [];
+  subs = fetch ∷ store ∷ delete ∷ rename ∷ list ∷ keys ∷ count ∷ check ∷ stats ∷ script ∷ session ∷ widen ∷ backup ∷ dump ∷ load ∷ asm ∷ disasm ∷ verify ∷ programs ∷ run ∷ batch ∷ [];
 }

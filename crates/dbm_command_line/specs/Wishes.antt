@@ -11,6 +11,7 @@ use Rattle.dbm_args.specs.Given.{IsAccess, has_words}
 use Rattle.dbm_dump.specs.Backup.{BackupAsks}
 use Rattle.dbm_dump.specs.Dump.{DumpAsks, dump_head}
 use Rattle.dbm_dump.specs.Load.{LoadAsks, load_head}
+use Rattle.dbm_databases.specs.Count.{CountAsks, count_head}
 use Rattle.dbm_databases.specs.Check.{CheckAsks, check_head}
 use Rattle.dbm_databases.specs.Keys.{KeysAsks, keys_head}
 use Rattle.dbm_databases.specs.List.{ListAsks, list_head}
@@ -50,6 +51,7 @@ head_of (wish.Run run) = run_head run
 head_of (wish.Batch batch) = batch_head batch
 head_of (wish.List list) = list_head list
 head_of (wish.Keys keys) = keys_head keys
+head_of (wish.Count count) = count_head count
 head_of (wish.Check check) = check_head check
 head_of (wish.Stats stats) = stats_head stats
 head_of (wish.Script script) = script_head script
@@ -118,6 +120,7 @@ WishAsks name rows (wish.Run run) = (name ≡ codes "run") × RunAsks rows run
 WishAsks name rows (wish.Batch batch) = (name ≡ codes "batch") × BatchAsks rows batch
 WishAsks name rows (wish.List list) = (name ≡ codes "list") × ListAsks rows list
 WishAsks name rows (wish.Keys keys) = (name ≡ codes "keys") × KeysAsks rows keys
+WishAsks name rows (wish.Count count) = (name ≡ codes "count") × CountAsks rows count
 WishAsks name rows (wish.Check check) = (name ≡ codes "check") × CheckAsks rows check
 WishAsks name rows (wish.Stats stats) = (name ≡ codes "stats") × StatsAsks rows stats
 WishAsks name rows (wish.Script script) = (name ≡ codes "script") × ScriptAsks rows script

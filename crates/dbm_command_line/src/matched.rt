@@ -5,7 +5,7 @@ ghost use Rattle.dbm_command_line.specs.Wishes.{SubcommandAsks, WishAsks, lacks_
 
 use crate::wish::{Ask, Wish};
 use clap::ArgMatches;
-use dbm_databases::{Check, Keys, List, Script, Stats, Widen};
+use dbm_databases::{Check, Count, Keys, List, Script, Stats, Widen};
 use dbm_dump::{Backup, Dump, Load};
 use dbm_programs::{Asm, Disasm, Programs, Verify};
 use dbm_records::{Batch, Delete, Fetch, Rename, Run, Store};
@@ -40,6 +40,7 @@ fn wished<'a>(name: &str, matches: &ArgMatches<'a>) -> Option<Wish<'a>>
         "rename" => Some(Wish::Rename(Rename::matched(matches)?)),
         "list" => Some(Wish::List(List::matched(matches)?)),
         "keys" => Some(Wish::Keys(Keys::matched(matches)?)),
+        "count" => Some(Wish::Count(Count::matched(matches)?)),
         "check" => Some(Wish::Check(Check::matched(matches)?)),
         "stats" => Some(Wish::Stats(Stats::matched(matches)?)),
         "script" => Some(Wish::Script(Script::matched(matches)?)),

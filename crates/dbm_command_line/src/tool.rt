@@ -8,7 +8,8 @@ ghost use Rattle.dbm_command_line.specs.Tool as spec;
 
 use clap::Command;
 use dbm_databases::{
-    check_command, keys_command, list_command, script_command, stats_command, widen_command,
+    check_command, count_command, keys_command, list_command, script_command, stats_command,
+    widen_command,
 };
 use dbm_dump::{backup_command, dump_command, load_command};
 use dbm_programs::{asm_command, disasm_command, programs_command, verify_command};
@@ -29,6 +30,7 @@ pub fn tool_command<'a>(alloc: Global) -> Result<Command<'a>, AllocError>
     let command = with_subcommand(command, rename_command(alloc));
     let command = with_subcommand(command, list_command(alloc));
     let command = with_subcommand(command, keys_command(alloc));
+    let command = with_subcommand(command, count_command(alloc));
     let command = with_subcommand(command, check_command(alloc));
     let command = with_subcommand(command, stats_command(alloc));
     let command = with_subcommand(command, script_command(alloc));

@@ -3,7 +3,7 @@ ghost use Rattle.std.specs.Prelude.{◌≡◌};
 ghost use Rattle.dbm_command_line.specs.Wishes.{asks_clock, asks_cores, head_of, time_asked, with_clock, with_time, with_workers};
 
 use dbm_args::{Access, Head, TimeUnit, Words};
-use dbm_databases::{Check, Keys, List, Script, Stats, Widen};
+use dbm_databases::{Check, Count, Keys, List, Script, Stats, Widen};
 use dbm_dump::{Backup, Dump, Load};
 use dbm_programs::{Asm, Disasm, Programs, Verify};
 use dbm_records::{Batch, Delete, EACH_CORE, Fetch, Rename, Run, Store};
@@ -22,6 +22,7 @@ pub enum Wish<'a> {
     Batch(Batch<'a>),
     List(List<'a>),
     Keys(Keys<'a>),
+    Count(Count<'a>),
     Check(Check<'a>),
     Stats(Stats<'a>),
     Script(Script<'a>),
@@ -67,6 +68,7 @@ impl<'a> Wish<'a> {
             Wish::Batch(batch) => batch.head(),
             Wish::List(list) => list.head(),
             Wish::Keys(keys) => keys.head(),
+            Wish::Count(count) => count.head(),
             Wish::Check(check) => check.head(),
             Wish::Stats(stats) => stats.head(),
             Wish::Script(script) => script.head(),
@@ -162,6 +164,7 @@ impl<'a> Wish<'a> {
             Wish::Batch(batch) => batch.words(),
             Wish::List(list) => list.words(),
             Wish::Keys(keys) => keys.words(),
+            Wish::Count(count) => count.words(),
             Wish::Check(check) => check.words(),
             Wish::Stats(stats) => stats.words(),
             Wish::Script(script) => script.words(),

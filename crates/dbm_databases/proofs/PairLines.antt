@@ -20,6 +20,11 @@ rows-append n listing prefix xs ys =
 abbrev pub nothing_lent : Bor (List ℕ) × Bor (List ℕ)
 nothing_lent = (record { ref_ptr = (0, 0); now = [] }, record { ref_ptr = (0, 0); now = [] })
 
+pub chosen_more : (prefix : List ℕ) (lent : List (Bor (List ℕ) × Bor (List ℕ))) (i : ℕ) (d : Bor (List ℕ) × Bor (List ℕ)) → i < length lent
+    → chosen prefix (pairs_lent (take (i + 1) lent)) ≡ chosen prefix (pairs_lent (take i lent)) ++ chosen prefix (pair_lent (get_or lent i d) ∷ [])
+chosen_more prefix lent i d h =
+    ap (chosen prefix) (map_more pair_lent lent i d h) ∙ filter-append (λ (e : Pair). starts_with nat_eq e.0 prefix) (pairs_lent (take i lent)) (pair_lent (get_or lent i d) ∷ [])
+
 pub rows_more : {A : Type 0} (n : Notation A) (listing : Listing) (prefix : List ℕ) (lent : List (Bor (List ℕ) × Bor (List ℕ))) (i : ℕ) (d : Bor (List ℕ) × Bor (List ℕ)) → i < length lent
     → rows n listing prefix (pairs_lent (take (i + 1) lent)) ≡ rows n listing prefix (pairs_lent (take i lent)) ++ rows n listing prefix (pair_lent (get_or lent i d) ∷ [])
 rows_more n listing prefix lent i d h =

@@ -2,6 +2,7 @@ pub mod Rows
 pub mod Listings
 pub mod List
 pub mod Keys
+pub mod Count
 pub mod Check
 pub mod Stats
 pub mod Streams

@@ -1,8 +1,9 @@
-//! The subcommands of a whole database: `list`, `keys`, `check` and `stats`, which show it, `script`, and `widen`.
+//! The subcommands of a whole database: `list`, `keys`, `count`, `check` and `stats`, which show it, `script`, and `widen`.
 #![tactic(auto)]
 
 mod check;
 mod chosen;
+mod count;
 mod keys;
 mod list;
 mod playing;
@@ -15,6 +16,7 @@ mod strict;
 mod widen;
 
 pub use check::{Check, check_command};
+pub use count::{Count, count_command};
 pub use keys::{Keys, keys_command};
 pub use list::{List, list_command};
 pub use script::{Script, script_command};

@@ -19,7 +19,9 @@ pub use input::read_input;
 pub use notations::notation_by;
 pub use notes::Notes;
 pub use program_file::{file_image, refused, text_image};
-pub use report::{NOT_RUN, Report, answer_status, change, look, printed, show_ok, shown};
+pub use report::{
+    NOT_RUN, Report, answer_status, change, look, printed, show_named, show_ok, shown,
+};
 pub use serving::{Outcome, Unserved, serve, write_report};
 pub use subcommand::Subcommand;
 pub use words::word_asked;

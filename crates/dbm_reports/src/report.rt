@@ -1,5 +1,5 @@
 //! The report of a subcommand, and of a command on an open database.
-ghost use Rattle.std.specs.Prelude.{◌≡◌, ◌++◌, ◌∷◌, [], None, IfOk};
+ghost use Rattle.std.specs.Prelude.{◌≡◌, ◌++◌, ◌∷◌, [], None, IfOk, decimal};
 ghost use Rattle.dbm_script.specs.Answers.{answer_text};
 ghost use Rattle.dbm_reports.specs.Reports.{IsCommandReport, Looks, Changes, answer_status, code_status, ok_line, run_status, status_of};
 
@@ -164,10 +164,24 @@ pub fn printed(text: Vec<u8>) -> Report
 pub fn show_ok<A: Allocator + Copy>(alloc: A, count: usize) -> Result<Vec<u8, A>, AllocError>
     ensures { IfOk result (λ text. text.items ≡ ok_line count) }
 {
+    show_named(alloc, b"ok ", count)
+}
+
+/// A line with a number after a name.
+///
+/// # Errors
+/// `AllocError` if allocation fails.
+pub fn show_named<A: Allocator + Copy>(
+    alloc: A,
+    name: &[u8],
+    number: usize,
+) -> Result<Vec<u8, A>, AllocError>
+    ensures { IfOk result (λ text. text.items ≡ name.now ++ (decimal number ++ 10 ∷ [])) }
+{
     let mut text = Vec::new(alloc);
-    text.extend_from_slice(b"ok ")?;
+    text.extend_from_slice(name)?;
     let mut digits = Buffer::new();
-    text.extend_from_slice(digits.format(count).as_bytes())?;
+    text.extend_from_slice(digits.format(number).as_bytes())?;
     text.push(b'\n')?;
     Ok(text)
 }

@@ -17,6 +17,7 @@ use Rattle.dbm_records.specs.Rename.{rename_in}
 use Rattle.dbm_records.specs.Run.{run_in}
 use Rattle.dbm_databases.specs.List.{list_in}
 use Rattle.dbm_databases.specs.Keys.{keys_in}
+use Rattle.dbm_databases.specs.Count.{count_in}
 use Rattle.dbm_databases.specs.Check.{check_in}
 use Rattle.dbm_databases.specs.Stats.{stats_in}
 use Rattle.dbm_databases.specs.Script.{script_in}
@@ -67,6 +68,7 @@ service_in n (wish.Run run) given input = reporting (run_in n run given)
 service_in n (wish.Batch batch) given input = batch_in n batch given input
 service_in n (wish.List list) given input = reporting (list_in n list given)
 service_in n (wish.Keys keys) given input = reporting (keys_in n keys given)
+service_in n (wish.Count count) given input = reporting (count_in n count given)
 service_in n (wish.Check check) given input = reporting (check_in check given)
 service_in n (wish.Stats stats) given input = reporting (stats_in stats given)
 service_in n (wish.Script script) given input = reporting (script_in n script.base script given input)

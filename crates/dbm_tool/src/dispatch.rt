@@ -55,6 +55,7 @@ fn serve_in<T: Threads + Wait + Sync, R: Read, W: Write>(
         Wish::Batch(asked) => outcome_of(serve_batch(rt, alloc, n, asked, given, reader, writer)),
         Wish::List(list) => outcome_of(list.serve(alloc, n, given, writer)),
         Wish::Keys(keys) => outcome_of(keys.serve(alloc, n, given, writer)),
+        Wish::Count(count) => outcome_of(serve(alloc, n, &count, given, reader, writer)),
         Wish::Check(check) => outcome_of(serve(alloc, n, &check, given, reader, writer)),
         Wish::Stats(stats) => outcome_of(serve(alloc, n, &stats, given, reader, writer)),
         Wish::Script(script) => outcome_of(serve(alloc, n, &script, given, reader, writer)),

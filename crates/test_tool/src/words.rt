@@ -39,6 +39,7 @@ fn asked_text(global: Global, wish: &Wish<'_>) -> Result<String, AllocError> {
         Wish::Batch(batch) => format!(in global; "{batch:?}"),
         Wish::List(list) => format!(in global; "{list:?}"),
         Wish::Keys(keys) => format!(in global; "{keys:?}"),
+        Wish::Count(count) => format!(in global; "{count:?}"),
         Wish::Check(check) => format!(in global; "{check:?}"),
         Wish::Stats(stats) => format!(in global; "{stats:?}"),
         Wish::Script(script) => format!(in global; "{script:?}"),

@@ -1,6 +1,7 @@
 use Rattle.std.proofs.Common.{refl}
 use Rattle.dbm_dump.specs.Dump.{dump_in}
 use Rattle.dbm_dump.specs.Load.{load_in}
+use Rattle.dbm_databases.specs.Count.{count_in}
 use Rattle.dbm_databases.specs.Check.{check_in}
 use Rattle.dbm_databases.specs.Keys.{keys_in}
 use Rattle.dbm_databases.specs.List.{list_in}
@@ -39,6 +40,9 @@ returns-in-List g c = rw (c.in-List.is) (reported (list_in c.args.n.now c.in-Lis
 
 pub returns-in-Keys : goal.returns-in-Keys
 returns-in-Keys g c = rw (c.in-Keys.is) (reported (keys_in c.args.n.now c.in-Keys.keys c.args.given.now) _ _ _ _ _ _ c.serve-in-Keys.result c.outcome_of-in-Keys.result c.outcome_of-in-Keys.ensures c.serve-in-Keys.ensures.ok c.serve-in-Keys.ensures.fault c.serve-in-Keys.ensures.database (λ _. refl))
+
+pub returns-in-Count : goal.returns-in-Count
+returns-in-Count g c = rw (c.in-Count.is) (reported (count_in c.args.n.now c.in-Count.count c.args.given.now) _ _ _ _ _ _ c.serve-in-Count.result c.outcome_of-in-Count.result c.outcome_of-in-Count.ensures c.serve-in-Count.ensures.ok c.serve-in-Count.ensures.fault c.serve-in-Count.ensures.database c.serve-in-Count.ensures.unread)
 
 pub returns-in-Check : goal.returns-in-Check
 returns-in-Check g c = rw (c.in-Check.is) (reported (check_in c.in-Check.check c.args.given.now) _ _ _ _ _ _ c.serve-in-Check.result c.outcome_of-in-Check.result c.outcome_of-in-Check.ensures c.serve-in-Check.ensures.ok c.serve-in-Check.ensures.fault c.serve-in-Check.ensures.database c.serve-in-Check.ensures.unread)

@@ -1,4 +1,4 @@
-"""The functions in the sources below crates/: where each is, its contract, its body, and what the names in its file stand for."""
+"""The functions in the sources below crates/: the file, the contract and the body of each, and the meaning of the names in its file."""
 
 import pathlib
 import re
@@ -45,7 +45,7 @@ def receiver_before(text, at):
 
 
 def imports(tree, before=()):
-    """Yields each name of a `use` tree, with the path that it stands for."""
+    """Yields each name of a `use` tree, with its path."""
     head, brace, rest = tree.strip().partition("{")
     if not brace:
         path, _, name = (part.strip() for part in head.partition(" as "))
@@ -83,7 +83,7 @@ class Function:
 
 
 class File:
-    """A source file: its crate and module, the paths that its names stand for, its types with their fields, and its functions."""
+    """A source file: its crate and module, the paths of its names, its types with their fields, and its functions."""
 
     def __init__(self, path):
         parts = path.relative_to(CRATES)
@@ -115,7 +115,7 @@ def files():
 
 
 def crates():
-    """Returns each crate of crates.txt with the crates that it stands on, those of the kit too."""
+    """Returns each crate of crates.txt with the crates below it, those of the kit too."""
     lines = (TOP / "crates.txt").read_text(encoding="utf-8").splitlines()
     heads = (line.split(":") for line in lines if line and not line.startswith("#"))
     return {head.split()[0]: below.split() for head, below in heads}

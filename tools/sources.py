@@ -75,7 +75,8 @@ class Function:
         self.generics, self.parameters = f"{text[head.end() : start]}, {generics}", text[start + 1 : end - 1]
         result = re.match(r"(?: -> ((?:\[[^\]]*\]|[^\n{;\[])*))?", text[end:])
         self.result, tail = (result[1] or "").strip(), text[end + len(result[0].rstrip(" ")) :]
-        whole = re.search(rf"(?:\A |^{head[1]})\{{(.*)\}}$", tail, re.M) or re.search(rf"(?:\A |^{head[1]})\{{\n(.*?)^{head[1]}\}}", tail, re.M | re.S)
+        begin = rf"(?:\A |^{head[1]})\{{"
+        whole = re.search(rf"{begin}(.*)\}}$", tail, re.M) or re.search(rf"{begin}\n(.*?)^{head[1]}\}}", tail, re.M | re.S)
         self.contract, self.body = (tail[: whole.start()], whole[1]) if whole else (tail, None)
 
     def __str__(self):
@@ -119,3 +120,12 @@ def crates():
     lines = (TOP / "crates.txt").read_text(encoding="utf-8").splitlines()
     heads = (line.split(":") for line in lines if line and not line.startswith("#"))
     return {head.split()[0]: below.split() for head, below in heads}
+
+
+def below(crates, crate):
+    """Returns a crate and all crates of this repository below it."""
+    found, ahead = set(), [crate]
+    while ahead:
+        found.add(ahead[-1])
+        ahead.extend(set(crates[ahead.pop()]) & set(crates) - found)
+    return found

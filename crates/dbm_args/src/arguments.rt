@@ -45,7 +45,7 @@ pub fn base<'a>(alloc: Global) -> Arg<'a>
     ensures rule { rule_of result ≡ spec.required_word (codes "BASE") }
     ensures local { result.global ≡ false }
 {
-    let help = "The database in the files BASE.dir and BASE.pag; a file that is not there is empty";
+    let help = "The database, in the files BASE.dir and BASE.pag; a missing file counts as empty";
     required_word(alloc, "BASE", help)
 }
 
@@ -57,7 +57,7 @@ pub fn key<'a>(alloc: Global) -> Arg<'a>
     required_word(
         alloc,
         "KEY",
-        "The key in hex, or with --text as text; . for the empty one",
+        "The key in hex, or with --text as text; . is the empty key",
     )
 }
 
@@ -69,7 +69,7 @@ pub fn raw_key<'a>(alloc: Global) -> Arg<'a>
     flag(
         alloc,
         "raw-key",
-        "The bytes of KEY are those of the word itself, without escapes or numbers",
+        "Take the bytes of KEY as they are, without escapes or numbers",
     )
 }
 
@@ -89,7 +89,7 @@ pub fn unsigned<'a>(alloc: Global) -> Arg<'a>
     flag(
         alloc,
         "unsigned",
-        "Hash the bytes of keys as unsigned, for files of a machine that does",
+        "Hash the bytes of keys as unsigned, as some machines do",
     )
 }
 
@@ -98,7 +98,7 @@ pub fn wide<'a>(alloc: Global) -> Arg<'a>
     ensures rule { rule_of result ≡ spec.flag (codes "wide") }
     ensures local { result.global ≡ false }
 {
-    flag(alloc, "wide", "The pages have 8,192 bytes, not 1,024")
+    flag(alloc, "wide", "Pages have 8,192 bytes instead of 1,024")
 }
 
 /// The flag `--insist`: opens files as wide even if their pages look small.
@@ -109,7 +109,7 @@ pub fn insist<'a>(alloc: Global) -> Arg<'a>
     flag(
         alloc,
         "insist",
-        "With --wide: open files that look like those of small pages",
+        "With --wide: open files even if they look like small pages",
     )
 }
 
@@ -121,7 +121,7 @@ pub fn text<'a>(alloc: Global) -> Arg<'a>
     flag(
         alloc,
         "text",
-        "Write bytes as text, not in hex: hits, u64:7, a\\sb for a space, \\x00 for any byte",
+        "Bytes are text instead of hex: hits, u64:7, a\\sb for a space, \\x00 for any byte",
     )
 }
 
@@ -134,7 +134,7 @@ pub fn layout<'a>(alloc: Global) -> Arg<'a>
         alloc,
         "as",
         "LAYOUT",
-        "With --text, print values by their layout where they fit it: u64, or u64,u64,text",
+        "Print values that fit by this layout, such as u64 or u64,u64,text; implies --text",
     )
 }
 
@@ -168,7 +168,7 @@ pub fn timeout<'a>(alloc: Global) -> Arg<'a>
         alloc,
         "timeout",
         "SECONDS",
-        "Wait no longer for other runs on the database, 0 for not at all; the fault is then Locked",
+        "Wait at most this long for other processes, 0 for not at all; then fail with Locked",
     )
 }
 
@@ -180,7 +180,7 @@ pub fn verbose<'a>(alloc: Global) -> Arg<'a>
     flag(
         alloc,
         "verbose",
-        "Say who has the lock, where this run waits half a second for it, as it does at a terminal",
+        "Report who holds the lock after half a second of waiting, as at a terminal",
     )
 }
 
@@ -192,7 +192,7 @@ pub fn must_exist<'a>(alloc: Global) -> Arg<'a>
     flag(
         alloc,
         "must-exist",
-        "Make no database where neither file is there; the fault is then Absent",
+        "Fail with Absent if neither file exists, instead of creating a database",
     )
 }
 
@@ -204,7 +204,7 @@ pub fn quick<'a>(alloc: Global) -> Arg<'a>
     flag(
         alloc,
         "quick",
-        "Read the page of KEY and the directory, not all pages: faults of other pages are not seen",
+        "Read only the directory and the page of KEY; faults of other pages are not found",
     )
 }
 
@@ -216,6 +216,6 @@ pub fn image<'a>(alloc: Global) -> Arg<'a>
     flag(
         alloc,
         "image",
-        "FILE has the bytes of the program's image, not its text",
+        "FILE is the image of the program, not its text",
     )
 }

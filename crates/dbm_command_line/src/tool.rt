@@ -65,10 +65,10 @@ fn titled_command<'a>(alloc: Global) -> Command<'a>
         .version("2.0.0")
         .about("A key-value store in the files of an sdbm database")
         .after_help(
-            "Bytes are written in hex, two digits a byte, or as . for none; with --text as text.\n\
-             The status is 0; 1 where fetch, store, delete, rename or run answers missing, exists, crowded or refused,\n\
-             verify answers refused, or run --expect ended with another code; 2 for a fault, which standard error\n\
-             names; and 3 where run --expect ran nothing.\n\n\
+            "Bytes are in hex, two digits a byte, and . is no bytes; with --text they are text.\n\
+             The status is 0; 1 if fetch, store, delete, rename or run answers missing, exists, crowded or refused,\n\
+             if verify answers refused, or if run --expect gets another code; 2 for a fault, which is printed on\n\
+             standard error; and 3 if run --expect does not run the program.\n\n\
              Example: dbm store users ab xyz --text\n\
              stores the value xyz of the key ab in users.dir and users.pag.",
         )

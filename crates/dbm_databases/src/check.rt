@@ -69,8 +69,8 @@ pub fn check_command<'a>(alloc: Global) -> Result<Command<'a>, AllocError>
     ]?;
     let about = "Check that the files are a database";
     let notes =
-        "Prints ok N for a database of N pairs. Where the files are none, standard error names\n\
-         the fault, and the status is 2. Where neither file is there, the database is empty.\n\n\
+        "Prints ok N for a database of N pairs. If the files are not a database, prints the fault\n\
+         on standard error, with status 2. If neither file exists, the database is empty.\n\n\
          Example: dbm check users";
     subcommand(alloc, "check", about, notes, args)
 }

@@ -125,9 +125,9 @@ pub fn list_command<'a>(alloc: Global) -> Result<Command<'a>, AllocError>
     ]?;
     let about = "Print all pairs, sorted by the bytes of their keys";
     let notes =
-        "Prints KEY VALUE for each pair, both in hex, or . for no bytes; with --json an object\n\
-         for each in a line of its own, whatever -0 says. With -0 a zero byte within a key or a value\n\
-         looks like an end. A reader of a pipe may leave, as head does: that is no fault.\n\n\
+        "Prints KEY VALUE for each pair, both in hex, or . for no bytes; with --json, an object in\n\
+         a line for each, with or without -0. With -0 a zero byte within a key or a value looks like an\n\
+         end. If the reader of a pipe ends early, as head does, that is not a fault.\n\n\
          Example: dbm list users --text";
     aliased_subcommand(alloc, "list", "ls", about, notes, args)
 }

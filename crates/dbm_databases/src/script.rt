@@ -83,12 +83,11 @@ impl<'a> Script<'a> {
 pub fn script_command<'a>(alloc: Global) -> Result<Command<'a>, AllocError>
     ensures { IfOk result (IsSubcommand spec.script) }
 {
-    let help = "The database in BASE.dir and BASE.pag; without it, an empty one that is not kept";
-    let limit = "Be refused, with nothing printed or kept, where the answers have more bytes";
-    let strict =
-        "Run nothing where a line asks nothing: the status is then 1, and standard error has the line";
+    let help = "The database, in BASE.dir and BASE.pag; without it, an empty one that is discarded";
+    let limit = "Fail, with nothing printed or saved, if the answers have more bytes";
+    let strict = "Run nothing if a line is not a command: exit with status 1, and report the line";
     let clock =
-        "Take now and now-ms as NOW of a line: the time in seconds or in thousandths, the same in all lines";
+        "Let lines use now and now-ms as NOW: seconds or milliseconds, the same for all lines";
     let args = vec![in alloc;
         valued_option(alloc, "base", "BASE", help),
         valued_option(alloc, "max-output", "BYTES", limit),
@@ -103,15 +102,15 @@ pub fn script_command<'a>(alloc: Global) -> Result<Command<'a>, AllocError>
         timeout(alloc),
         verbose(alloc),
     ]?;
-    let about = "Run the commands on standard input, a line each";
+    let about = "Run the commands on standard input, one in each line";
     let notes =
         "The lines are fetch KEY, insert KEY VALUE, replace KEY VALUE, delete KEY, count, program IMAGE and\n\
          run KEY PROG ARG BLANK NOW; get, put and del are short for fetch, replace and delete. insert answers\n\
-         exists where the key is there, and replace replaces. IMAGE is what asm prints, and PROG the number\n\
-         that program answered, from 0. An empty line is skipped, and so is one that begins with #. Prints\n\
-         for each of the others a line of answer, bad line where it asks nothing; with --strict nothing is run\n\
-         then. Lines end in LF: one that ends in CR LF is a bad line. All lines together have at most 16 MiB, and\n\
-         their answers thousands of times as much. Where that is more than BYTES, the fault is OutputTooLong.\n\n\
+         exists if the key exists, and replace replaces its value. IMAGE is the output of asm, and PROG the\n\
+         number that program answered, from 0 on. Empty lines and lines that begin with # are skipped. Prints\n\
+         an answer for each other line, bad line if it is not a command; with --strict nothing is run then.\n\
+         Lines end in LF: one that ends in CR LF is a bad line. All lines together have at most 16 MiB. Their\n\
+         answers may have thousands of times as much; if they have more than BYTES, the fault is OutputTooLong.\n\n\
          Example: dbm script --base users < first.script\n\
          or: printf 'program %s\\nrun hits 0 . 8 now\\n' \"$(dbm asm counter.s)\" | dbm script --base users --text --clock";
     subcommand(alloc, "script", about, notes, args)

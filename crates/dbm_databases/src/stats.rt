@@ -67,9 +67,9 @@ pub fn stats_command<'a>(alloc: Global) -> Result<Command<'a>, AllocError>
         timeout(alloc),
         verbose(alloc),
     ]?;
-    let about = "Print what is in a database, in numbers";
+    let about = "Print statistics of a database";
     let notes =
-        "Prints how many pairs and bytes there are, how full the pages are, and how deep the directory is.\n\n\
+        "Prints the number of pairs and bytes, how full the pages are, and how deep the directory is.\n\n\
          Example: dbm stats users";
     subcommand(alloc, "stats", about, notes, args)
 }

@@ -69,10 +69,10 @@ pub fn widen_command<'a>(alloc: Global) -> Result<Command<'a>, AllocError>
         timeout(alloc),
         verbose(alloc),
     ]?;
-    let about = "Write a database anew, with pages of 8,192 bytes for those of 1,024";
+    let about = "Rewrite a database with pages of 8,192 bytes instead of 1,024";
     let notes =
-        "Prints ok N for a database of N pairs. From then on it is opened with --wide, and no other program\n\
-         of sdbm files reads it. It is not undone.\n\n\
+        "Prints ok N for a database of N pairs. Then open it with --wide; other programs for sdbm files\n\
+         cannot read it. There is no way back.\n\n\
          Example: dbm widen users";
     subcommand(alloc, "widen", about, notes, args)
 }

@@ -50,7 +50,7 @@ impl<'a> Backup<'a> {
 pub fn backup_command<'a>(alloc: Global) -> Result<Command<'a>, AllocError>
     ensures { IfOk result (IsSubcommand spec.backup) }
 {
-    let to = "The copy, in the files TO.dir and TO.pag, which are made";
+    let to = "The copy, in the new files TO.dir and TO.pag";
     let args = vec![in alloc;
         base(alloc),
         required_word(alloc, "TO", to),
@@ -63,8 +63,8 @@ pub fn backup_command<'a>(alloc: Global) -> Result<Command<'a>, AllocError>
     let about = "Copy a database into new files, also while it is in use";
     let notes =
         "Copies the last save of BASE, checks it, and prints ok N for a copy of N pairs that is on the disk. A\n\
-         process that has BASE open goes on: only its saves wait while BASE is read. If TO.dir or TO.pag exists\n\
-         the fault is Exists. The files get the permissions of BASE.pag. The disk needs room for the copy twice.\n\n\
+         process that has BASE open continues; only its saves wait while BASE is read. If TO.dir or TO.pag exists,\n\
+         the fault is Exists. The files get the permissions of BASE.pag. The disk needs room for two copies.\n\n\
          Example: dbm backup users backups/users-2026-11-28";
     subcommand(alloc, "backup", about, notes, args)
 }

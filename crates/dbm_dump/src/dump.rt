@@ -72,8 +72,7 @@ pub(crate) fn named_format<'a>(format: Option<&'a str>) -> Option<Named<'a>> {
 pub fn dump_command<'a>(alloc: Global) -> Result<Command<'a>, AllocError>
     ensures { IfOk result (IsSubcommand spec.dump) }
 {
-    let help =
-        "text, which load reads, and which is the default; gdbm, for gdbm_load; or redis, for redis-cli --pipe";
+    let help = "text, for load, the default; gdbm, for gdbm_load; or redis, for redis-cli --pipe";
     let args = vec![in alloc;
         base(alloc),
         valued_option(alloc, "format", "FORMAT", help),
@@ -83,10 +82,10 @@ pub fn dump_command<'a>(alloc: Global) -> Result<Command<'a>, AllocError>
         timeout(alloc),
         verbose(alloc),
     ]?;
-    let about = "Print all pairs as one text, to be kept or loaded elsewhere";
+    let about = "Print all pairs as one text, which load can read";
     let notes =
-        "Prints a header with the number of pairs, a line for each, sorted by the bytes of their keys and both\n\
-         in hex, and the line end, so that load refuses a text that is cut off.\n\n\
+        "Prints a header with the number of pairs, a line for each pair in hex, sorted by the bytes of the\n\
+         keys, and the line end, so that load refuses a truncated text.\n\n\
          Example: dbm dump users > users.dump";
     subcommand(alloc, "dump", about, notes, args)
 }

@@ -71,8 +71,8 @@ pub fn load_command<'a>(alloc: Global) -> Result<Command<'a>, AllocError>
     ensures { IfOk result (IsSubcommand spec.load) }
 {
     let help =
-        "text for what dump prints, or gdbm for what gdbm_dump prints; without it the first line tells";
-    let keep = "Leave the pairs that are there as they are";
+        "text, as dump prints, or gdbm, as gdbm_dump prints; by default the first line decides";
+    let keep = "Keep the values of existing keys";
     let args = vec![in alloc;
         base(alloc),
         valued_option(alloc, "format", "FORMAT", help),
@@ -86,9 +86,9 @@ pub fn load_command<'a>(alloc: Global) -> Result<Command<'a>, AllocError>
     ]?;
     let about = "Store the pairs of a dump on standard input, in one save";
     let notes =
-        "Prints loaded N for a dump of N pairs, which may have any length. A pair replaces that of its key;\n\
-         with --keep it does not. Lines end in LF. Where a line is wrong, or the dump is cut off, nothing is\n\
-         changed. It holds the lock until the input ends: others wait, so no dump of BASE may be loaded by a pipe.\n\n\
+        "Prints loaded N for a dump of N pairs, of any length. A pair replaces the value of its key, unless\n\
+         --keep is given. Lines end in LF. If a line is invalid or the dump is truncated, nothing is changed.\n\
+         Holds the lock until the input ends, so do not pipe a dump of BASE into a load of BASE.\n\n\
          Example: dbm load users < users.dump";
     subcommand(alloc, "load", about, notes, args)
 }

@@ -75,7 +75,7 @@ pub fn sentence_of<'a>(
 /// Out of memory.
 pub fn memory_sentence() -> Sentence<'static> {
     plain(
-        "Memory ran out: dbm holds both files of a database and all that it prints. ulimit -v shows a limit.",
+        "Out of memory: dbm holds both files of a database and everything that it prints. ulimit -v shows a limit.",
     )
 }
 
@@ -98,20 +98,20 @@ fn rest_sentence<'a>(words: &Words<'a>, fault: ServeFault) -> Sentence<'a> {
         ServeFault::Moved(file) => moved_sentence(words.base, file),
         ServeFault::Changed => changed_sentence(words.base),
         ServeFault::ReadClock => {
-            plain("The system does not tell the time of day: give NOW as a number.")
+            plain("The system does not report the time of day. Give NOW as a number.")
         }
         ServeFault::BadLine(number) => with_one(
-            "Line {} of standard input is no task. Write KEY ARG BLANK NOW, with one space between two of them; with --clock NOW may be now or now-ms.",
+            "Line {} of standard input is not a task. Write KEY ARG BLANK NOW, separated by single spaces; with --clock NOW may be now or now-ms.",
             Part::Number(number as u64),
         ),
         ServeFault::Close(_) => plain(
-            "The workers made other calls than the store has: that should never be. Nothing was written.",
+            "The workers' calls differ from those of the store, which should never happen. Nothing was written.",
         ),
         ServeFault::Write => plain(
-            "Standard output is closed or cannot be written, as where a disk is full; nothing was changed.",
+            "Standard output is closed or cannot be written, for example because a disk is full. Nothing was changed.",
         ),
         ServeFault::Saved => plain(
-            "The change is saved, but its answer could not be printed: standard output cannot be written, as where a disk is full.",
+            "The change is saved, but its answer could not be printed: standard output cannot be written, for example because a disk is full.",
         ),
         ServeFault::NoMemory => memory_sentence(),
         _ => plain("A word of the command line is not UTF-8."),
@@ -134,16 +134,18 @@ fn report_sentence<'a>(
         ReportFault::Assemble(fault) => Some(or_memory(assemble_sentence(words, fault))),
         ReportFault::Decode(fault) => Some(or_memory(decode_sentence(words, fault))),
         ReportFault::Read => {
-            Some(plain("Standard input is closed or cannot be read, as where it is a folder."))
+            Some(plain(
+                "Standard input is closed or cannot be read, for example because it is a folder.",
+            ))
         }
         ReportFault::TooLong => {
             Some(plain(
-                "Standard input has more than 16 MiB: give a script or a batch in parts, a run for each.",
+                "Standard input has more than 16 MiB. Split the script or batch, and run each part.",
             ))
         }
         ReportFault::OutputTooLong => {
             Some(plain(
-                "The answers have more bytes than --max-output allows: nothing was changed.",
+                "The answers have more bytes than --max-output allows. Nothing was changed.",
             ))
         }
         ReportFault::NoMemory => Some(memory_sentence()),

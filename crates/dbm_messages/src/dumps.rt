@@ -9,16 +9,16 @@ pub fn dump_sentence<'a>(words: &Words<'a>, fault: DumpFault) -> Option<Sentence
     match fault {
         DumpFault::BadFormat => Some(format_sentence(words.first)),
         DumpFault::BadDump(1) => Some(plain(
-            "Line 1 begins no dump in this format: ours begins with \"boddurci dump 1\", one of gdbm in ASCII with #, and lines end in LF. Nothing was changed.",
+            "Line 1 is not the first line of a dump in this format: our own begins with \"boddurci dump 1\", and one of gdbm in ASCII with #. Lines end in LF. Nothing was changed.",
         )),
         DumpFault::BadDump(line) => Some(with_one(
-            "Line {} of the dump may not stand there: it is no pair, the dump has more pairs or fewer than it counts, or the line ends in CR. Nothing was changed.",
+            "Line {} of the dump is invalid there: it is not a pair, the dump has more or fewer pairs than it says, or the line ends in CR. Nothing was changed.",
             Part::Number(line),
         )),
         DumpFault::TooLarge(line, key) => Some(large_sentence(words.wide, line, key)),
         DumpFault::Crowded(line, key) => Some(crowded_sentence(words.wide, line, key)),
         DumpFault::CutOff => Some(plain(
-            "The dump stops before its last line, as where it was cut off on its way. Nothing was changed.",
+            "The dump ends before its last line, so it was probably truncated. Nothing was changed.",
         )),
         DumpFault::Read | DumpFault::NoMemory => None,
     }
@@ -41,13 +41,13 @@ fn crowded_sentence(wide: bool, line: u64, key: KeyHead) -> Sentence<'static> {
     let (line, key) = (Part::Number(line), Part::Key(key));
     if wide {
         return with_two(
-            "Line {} of the dump: the pair with the key {} finds no room, since its hash is too much like those of others. Nothing was changed.",
+            "Line {} of the dump: there is no room for the pair with the key {}, because too many keys have similar hashes. Nothing was changed.",
             line,
             key,
         );
     }
     with_two(
-        "Line {} of the dump: the pair with the key {} finds no room, since its hash is too much like those of others. Nothing was changed. Wide pages (--wide) may have room for it.",
+        "Line {} of the dump: there is no room for the pair with the key {}, because too many keys have similar hashes. Nothing was changed. Wide pages (--wide) may have room for it.",
         line,
         key,
     )
@@ -65,18 +65,18 @@ fn large_sentence(wide: bool, line: u64, key: Option<KeyHead>) -> Sentence<'stat
             most,
         ),
         Some(key) => with_three(
-            "Line {} of the dump: the pair with the key {} has more than {} bytes, key and value together. Nothing was changed. With --wide, for a new database or a widened one, they may have 8008.",
+            "Line {} of the dump: the pair with the key {} has more than {} bytes, key and value together. Nothing was changed. With --wide, in a new or widened database, they may have 8008.",
             line,
             Part::Key(key),
             most,
         ),
         None if wide => with_two(
-            "Line {} of the dump is too long, or brings more than {} bytes, key and value together. Nothing was changed.",
+            "Line {} of the dump is too long, or its key and value have more than {} bytes together. Nothing was changed.",
             line,
             most,
         ),
         None => with_two(
-            "Line {} of the dump is too long, or brings more than {} bytes, key and value together. Nothing was changed. With --wide they may have 8008.",
+            "Line {} of the dump is too long, or its key and value have more than {} bytes together. Nothing was changed. With --wide they may have 8008.",
             line,
             most,
         ),

@@ -15,34 +15,34 @@ pub fn base_part<'a>(base: Option<&'a str>) -> Part<'a> {
 pub fn finding_sentence<'a>(found: Finding<'a>) -> Sentence<'a> {
     let name = Part::Name(found.name);
     match found.matter {
-        Matter::Absent => with_one("{} is not there.", name),
-        Matter::DeadLink => with_one("{} is a link that leads nowhere.", name),
+        Matter::Absent => with_one("{} does not exist.", name),
+        Matter::DeadLink => with_one("{} is a link to a file that does not exist.", name),
         Matter::Unread(reason) => with_two("{} cannot be read: {}.", name, Part::Reason(reason)),
         Matter::Unwritten(reason) => {
             with_two("{} cannot be written: {}.", name, Part::Reason(reason))
         }
-        Matter::NoFolder => with_one("No file can be made in the folder {}: it is a file.", name),
+        Matter::NoFolder => with_one("Cannot create a file in {}: it is not a folder.", name),
         Matter::LostFolder(reason) => {
             let reason = Part::Reason(reason);
-            with_two("No file can be made in the folder {}: {}.", name, reason)
+            with_two("Cannot create a file in the folder {}: {}.", name, reason)
         }
         Matter::TooLong(limit) => with_two(
-            "{} has more than {} bytes, the most that dbm reads of such a file.",
+            "{} has more than {} bytes, the limit for such a file.",
             name,
             Part::Number(limit),
         ),
         Matter::NoOwnFile => with_one(
-            "{} is no file of its own, but a link, a folder or the like: take it away.",
+            "{} is a link, a folder or another special file. Remove it.",
             name,
         ),
         Matter::Unsafe { owner, mode } => with_three(
-            "{} is of user {} with mode 0{}: dbm takes none that others could have planted. If you trust that user, let the user's next run end it, or let root give it to the owner of .pag; if not, take it away.",
+            "{} belongs to user {} and has mode 0{}, so another user may have planted it. If you trust that user, let that user run a command, which recovers it, or let root give it to the owner of .pag. Otherwise remove it.",
             name,
             Part::Number(u64::from(owner)),
             octal(mode),
         ),
         Matter::Object => with_one(
-            "{} is an ELF object. Take its section .text for the image, or let tools/bpfcc make it.",
+            "{} is an ELF object. Use its section .text as the image, or make the image with tools/bpfcc.",
             name,
         ),
     }
@@ -51,11 +51,11 @@ pub fn finding_sentence<'a>(found: Finding<'a>) -> Sentence<'a> {
 /// For files that could not be read, if the second look finds no refused file.
 pub fn unread_sentence<'a>(base: Option<&'a str>) -> Sentence<'a> {
     let Some(base) = base else {
-        return plain("The file could not be read, and can be read now: try again.");
+        return plain("The file could not be read, but can be read now. Try again.");
     };
     let base = Part::Name(base);
     with_two(
-        "{}.pag and {}.dir do not lead to the two files of one base: make links of both, or of neither.",
+        "{}.pag and {}.dir do not lead to the two files of one database. Make both of them links, or neither.",
         base,
         base,
     )
@@ -64,7 +64,7 @@ pub fn unread_sentence<'a>(base: Option<&'a str>) -> Sentence<'a> {
 /// For files that could not be written, if the second look finds no refused file.
 pub fn unwritten_sentence<'a>(base: &'a str) -> Sentence<'a> {
     with_two(
-        "{}.lock, .writer, .redo, .dir or .pag could not be made or written: see that you may write into the folder {}, that its disk has room, and that ulimit -f allows files so long.",
+        "{}.lock, .writer, .redo, .dir or .pag could not be created or written. Check that you may write to the folder {}, that its disk has room, and that ulimit -f allows files of this length.",
         Part::Name(base),
         Part::Name(folder_of(base)),
     )
@@ -73,9 +73,9 @@ pub fn unwritten_sentence<'a>(base: &'a str) -> Sentence<'a> {
 /// For a database that would be too long.
 pub fn too_long_sentence<'a>(base: &'a str, wide: bool) -> Sentence<'a> {
     let text = if wide {
-        "{}.pag would have more than 1 GiB after the command: nothing was changed."
+        "{}.pag would have more than 1 GiB after the command. Nothing was changed."
     } else {
-        "{}.pag would have more than 1 GiB after the command: nothing was changed. Wide pages hold more, most of all with values above 300 bytes: dbm widen makes them."
+        "{}.pag would have more than 1 GiB after the command. Nothing was changed. Wide pages hold more, especially with values of more than 300 bytes: use dbm widen."
     };
     with_one(text, Part::Name(base))
 }
@@ -83,7 +83,7 @@ pub fn too_long_sentence<'a>(base: &'a str, wide: bool) -> Sentence<'a> {
 /// For a redo file that is not of these files, or that was not written by a save.
 pub fn redo_sentence<'a>(base: Option<&'a str>) -> Sentence<'a> {
     with_one(
-        "{}.redo says that a save was cut off, but it is not of these files: an older copy was put back, another program wrote them, or no save has left it. Put the files back that it belongs to, or take it away to have the files as they are.",
+        "{}.redo has an unfinished save that does not match these files: an older copy was restored, another program wrote them, or no save has left it. Restore the files that it belongs to, or remove it to use the files as they are.",
         base_part(base),
     )
 }
@@ -92,7 +92,7 @@ pub fn redo_sentence<'a>(base: Option<&'a str>) -> Sentence<'a> {
 pub fn untaken_sentence<'a>(base: Option<&'a str>) -> Sentence<'a> {
     let base = base_part(base);
     with_three(
-        "{}.lock, {}.writer or {}.redo was one that others could have planted, and is so no more: try again.",
+        "{}.lock, {}.writer or {}.redo might have been planted by another user, but no longer. Try again.",
         base,
         base,
         base,
@@ -108,9 +108,9 @@ fn octal(mode: u32) -> Part<'static> {
 /// For a base that names no file.
 pub fn base_sentence<'a>(base: Option<&'a str>) -> Sentence<'a> {
     match base {
-        Some("") => plain("The name of the database is empty: give it without .dir or .pag."),
+        Some("") => plain("The name of the database is empty. Give a name without .dir or .pag."),
         base => with_one(
-            "{} is a folder: give the name of a database in it, without .dir or .pag.",
+            "{} is a folder. Give the name of a database in it, without .dir or .pag.",
             Part::Quoted(base.unwrap_or("BASE")),
         ),
     }
@@ -120,7 +120,7 @@ pub fn base_sentence<'a>(base: Option<&'a str>) -> Sentence<'a> {
 pub fn absent_sentence<'a>(base: Option<&'a str>) -> Sentence<'a> {
     let base = base_part(base);
     with_two(
-        "Neither {}.dir nor {}.pag exists: see that the name of the database is right.",
+        "Neither {}.dir nor {}.pag exists. Check the name of the database.",
         base,
         base,
     )
@@ -130,7 +130,7 @@ pub fn absent_sentence<'a>(base: Option<&'a str>) -> Sentence<'a> {
 pub fn exists_sentence<'a>(base: Option<&'a str>) -> Sentence<'a> {
     let base = base_part(base);
     with_two(
-        "{}.dir or {}.pag exists already: give the copy another name, or remove its files first.",
+        "{}.dir or {}.pag already exists. Give the copy another name, or remove these files first.",
         base,
         base,
     )
@@ -141,11 +141,11 @@ pub fn lock_sentence<'a>(base: Option<&'a str>, timeout: Option<&str>) -> Senten
     let base = base_part(base);
     match timeout {
         Some("0") => with_one(
-            "Another run has {} open. Without --timeout 0 this one waits for it.",
+            "Another process has {} open. Without --timeout 0 the command waits.",
             base,
         ),
         _ => with_one(
-            "Another run has had {} open all the time. --timeout SECONDS waits longer.",
+            "Another process had {} open all the time. Use --timeout SECONDS to wait longer.",
             base,
         ),
     }
@@ -155,7 +155,7 @@ pub fn lock_sentence<'a>(base: Option<&'a str>, timeout: Option<&str>) -> Senten
 pub fn small_sentence(base: Option<&str>) -> Sentence<'_> {
     let base = base_part(base);
     with_two(
-        "{}.pag looks like a file of small pages, which a change with --wide would destroy. Leave --wide out, or make the pages wide with dbm widen {}. If they are wide all the same, add --insist. Nothing was changed.",
+        "{}.pag looks like a file of small pages, which a change with --wide would destroy. Omit --wide, or make the pages wide with dbm widen {}. If they are wide, add --insist. Nothing was changed.",
         base,
         base,
     )
@@ -166,19 +166,19 @@ pub fn moved_sentence<'a>(base: Option<&'a str>, file: MovedFile) -> Sentence<'a
     let base = base_part(base);
     match file {
         MovedFile::Lock => with_one(
-            "{}.lock was taken away or made anew while this run held it, and another may write by now. Nothing was saved: leave the lock where it is, and run the command again.",
+            "{}.lock was removed or replaced while this command held it, so another process may be writing. Nothing was saved. Leave the lock in place, and run the command again.",
             base,
         ),
         MovedFile::Writer => with_one(
-            "{}.writer was taken away or made anew while this run held it, and another may write by now. Nothing was saved: leave it where it is, and run the command again.",
+            "{}.writer was removed or replaced while this command held it, so another process may be writing. Nothing was saved. Leave it in place, and run the command again.",
             base,
         ),
         MovedFile::Pages => with_one(
-            "{}.pag is another file than this run has read: it was renamed, removed or replaced. Nothing was saved: run the command again on the files as they are now.",
+            "{}.pag is not the file that this command has read: it was renamed, removed or replaced. Nothing was saved. Run the command again to use the present files.",
             base,
         ),
         MovedFile::Directory => with_one(
-            "{}.dir is another file than this run has read: it was renamed, removed or replaced. Nothing was saved: run the command again on the files as they are now.",
+            "{}.dir is not the file that this command has read: it was renamed, removed or replaced. Nothing was saved. Run the command again to use the present files.",
             base,
         ),
     }
@@ -188,7 +188,7 @@ pub fn moved_sentence<'a>(base: Option<&'a str>, file: MovedFile) -> Sentence<'a
 pub fn changed_sentence(base: Option<&str>) -> Sentence<'_> {
     let base = base_part(base);
     with_two(
-        "Another program has written {}.pag or {}.dir since they were read or saved here. Nothing was saved, so its changes stay: run the command again, or begin a new session.",
+        "Another program has written {}.pag or {}.dir since this command read or saved them. Nothing was saved, so its changes remain. Run the command again, or start a new session.",
         base,
         base,
     )
@@ -199,7 +199,7 @@ pub fn open_sentence<'a>(words: &Words<'a>, fault: OpenFault) -> Option<Sentence
     let base = base_part(words.base);
     match fault {
         OpenFault::PagLength => Some(with_three(
-            "{}.pag is no whole number of pages of {} bytes: it was cut off, is no file of sdbm, or was written {}.",
+            "The length of {}.pag is not a multiple of its page size, {} bytes: it was truncated, is not an sdbm file, or was written {}.",
             base,
             Part::Text(page_bytes(words.wide)),
             Part::Text(other_width(words.wide)),
@@ -211,10 +211,10 @@ pub fn open_sentence<'a>(words: &Words<'a>, fault: OpenFault) -> Option<Sentence
             Part::Text(other_width(words.wide)),
         )),
         OpenFault::Dir(_) => {
-            Some(with_one("{}.dir is damaged, or is no directory of sdbm.", base))
+            Some(with_one("{}.dir is damaged, or is not a directory of sdbm.", base))
         }
         OpenFault::Misplaced(page) => Some(with_four(
-            "A key on page {} of {}.pag belongs to another page: the database was written {}, or {}.dir is that of another one.",
+            "A key on page {} of {}.pag belongs to another page: the database was written {}, or {}.dir belongs to another database.",
             Part::Number(page as u64),
             base,
             Part::Text(other_hash(words.unsigned)),

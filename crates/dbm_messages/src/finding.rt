@@ -19,14 +19,14 @@ impl fmt::Display for Reason {
 // The plain words for a reason, if there are any.
 fn reason_text(kind: ErrorKind) -> Option<&'static str> {
     match kind {
-        ErrorKind::NotFound => Some("it is not there"),
-        ErrorKind::PermissionDenied => Some("you have no permission"),
+        ErrorKind::NotFound => Some("it does not exist"),
+        ErrorKind::PermissionDenied => Some("permission denied"),
         ErrorKind::IsADirectory => Some("it is a folder"),
-        ErrorKind::NotADirectory => Some("a part of its path is no folder"),
+        ErrorKind::NotADirectory => Some("a part of its path is not a folder"),
         ErrorKind::ReadOnlyFilesystem => Some("its file system is read-only"),
         ErrorKind::StorageFull => Some("no space is left on the disk"),
-        ErrorKind::QuotaExceeded => Some("your quota of the disk is used up"),
-        ErrorKind::FilesystemLoop => Some("its links lead in a circle"),
+        ErrorKind::QuotaExceeded => Some("your disk quota is exhausted"),
+        ErrorKind::FilesystemLoop => Some("its links form a circle"),
         ErrorKind::InvalidFilename => Some("its name is too long"),
         _ => None,
     }

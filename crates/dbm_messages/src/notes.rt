@@ -6,7 +6,7 @@ use crate::sentence::{Part, Sentence, plain, with_one, with_three, with_two};
 pub fn absent_note<'a>(base: &'a str) -> Sentence<'a> {
     let base = Part::Name(base);
     with_two(
-        "neither {}.dir nor {}.pag is there, so the database is empty",
+        "neither {}.dir nor {}.pag exists, so the database is empty",
         base,
         base,
     )
@@ -16,7 +16,7 @@ pub fn absent_note<'a>(base: &'a str) -> Sentence<'a> {
 pub fn pending_note<'a>(base: &'a str) -> Sentence<'a> {
     let base = Part::Name(base);
     with_three(
-        "the change is saved in {}.redo, but could not be brought into {}.pag and {}.dir to the end, as where a disk is full: the next command that writes does it, and until then programs other than dbm may see half of it",
+        "the change is saved in {}.redo, but {}.pag and {}.dir could not be written completely, for example because the disk is full. The next command that writes finishes this; until then programs other than dbm may see a part of the change",
         base,
         base,
         base,
@@ -26,18 +26,15 @@ pub fn pending_note<'a>(base: &'a str) -> Sentence<'a> {
 /// The changes of `lines` lines of a session are not saved.
 pub fn unsaved_note(lines: u64) -> Sentence<'static> {
     if lines == 1 {
-        return plain("not saved: the change that 1 line asked");
+        return plain("not saved: the change of 1 line");
     }
-    with_one(
-        "not saved: the changes that {} lines asked",
-        Part::Number(lines),
-    )
+    with_one("not saved: the changes of {} lines", Part::Number(lines))
 }
 
 /// A refused program image is an object file.
 pub fn object_note<'a>(file: &'a str) -> Sentence<'a> {
     with_one(
-        "{} is an ELF object, and no image: take its section .text, or let tools/bpfcc make the image",
+        "{} is an ELF object and not an image. Use its section .text, or make the image with tools/bpfcc",
         Part::Name(file),
     )
 }
@@ -58,7 +55,7 @@ pub fn wait_note<'a>(base: &'a str, holder: Option<u64>, name: Option<&'a String
     let base = Part::Name(base);
     let Some(process) = holder else {
         return with_one(
-            "waiting for {}, which another run has open; --timeout SECONDS ends the wait",
+            "waiting for {}, which another process has open; --timeout SECONDS limits the wait",
             base,
         );
     };
@@ -67,7 +64,7 @@ pub fn wait_note<'a>(base: &'a str, holder: Option<u64>, name: Option<&'a String
         None => Part::Text("?"),
     };
     with_three(
-        "waiting for {}, which process {} ({}) has open; --timeout SECONDS ends the wait",
+        "waiting for {}, which process {} ({}) has open; --timeout SECONDS limits the wait",
         base,
         Part::Number(process),
         name,
@@ -104,7 +101,7 @@ pub fn bad_lines_note(first: u64, more: u64) -> Sentence<'static> {
 /// The number of the first line of a script or a batch that ends in CR, counted from 1.
 pub fn line_end_note(line: u64) -> Sentence<'static> {
     with_one(
-        "line {} ends in CR: lines end in LF alone. A CR that belongs to a value is written \\x0d or hex:0d, with --text",
+        "line {} ends in CR; lines must end in LF alone. With --text, write a CR within a value as \\x0d or hex:0d",
         Part::Number(line),
     )
 }
@@ -112,7 +109,7 @@ pub fn line_end_note(line: u64) -> Sentence<'static> {
 /// The number of the last line of a script or a batch, counted from 1, which has no LF after it and was run.
 pub fn half_line_note(line: u64) -> Sentence<'static> {
     with_one(
-        "line {}, the last, has no LF after it, and was run as it is: if its sender was cut off, it may be a part of a line",
+        "line {}, the last one, has no LF, and was run as it is. If its sender was interrupted, it may be incomplete",
         Part::Number(line),
     )
 }

@@ -19,11 +19,11 @@ pub fn no_text_sentence<'a>(words: &Words<'a>) -> Sentence<'a> {
     let file = file_part(words.file);
     match words.subject {
         Subject::Asm => with_one(
-            "{} is not UTF-8, so it is no text. If it is an image, dbm disasm prints its text.",
+            "{} is not UTF-8, so it is not a text. If it is an image, dbm disasm prints its text.",
             file,
         ),
         Subject::Disasm | Subject::Session | Subject::Other => with_one(
-            "{} is not UTF-8, so it is no text. If it is an image, say so by --image.",
+            "{} is not UTF-8, so it is not a text. If it is an image, use --image.",
             file,
         ),
     }
@@ -32,7 +32,7 @@ pub fn no_text_sentence<'a>(words: &Words<'a>) -> Sentence<'a> {
 /// For an unknown stock program. It lists the names of all.
 pub fn stock_sentence<'a>(word: Option<&'a str>) -> Sentence<'a> {
     with_two(
-        "There is no stock program {}. The stock programs are {}. ./ before the word names a file.",
+        "There is no stock program {}. The stock programs are {}. Write ./ before the word to name a file.",
         Part::Quoted(word.unwrap_or("")),
         Part::Text(NAMES),
     )
@@ -52,14 +52,14 @@ pub fn assemble_sentence<'a>(words: &Words<'a>, fault: AsmFault) -> Option<Sente
 // The error of a line.
 fn line_fault(kind: FaultKind) -> Option<&'static str> {
     match kind {
-        FaultKind::Mnemonic => Some("its first word is no instruction"),
+        FaultKind::Mnemonic => Some("its first word is not an instruction"),
         FaultKind::Operand => Some(
-            "an operand is missing, is one too many, or is not of the form that the instruction takes",
+            "an operand is missing or surplus, or is not of the form that the instruction takes",
         ),
         FaultKind::Number => Some("a number does not fit"),
-        FaultKind::Label => Some("the label is nowhere, or stands twice"),
+        FaultKind::Label => Some("the label is not defined, or is defined twice"),
         FaultKind::Backward => {
-            Some("the label stands at or above the jump, and jumps lead forward alone")
+            Some("the label is at or above the jump, and jumps only lead forward")
         }
         FaultKind::TooLong => Some("the program has more than 4,096 units here"),
         FaultKind::NoMemory => None,
@@ -71,7 +71,7 @@ pub fn decode_sentence<'a>(words: &Words<'a>, fault: DecodeFault) -> Option<Sent
     let file = file_part(words.file);
     match fault {
         DecodeFault::Length => Some(with_two(
-            "{} is no whole number of units of 8 bytes. {}.",
+            "The length of {} is not a multiple of 8 bytes. {}.",
             file,
             Part::Text(if_text(words.subject)),
         )),
@@ -93,7 +93,7 @@ pub fn decode_sentence<'a>(words: &Words<'a>, fault: DecodeFault) -> Option<Sent
             file,
         )),
         DecodeFault::Reserved(unit) => Some(with_two(
-            "The instruction at unit {} of {} has a field that is to be 0 and is not.",
+            "The instruction at unit {} of {} has a field that must be 0 and is not.",
             Part::Number(unit as u64),
             file,
         )),
@@ -105,7 +105,7 @@ pub fn decode_sentence<'a>(words: &Words<'a>, fault: DecodeFault) -> Option<Sent
 fn if_text(subject: Subject) -> &'static str {
     match subject {
         Subject::Disasm => "If it is a text, dbm asm makes its image",
-        Subject::Asm | Subject::Session | Subject::Other => "If it is a text, leave --image out",
+        Subject::Asm | Subject::Session | Subject::Other => "If it is a text, omit --image",
     }
 }
 
@@ -114,7 +114,7 @@ pub fn submit_sentence<'a>(words: &Words<'a>, fault: RegFault) -> Option<Sentenc
     match fault {
         RegFault::Decode(fault) => decode_sentence(words, fault),
         RegFault::Verify(fault) => Some(with_two(
-            "The program in {} is not accepted: docs/PROGRAMS.md says under Verdicts what {} asks for.",
+            "The program in {} is not accepted. docs/PROGRAMS.md explains {} under Verdicts.",
             file_part(words.file),
             Part::Verdict(fault),
         )),
@@ -134,7 +134,7 @@ pub fn pool_sentence(fault: PoolFault) -> Option<Sentence<'static>> {
 }
 
 const UNDONE: &str =
-    "The workers could not do all tasks: that should never be. Nothing was changed.";
+    "The workers could not do all tasks, which should never happen. Nothing was changed.";
 
 // For a refused task. Returns `None` if memory ran out.
 fn refused_sentence(task: usize, refusal: Refusal) -> Option<Sentence<'static>> {

@@ -8,16 +8,16 @@ use dbm_reports::ReportFault;
 pub fn session_sentence(fault: ServeFault) -> Option<Sentence<'static>> {
     match fault {
         ServeFault::Write => Some(plain(
-            "An answer could not be written, as where the program that reads them has left. What was saved before stands.",
+            "An answer could not be written, perhaps because the program that reads them has ended. Earlier saves remain.",
         )),
         ServeFault::Report(ReportFault::TooLong) => Some(plain(
-            "A line has more than 16 MiB. What was saved before stands.",
+            "A line has more than 16 MiB. Earlier saves remain.",
         )),
         ServeFault::FileTooLong => Some(plain(
-            "The database would have more than 1 GiB in its .pag, so it was not saved. What was saved before stands.",
+            "The .pag of the database would have more than 1 GiB, so it was not saved. Earlier saves remain.",
         )),
         ServeFault::CutLine(line) => Some(with_one(
-            "Line {}, the last, has no LF after it, as if its sender was cut off, so it was not run. What the lines before it changed is saved.",
+            "Line {}, the last one, has no LF, so it may be incomplete and was not run. The changes of the lines before it are saved.",
             Part::Number(line),
         )),
         _ => None,

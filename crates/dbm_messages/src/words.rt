@@ -6,24 +6,24 @@ use dbm_script::{Notation, read_blank, read_bytes, read_number};
 use std::alloc::Global;
 
 const NO_HEX: &str =
-    "is neither hex, two digits for each byte, nor . for none; with --text it is read as text";
+    "is not hex (two digits a byte, or . for no bytes); with --text it is read as text";
 
 const NO_TEXT: &str =
-    "is no text: docs/DBM.md has its escapes and its numbers; a backslash is written \\\\ and a comma \\,";
+    "is not valid text: docs/DBM.md has the escapes and numbers; write a backslash as \\\\ and a comma as \\,";
 
 const NO_LAYOUT: &str =
-    "is no layout: write u8, u16, u32, u64 or i64 with a comma between two, and text or hex at most as the last";
+    "is not a layout: write u8, u16, u32, u64 or i64, separated by commas, and text or hex only as the last";
 
-const NO_NUMBER: &str = "is no number below 18446744073709551616 without leading zeros";
+const NO_NUMBER: &str = "is not a number below 18446744073709551616 without leading zeros";
 
 const NO_BLANK: &str = "is neither . nor a number below 65536 without leading zeros";
 
 const NO_TIME: &str = "is neither now, now-ms nor a number below 18446744073709551616";
 
 const NO_EVERY: &str =
-    "is neither a number of lines, from 1 on, nor one of seconds with an s after it, as 5s";
+    "is neither a number of lines, at least 1, nor a number of seconds with an s, such as 5s";
 
-const NO_COUNT: &str = "is no number below 4294967296";
+const NO_COUNT: &str = "is not a number below 4294967296";
 
 /// For an unknown layout.
 pub fn layout_sentence(layout: Option<&str>) -> Sentence<'_> {

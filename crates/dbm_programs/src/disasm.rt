@@ -68,8 +68,7 @@ pub fn disasm_command<'a>(alloc: Global) -> Result<Command<'a>, AllocError>
         ),
     ]?;
     let about = "Print the text of a program's image";
-    let notes =
-        "Prints one instruction a line. The bytes of an image come from the hex that asm prints so:\n\
+    let notes = "Prints one instruction a line. To make an image from the hex that asm prints:\n\
          dbm asm counter.s | xxd -r -p > counter.image\n\n\
          Example: dbm disasm counter.image";
     subcommand(alloc, "disasm", about, notes, args)

@@ -71,7 +71,7 @@ pub fn programs_command<'a>(alloc: Global) -> Result<Command<'a>, AllocError>
     let args = vec![in alloc; Arg::new(alloc, "NAME").help(help)]?;
     let about = "List the stock programs, or describe one";
     let notes =
-        "A stock program is named @NAME wherever a command takes a program's FILE: what it does is proved.\n\n\
+        "Write @NAME for a stock program wherever a command takes the FILE of a program. Its behavior is proved.\n\n\
          Example: dbm programs lease";
     subcommand(alloc, "programs", about, notes, args)
 }

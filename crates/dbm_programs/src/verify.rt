@@ -81,13 +81,13 @@ pub fn verify_command<'a>(alloc: Global) -> Result<Command<'a>, AllocError>
         flag(
             alloc,
             "explain",
-            "Print what is known before each instruction, and in words why the program is refused"
+            "Print what the verifier knows before each instruction, and why it refuses the program"
         ),
     ]?;
     let about = "Say whether a program is accepted, or why it is refused";
     let notes =
         "Prints accepted UNITS, its length in units of 8 bytes, or refused FAULT with status 1. With --explain\n\
-         that line is the last one; of a file that is no program's image it stands alone.\n\n\
+         that line comes last; if the file is not the image of a program, it is the only one.\n\n\
          Example: dbm verify counter.s";
     subcommand(alloc, "verify", about, notes, args)
 }

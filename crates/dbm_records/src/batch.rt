@@ -108,7 +108,7 @@ pub fn batch_command<'a>(alloc: Global) -> Result<Command<'a>, AllocError>
     ensures { IfOk result (IsSubcommand spec.batch) }
 {
     let clock =
-        "Take now and now-ms as NOW of a line: the time in seconds or in thousandths, the same in all lines";
+        "Let lines use now and now-ms as NOW: seconds or milliseconds, the same for all lines";
     let args = vec![in alloc;
         base(alloc),
         file(
@@ -127,13 +127,13 @@ pub fn batch_command<'a>(alloc: Global) -> Result<Command<'a>, AllocError>
         timeout(alloc),
         verbose(alloc),
     ]?;
-    let about = "Run a program on the records of many keys, by workers side by side";
+    let about = "Run a program on the records of many keys, by parallel workers";
     let notes =
-        "Standard input has a task in each line: KEY ARG BLANK NOW, as the words of run. An empty line is skipped.\n\
-         Lines end in LF: one that ends in CR LF is no task. Prints for each task, in their order, ran CODE WORD,\n\
-         missing, or crowded (there is no room for a new record). Nothing is printed or written where a line is no\n\
-         task, the program is not accepted, or a task is refused; the fault is then bad line N, Verify(FAULT), or\n\
-         Refused(N, FAULT) with the task's number from 0 on.\n\n\
+        "Each line of standard input is a task: KEY ARG BLANK NOW, as for run. An empty line is skipped. Lines end\n\
+         in LF: one that ends in CR LF is not a task. Prints for each task, in order, ran CODE WORD, missing, or\n\
+         crowded (there is no room for a new record). Nothing is printed or written if a line is not a task, the\n\
+         program is not accepted, or a task is refused; the fault is then bad line N, Verify(FAULT), or\n\
+         Refused(N, FAULT) with the number of the task, from 0 on.\n\n\
          Example: printf '6162 . 8 now\\n6364 . 8 now\\n' | dbm batch users @counter --clock";
     subcommand(alloc, "batch", about, notes, args)
 }

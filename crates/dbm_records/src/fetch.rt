@@ -81,7 +81,7 @@ pub fn fetch_command<'a>(alloc: Global) -> Result<Command<'a>, AllocError>
     let raw = flag(
         alloc,
         "raw",
-        "Print the bytes of the value and nothing else; where the key is missing, nothing",
+        "Print only the bytes of the value; nothing if the key is missing",
     );
     let args = vec![in alloc;
         base(alloc),
@@ -99,7 +99,7 @@ pub fn fetch_command<'a>(alloc: Global) -> Result<Command<'a>, AllocError>
     ]?;
     let about = "Print the value of a key";
     let notes =
-        "Prints found VALUE, or missing with status 1; with --raw the bytes of the value alone.\n\n\
+        "Prints found VALUE, or missing with status 1; with --raw only the bytes of the value.\n\n\
          Example: dbm fetch users ab --text";
     aliased_subcommand(alloc, "fetch", "get", about, notes, args)
 }

@@ -94,17 +94,13 @@ pub fn rename_command<'a>(alloc: Global) -> Result<Command<'a>, AllocError>
     let new_key = required_word(
         alloc,
         "NEWKEY",
-        "The key that the pair gets, in hex, or with --text as text; . for the empty one",
+        "The new key in hex, or with --text as text; . is the empty key",
     );
-    let replace = flag(
-        alloc,
-        "replace",
-        "Take the place of a pair that has the new key",
-    );
+    let replace = flag(alloc, "replace", "Replace a pair that has the new key");
     let raw_keys = flag(
         alloc,
         "raw-key",
-        "The bytes of KEY and NEWKEY are those of the words themselves, without escapes or numbers",
+        "Take the bytes of KEY and NEWKEY as they are, without escapes or numbers",
     );
     let args = vec![in alloc;
         base(alloc),
@@ -122,8 +118,8 @@ pub fn rename_command<'a>(alloc: Global) -> Result<Command<'a>, AllocError>
     ]?;
     let about = "Give a pair another key";
     let notes =
-        "Prints renamed, or with status 1 missing (there is no pair with KEY), exists (there is one with NEWKEY;\n\
-         only without --replace), crowded (there is no room) or refused PairTooLarge. Then nothing is changed.\n\n\
+        "Prints renamed, or with status 1 missing (no pair has KEY), exists (a pair has NEWKEY; only without\n\
+         --replace), crowded (there is no room) or refused PairTooLarge. Nothing is changed then.\n\n\
          Example: dbm rename users ab cd --text";
     subcommand(alloc, "rename", about, notes, args)
 }

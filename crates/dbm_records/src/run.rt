@@ -125,23 +125,23 @@ pub fn run_command<'a>(alloc: Global) -> Result<Command<'a>, AllocError>
         required_word(
             alloc,
             "ARG",
-            "What the program is given, in hex, or with --text as text; . for nothing"
+            "The argument of the program, in hex, or with --text as text; . is empty"
         ),
         required_word(
             alloc,
             "BLANK",
-            "How many zeros it runs on where the key is not there, or . to answer missing then",
+            "If the key is missing, the number of zeros to run on, or . to answer missing",
         ),
         required_word(
             alloc,
             "NOW",
-            "The time that it is told: a number in whatever unit it counts, now for the seconds since 1970, or now-ms"
+            "The time for the program: a number in its own unit, now for seconds since 1970, or now-ms"
         ),
         valued_option(
             alloc,
             "expect",
             "CODE",
-            "Let the status be 0 where the program ended with this code, 1 where with another, 3 where it did not run"
+            "Exit with status 0 if the program returns this code, 1 if another, 3 if it does not run"
         ),
         image(alloc),
         raw_key(alloc),
@@ -158,8 +158,8 @@ pub fn run_command<'a>(alloc: Global) -> Result<Command<'a>, AllocError>
     let about = "Run a program on the record of a key";
     let notes =
         "Prints ran CODE WORD, or with status 1 (3 with --expect) missing, crowded (there is no room for a new record) or\n\
-         refused FAULT (the program is not accepted, or KEY and BLANK or ARG are too long). CODE 1 kept the\n\
-         record, 2 deleted the pair, and any other changed nothing; WORD is what the program replied.\n\n\
+         refused FAULT (the program is not accepted, or KEY and BLANK or ARG are too long). CODE 1 saved the\n\
+         record, 2 deleted the pair, and any other changed nothing; WORD is the reply of the program.\n\n\
          Example: dbm run users hits @counter . 8 now --text";
     subcommand(alloc, "run", about, notes, args)
 }

@@ -100,17 +100,17 @@ pub fn store_command<'a>(alloc: Global) -> Result<Command<'a>, AllocError>
     let value = required_word(
         alloc,
         "VALUE",
-        "The value in hex, or with --text as text; . for the empty one",
+        "The value in hex, or with --text as text; . is the empty value",
     );
     let insert = flag(
         alloc,
         "insert",
-        "Change nothing where the key is there, and print exists",
+        "If the key exists, change nothing and print exists",
     );
     let raw_value = flag(
         alloc,
         "raw-value",
-        "The bytes of VALUE are those of the word itself, without escapes or numbers; - for standard input",
+        "Take the bytes of VALUE as they are, without escapes or numbers; - is standard input",
     );
     let args = vec![in alloc;
         base(alloc),
@@ -129,7 +129,7 @@ pub fn store_command<'a>(alloc: Global) -> Result<Command<'a>, AllocError>
         timeout(alloc),
         verbose(alloc),
     ]?;
-    let about = "Store a pair, in place of the key's old value";
+    let about = "Store a pair; replaces the value of the key";
     let notes =
         "Prints stored, or with status 1 exists (only with --insert), crowded (there is no room) or\n\
          refused PairTooLarge (key and value have more than 1,008 bytes together, or 8,008 with --wide).\n\n\

@@ -63,8 +63,8 @@ pub fn session_command<'a>(alloc: Global) -> Result<Command<'a>, AllocError>
     ensures { IfOk result (IsSubcommand spec.session) }
 {
     let every =
-        "Save after N lines that ask changes, or with Ns after the first line after N seconds";
-    let clock = "Take now and now-ms as NOW of a line: the time when it is answered";
+        "Save after N lines that may change something, or with Ns after the first line after N seconds";
+    let clock = "Let lines use now and now-ms as NOW: the time when the line is answered";
     let args = vec![in alloc;
         base(alloc),
         valued_option(alloc, "save-every", "N", every),
@@ -78,13 +78,13 @@ pub fn session_command<'a>(alloc: Global) -> Result<Command<'a>, AllocError>
         timeout(alloc),
         verbose(alloc),
     ]?;
-    let about = "Answer lines on standard input one by one, as a shell or through a pipe";
+    let about = "Answer the lines of standard input one by one, as a shell or through a pipe";
     let notes =
-        "Lines are those of script, and answered as there, each before the next is read. save saves, and is\n\
-         answered saved once that is on the disk; the end of the input saves too. What was not saved is lost\n\
-         if the session is killed. Each line ends in LF: one in which the input ends is not run, and is a fault.\n\
-         It holds the lock until it ends: no other run may change the database, and readers get its last save.\n\
-         help tells of the lines that scripts do not have: .list, .keys, .stats, and .program FILE.\n\n\
+        "Takes the lines of script, and answers each before it reads the next. The line save saves, and answers\n\
+         saved once the save is on the disk; the end of the input saves too. If the session is killed, unsaved\n\
+         changes are lost. Each line ends in LF; an incomplete last line is not run, and is a fault. Nobody else\n\
+         may change the database until the session ends; readers get its last save. The line help prints the\n\
+         lines that scripts do not have: .list, .keys, .stats, and .program FILE.\n\n\
          Example: printf 'put 68 01\\nget 68\\n' | dbm session users";
     subcommand(alloc, "session", about, notes, args)
 }

@@ -217,9 +217,7 @@ fn serve_request<R: Runtime<File = File> + AllocGlobal + Threads + Wait + Sync, 
         _ => None,
     };
     let place = place_asked(&ask);
-    if let Some(base) = place.base
-        && !is_name(base)
-    {
+    if place.base.is_some_and(|base| !is_name(base)) {
         return Err(ServeFault::BadBase);
     }
     if let Ask::Backup(backup) = &ask
@@ -227,15 +225,7 @@ fn serve_request<R: Runtime<File = File> + AllocGlobal + Threads + Wait + Sync, 
     {
         return Ok(Some(refuse_copy(rt, backup, ServeFault::BadBase)));
     }
-    let copies = matches!(ask, Ask::Backup(_));
-    let writes = place.writes || copies;
-    let patience = patience_of(rt, access.timeout, writes)?;
-    if (access.must_exist || copies) && has_no_files(rt, place.base) {
-        return Err(ServeFault::Absent);
-    }
-    if writes && io::writer(rt).write(&[]).is_err() {
-        return Err(ServeFault::Write);
-    }
+    let patience = check_access(rt, &ask, access, place)?;
     let taking = Taking { place, patience };
     // A terminal reports the end of its input only once, so it is not read ahead.
     if place.base.is_some() && reads_whole(&ask) && !is_terminal(rt, 0) {
@@ -260,6 +250,25 @@ fn serve_request<R: Runtime<File = File> + AllocGlobal + Threads + Wait + Sync, 
             Ok(is_read.then_some(Served::plain(0)))
         }
     }
+}
+
+// Checks that required files exist, and that standard output can be written if there may be a change. Returns the longest wait for the lock.
+fn check_access<R: Runtime<File = File> + AllocGlobal>(
+    rt: &R,
+    ask: &Ask<'_>,
+    access: Access<'_>,
+    place: RunPlace<'_>,
+) -> Result<Option<Duration>, ServeFault> {
+    let copies = matches!(ask, Ask::Backup(_));
+    let writes = place.writes || copies;
+    let patience = patience_of(rt, access.timeout, writes)?;
+    if (access.must_exist || copies) && has_no_files(rt, place.base) {
+        return Err(ServeFault::Absent);
+    }
+    if writes && io::writer(rt).write(&[]).is_err() {
+        return Err(ServeFault::Write);
+    }
+    Ok(patience)
 }
 
 // Takes the files of a request, except pages that it may not need.
@@ -400,19 +409,34 @@ fn serve_peeked<R: Runtime<File = File> + AllocGlobal + Threads + Wait + Sync, I
         return serve_taken(rt, wish, taken, reader);
     };
     let reads = held.is_none();
-    let Some(page) = serve_quick(rt, wish, &bytes, &unread, &mut held)? else {
-        let taken = RunFiles {
-            bytes,
-            held,
-            unread: Some(unread),
-        };
-        let taken = take_rest(rt, taking.place, taken, taking.patience)?;
-        return serve_taken(rt, wish, taken, reader);
-    };
-    drop(unread);
-    drop(held);
+    match serve_quick(rt, wish, &bytes, &unread, &mut held)? {
+        Some(page) => {
+            drop(unread);
+            drop(held);
+            print_page(rt, wish, bytes.program.as_slice(), page, reads)
+        }
+        None => {
+            let taken = RunFiles {
+                bytes,
+                held,
+                unread: Some(unread),
+            };
+            let taken = take_rest(rt, taking.place, taken, taking.patience)?;
+            serve_taken(rt, wish, taken, reader)
+        }
+    }
+}
+
+// Prints the lines of a request that was served from one page, unless its save has printed them.
+fn print_page<R: Runtime<File = File> + AllocGlobal>(
+    rt: &R,
+    wish: Wish<'_>,
+    program: &[u8],
+    page: PageServed,
+    reads: bool,
+) -> Result<Option<Served>, ServeFault> {
     let PageServed { result, saved } = page;
-    let refusal = refusal_in(rt.alloc(), wish, bytes.program.as_slice(), result.notes);
+    let refusal = refusal_in(rt.alloc(), wish, program, result.notes);
     if saved.is_none() && !print_unsaved(rt, reads, result.text.as_slice())? {
         return Ok(None);
     }

@@ -14,6 +14,6 @@ returns-clause-ok g c =
     let image = c.in_ok-begin.image in
     let count_is : c.in_ok-count.count ≡ length (chosen begin (map.entries (map_of image))) = c.in_ok-count.ensures ∙ ap (λ (prefix : List ℕ). length (chosen prefix (map.entries (map_of image)))) c.as_slice.ensures in
     let text_is : c.printed.result.text.items ≡ count_line (length (chosen begin (map.entries (map_of image)))) =
-        ap (λ (text : Vec ℕ). text.items) c.printed.ensures.text ∙ c.in_ok-show_named.ensures ∙ ap count_line count_is in
+    ap (λ (text : Vec ℕ). text.items) c.printed.ensures.text ∙ c.in_ok-show_named.ensures ∙ ap count_line count_is in
     within (prefix_asked c.args.notation.now c.args.self.now.prefix) begin (λ prefix. OnDatabase c.args.self.now.form c.args.given.now (CountsChosen prefix c.printed.result)) c.in_ok-begin.ensures.begin
     (image, (c.in_ok-begin.ensures.image, record { text_is = text_is; status_is = c.printed.ensures.status; written = c.printed.ensures.database }))

@@ -165,9 +165,8 @@ void boddurci_give(boddurci_base *base);
  * changes are in that save. A save waits for readers that have BASE.lock. Calls that come during a save wait until it has ended. Then one
  * of them saves for all that wait, and all of them return the status and the fault of that save: after a fault each may save again. No
  * thread is served twice while another one waits. A single thread waits for nobody. A thread that is cancelled returns from its call first.
- * While saves take less than half a millisecond, up to four threads for each processor look for the end again and again and yield the
- * processor, for twice as long as the last save took; then they sleep. The rest sleep at once, and so do all if more wait than there are
- * processors and other programs need these. Under SCHED_FIFO a thread yields only to threads of its own priority.
+ * While saves take less than half a millisecond, a thread that waits looks for the end again and again and yields the processor, for twice
+ * as long as the last save took; then it sleeps. Under SCHED_FIFO a thread yields only to threads of its own priority.
  *
  * Full disks. Both files get the blocks that they need before the save counts, if the file system can allocate them. So a full disk is
  * FILE_FAILED with nothing changed. So is a save that would make one of the three files longer than the process may (RLIMIT_FSIZE), and it

@@ -466,10 +466,6 @@ struct boddurci_group {
     int served;                  /* the number of calls of the last save */
     int others;                  /* the number of calls that waited when the last save ended, and that it served */
     int skips;                   /* the number of saves that do not wait, after a wait in vain */
-    int processors;              /* of the machine */
-    int watchers;                /* the number of threads that watch for the end of a save; atomic */
-    int awaited;                 /* the number of calls that a thread sleeps for before it saves, else 0 */
-    pthread_cond_t came;         /* signalled when they have come */
     int64_t took;                /* how long the last save took, in nanoseconds; atomic */
 };
 

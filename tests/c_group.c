@@ -300,7 +300,7 @@ static void test_many(int changes)
         EXPECT(savers[i].done == changes && savers[i].status == BODDURCI_DONE && savers[i].fault.system == 0);
     }
     unsigned long saves = (flushes - before) / alone;
-    EXPECT(saves != 0 && saves <= calls / 4 && waiting == 0);
+    EXPECT(saves != 0 && saves <= calls / 2 && waiting == 0);
     printf("%lu calls of %d threads took %lu saves; ", calls, THREADS, saves);
     boddurci_close_files(base);
 }

@@ -4,7 +4,8 @@ ghost use Rattle.dbm_tool.specs.Endings.{IsExitStatus, IsRefusalStatus};
 
 use dbm_command_line::ToolFault;
 use dbm_messages::ServeFault;
-use dbm_reports::Notes;
+use dbm_records::PageResult;
+use dbm_reports::{Notes, Outcome};
 
 /// The status of every fault.
 pub const FAULT: u8 = 2;
@@ -30,6 +31,32 @@ impl Served {
             notes: Notes::none(),
             refusal: None,
             is_pending: false,
+        }
+    }
+
+    /// The request of an outcome, once its text is printed and its files are written.
+    pub fn of(outcome: &Outcome, refusal: Option<String>, is_pending: bool) -> Served
+        ensures status { result.status ≡ outcome.now.status }
+        ensures notes { result.notes ≡ outcome.now.notes }
+    {
+        Served {
+            status: outcome.status,
+            notes: outcome.notes,
+            refusal,
+            is_pending,
+        }
+    }
+
+    /// The request of a result on one page, once its text is printed and its files are written.
+    pub fn on_page(page: &PageResult, refusal: Option<String>, is_pending: bool) -> Served
+        ensures status { result.status ≡ page.now.status }
+        ensures notes { result.notes ≡ page.now.notes }
+    {
+        Served {
+            status: page.status,
+            notes: page.notes,
+            refusal,
+            is_pending,
         }
     }
 }

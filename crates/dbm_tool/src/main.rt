@@ -21,7 +21,7 @@ use dbm_command_line::{Ask, Request, ToolFault, Wish, read_words};
 use dbm_files::{LockedFiles, RunFiles, Saved, save_files, take_rest};
 use dbm_messages::ServeFault;
 use dbm_places::{RunPlace, has_no_files};
-use dbm_reports::{Given, NOT_RUN, Outcome, ReportFault};
+use dbm_reports::{Given, NOT_RUN, ReportFault};
 use dbm_script::{LineKind, SCRIPT_LIMIT, read_number};
 use dbm_shell::serve_session;
 use dbm_stderr::{
@@ -334,7 +334,7 @@ fn asked_patience<R: Runtime + AllocGlobal>(rt: &R) -> Option<Duration> {
     let seconds = read_number(word.as_bytes(), u64::MAX);
     if seconds.is_none() {
         let _ = eprintln!(rt;
-            "dbm: note: DBM_TIMEOUT is no number of seconds, so it counts as unset"
+            "dbm: note: DBM_TIMEOUT is not a number of seconds, so it is ignored"
         );
     }
     Some(Duration::from_secs(seconds?))
@@ -440,12 +440,8 @@ fn print_page<R: Runtime<File = File> + AllocGlobal>(
     if saved.is_none() && !print_unsaved(rt, reads, result.text.as_slice())? {
         return Ok(None);
     }
-    Ok(Some(Served {
-        status: result.status,
-        notes: result.notes,
-        refusal,
-        is_pending: saved == Some(Saved::Pending),
-    }))
+    let is_pending = saved == Some(Saved::Pending);
+    Ok(Some(Served::on_page(&result, refusal, is_pending)))
 }
 
 // Prints the lines of a request that saved nothing. Returns `false` if it only reads and the reader of its answer is gone.
@@ -493,13 +489,7 @@ fn serve_reading<R: Runtime<File = File> + AllocGlobal + Threads + Wait + Sync, 
     if writer.has_no_reader() && !matches!(wish, Wish::Dump(_)) {
         return Ok(None);
     }
-    let Outcome { status, notes, .. } = served?;
-    Ok(Some(Served {
-        status,
-        notes,
-        refusal: None,
-        is_pending: false,
-    }))
+    Ok(Some(Served::of(&served?, None, false)))
 }
 
 // Serves a request that may change its database. Its lines are printed once the save is committed and the lock released.
@@ -528,12 +518,7 @@ fn serve_change<R: Runtime<File = File> + AllocGlobal + Threads + Wait + Sync, I
         let saved = save_files(rt, held, old, new, lines.as_slice(), &mut io::writer(rt))?;
         is_pending = saved == Saved::Pending;
     }
-    Ok(Served {
-        status: outcome.status,
-        notes: outcome.notes,
-        refusal,
-        is_pending,
-    })
+    Ok(Served::of(&outcome, refusal, is_pending))
 }
 
 // Prints why the words are refused, or the help or the version that they request, or the fault and what to do. If help cannot be printed

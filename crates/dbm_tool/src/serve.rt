@@ -15,7 +15,7 @@ use std::thread::Threads;
 
 /// Serves a request: reads its words, opens the database, reads standard input for a script, a batch or a load, executes the request, and
 /// writes the lines that it prints. The status is 1 if nothing was found or changed. The outcome has a database exactly for a request that
-/// writes (`Wish::writes`).
+/// writes (`Head::writes`).
 ///
 /// # Errors
 /// The first that is met, in this order; those that a `ReportFault` names are within `Report`. `BadLayout` if the layout is unknown;

@@ -1,7 +1,9 @@
 //! A program for the files of a store: fetches, stores and lists pairs, runs scripts, and handles programs as text and images.
 #![tactic(auto)]
 
+ghost use Rattle.std.specs.Prelude.{◌≡◌};
 ghost use Rattle.dbm_tool.specs.Endings.{IsTold};
+ghost use Rattle.dbm_tool.specs.declared.ending.Ending.TheVariants.{Failed, Refused};
 
 mod backup;
 mod clock;
@@ -530,15 +532,34 @@ fn tell<R: Runtime<File = File> + AllocGlobal>(
 ) -> Ending
     ensures { IsTold ending result }
 {
-    let ending = match ending {
-        Ending::Refused(refusal) if refusal.print(rt).is_err() => {
-            Ending::Failed(ServeFault::Write)
-        }
-        ending => ending,
-    };
-    if let Ending::Failed(fault) = &ending {
-        let _ = eprintln!(rt; "dbm: {fault}");
-        advise(rt, context, *fault);
+    match ending {
+        Ending::Served(served) => Ending::Served(served),
+        Ending::Refused(refusal) => tell_refusal(rt, context, refusal),
+        Ending::Failed(fault) => tell_fault(rt, context, fault),
     }
-    ending
+}
+
+fn tell_refusal<R: Runtime<File = File> + AllocGlobal>(
+    rt: &R,
+    context: Option<&DiagnosticContext<'_>>,
+    refusal: ToolFault,
+) -> Ending
+    ensures { IsTold (Refused refusal) result }
+{
+    if refusal.print(rt).is_err() {
+        return tell_fault(rt, context, ServeFault::Write);
+    }
+    Ending::Refused(refusal)
+}
+
+fn tell_fault<R: Runtime<File = File> + AllocGlobal>(
+    rt: &R,
+    context: Option<&DiagnosticContext<'_>>,
+    fault: ServeFault,
+) -> Ending
+    ensures { result ≡ Failed fault }
+{
+    let _ = eprintln!(rt; "dbm: {fault}");
+    advise(rt, context, fault);
+    Ending::Failed(fault)
 }

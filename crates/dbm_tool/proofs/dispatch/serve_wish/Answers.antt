@@ -18,15 +18,16 @@ use Rattle.dbm_tool.proofs.dispatch.serve_wish.Goals as goal
 pub returns-in-Ok : goal.returns-in-Ok
 returns-in-Ok g c =
     noted_outcome (notation_for c.args.wish) c.in-Ok.notation (λ n. service_in n c.args.wish c.args.given.now (g.R.Read.remaining c.args.reader.now)) _ _ _ _ _ _ _
-    (subst (λ (head : Head). notation_by head.notation.text head.notation.layout ≡ Some c.in-Ok.notation) c.head.ensures c.in-Ok.ensures.ok) c.serve_in.ensures
+    (subst (λ (head : Head). notation_by head.notation.text head.notation.layout ≡ Some c.in-Ok.notation) c.head-head.ensures c.in-Ok.ensures.ok) c.serve_in.ensures
 
 pub returns-in-Err : goal.returns-in-Err
 returns-in-Err g c =
     let input : Option (List ℕ) = g.R.Read.remaining c.args.reader.now in
     let old : Option (List ℕ) = g.W.Write.contents c.args.writer.now in
+    let failed : ServeFault → Result Outcome ServeFault = λ fault. Err fault in
     let known : Notation Global → Service = λ n. service_in n c.args.wish c.args.given.now input in
     subst (λ (o : Result Outcome ServeFault). IsOutcome (service_for c.args.wish c.args.given.now input) (writes_files c.args.wish) (reads_input c.args.wish) input input old old o)
-    (sym (ap (Err {A = Outcome}) c.from.ensures))
+    (sym (ap failed c.from.ensures))
     (failed_early (service_for c.args.wish c.args.given.now input) (writes_files c.args.wish) (reads_input c.args.wish) input input old old (report_fault c.in-Err.fault)
     (unlaid (notation_for c.args.wish) known c.in-Err.fault
-    (subst (λ (head : Head). IsCaused (layout_causes (notation_by head.notation.text head.notation.layout)) c.in-Err.fault) c.head.ensures c.in-Err.ensures.fault)) (keeps_all old) (λ none. refl))
+    (subst (λ (head : Head). IsCaused (layout_causes (notation_by head.notation.text head.notation.layout)) c.in-Err.fault) c.head-head.ensures c.in-Err.ensures.fault)) (keeps_all old) (λ none. refl))

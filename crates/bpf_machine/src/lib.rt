@@ -1,7 +1,7 @@
 //! The machines that run programs on a record.
 //!
 //! `run` runs only accepted programs: each of its registers is one bare word, and nothing is tested that was proved of the program.
-//! `run_checked` of `bpf_checked` runs any code, accepted or not, and tests each instruction before it has any effect.
+//! `run_checked` of `bpf_reference` runs any code, accepted or not, and tests each instruction before it has any effect.
 #![tactic(auto)]
 
 mod access;
@@ -17,6 +17,6 @@ mod regions;
 mod running;
 mod turns;
 
-pub use bpf_checked::{Checked, run_checked};
 pub use bpf_helpers::Ended;
+pub use bpf_reference::{Checked, run_checked};
 pub use running::run;

@@ -17,20 +17,20 @@ use Rattle.worker_pool.specs.declared.task.PoolFault.{PoolFault}
 use Rattle.worker_pool.specs.declared.task.PoolFault.TheVariants as jobs
 use Rattle.worker_pool.specs.declared.task.Task.{Task}
 use Rattle.dbm_batches.specs.declared.batch.Batch.{Batch}
-use Rattle.dbm_faults.specs.declared.fault.ServeFault.{ServeFault}
-use Rattle.dbm_faults.specs.declared.fault.ServeFault.TheVariants.{NotText, ReadFile, FileTooLong, WriteFile, BadRedo, Unsafe, OtherSize, ReadClock, BadBase, Absent, Exists, NoStock, Locked, Moved, Changed, Report, Dump, Submit, BadLine, CutLine, Pool, Close, Write, Saved, NoMemory}
+use Rattle.dbm_messages.specs.declared.fault.ServeFault.{ServeFault}
+use Rattle.dbm_messages.specs.declared.fault.ServeFault.TheVariants.{NotText, ReadFile, FileTooLong, WriteFile, BadRedo, Unsafe, OtherSize, ReadClock, BadBase, Absent, Exists, NoStock, Locked, Moved, Changed, Report, Dump, Submit, BadLine, CutLine, Pool, Close, Write, Saved, NoMemory}
 use Rattle.dbm_script.specs.declared.notations.Notation.{Notation}
 use Rattle.dbm_script.specs.declared.run_words.RunWords.{RunWords}
 use Rattle.dbm_script.specs.declared.shorthand.TimeOfDay.{TimeOfDay}
 use Rattle.dbm_script.proofs.Runs.{known_read}
-use Rattle.dbm_words.specs.declared.options.Form.{Form}
+use Rattle.dbm_args.specs.declared.options.Form.{Form}
 use Rattle.dbm_reports.specs.declared.databases.Given.{Given}
 use Rattle.dbm_batches.specs.Batches.{AreLeft, AreShortTasks, HasBadLine, IsReady, OnTasks, batch_causes, doing_causes, ready_causes, submit_causes, task_causes, task_for, workers_of}
 use Rattle.dbm_reports.specs.declared.fault.ReportFault.{ReportFault}
 use Rattle.dbm_reports.specs.declared.fault.ReportFault.TheVariants as reports
 use Rattle.dbm_reports.specs.Causes.{Causes, IsCaused, input_causes, no_causes}
-use Rattle.dbm_runs.specs.Running.{program_causes}
-use Rattle.dbm_faults.specs.Faults.{pool_fault, report_fault}
+use Rattle.dbm_records.specs.Running.{program_causes}
+use Rattle.dbm_messages.specs.Faults.{pool_fault, report_fault}
 use Rattle.dbm_batches.specs.Causes.{HasCause, IsReported}
 use Rattle.dbm_reports.specs.Databases.{Opens}
 use Rattle.dbm_reports.specs.Reports.{IsFileImage}

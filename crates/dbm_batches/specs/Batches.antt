@@ -21,16 +21,16 @@ use Rattle.dbm_script.specs.Images.{Denies}
 use Rattle.dbm_script.specs.Numbers.{number_of}
 use Rattle.dbm_script.specs.Shorthand.{spelled}
 use Rattle.dbm_script.specs.Tasks.{AreTasksOf, IsFirstBad}
-use Rattle.dbm_script.specs.declared.shorthand.Lines.TheVariants.{OfBatch}
+use Rattle.dbm_script.specs.declared.shorthand.LineKind.TheVariants.{OfBatch}
 use Rattle.dbm_script.specs.declared.shorthand.TimeOfDay.{TimeOfDay}
 use Rattle.dbm_script.specs.declared.notations.Notation.{Notation}
 use Rattle.dbm_script.specs.declared.run_words.RunWords.{RunWords}
-use Rattle.dbm_words.specs.declared.options.Form.{Form}
+use Rattle.dbm_args.specs.declared.options.Form.{Form}
 use Rattle.dbm_batches.specs.declared.batch.Batch.{Batch}
 use Rattle.dbm_reports.specs.declared.databases.Given.{Given}
 use Rattle.dbm_reports.specs.declared.report.Report.{Report}
 use Rattle.dbm_reports.specs.Causes.{IsLongScript, no_causes}
-use Rattle.dbm_runs.specs.Running.{program_causes}
+use Rattle.dbm_records.specs.Running.{program_causes}
 use Rattle.dbm_batches.specs.Causes.{WishCauses, no_wish_causes, only_report}
 use Rattle.dbm_reports.specs.Databases.{IsOpened, IsShut, Opens}
 use Rattle.dbm_reports.specs.Reports.{IsFileImage}

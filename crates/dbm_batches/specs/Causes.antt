@@ -7,8 +7,8 @@ use Rattle.dbm_dump.specs.declared.fault.DumpFault.{DumpFault}
 use Rattle.dbm_reports.specs.Causes.{Causes, IsCaused, no_causes}
 use Rattle.dbm_reports.specs.declared.fault.ReportFault.{ReportFault}
 use Rattle.dbm_reports.specs.declared.fault.ReportFault.TheVariants as reports
-use Rattle.dbm_faults.specs.declared.fault.ServeFault.{ServeFault}
-use Rattle.dbm_faults.specs.declared.fault.ServeFault.TheVariants.{NotText, ReadFile, FileTooLong, WriteFile, BadRedo, Unsafe, OtherSize, ReadClock, BadBase, Absent, Exists, NoStock, Locked, Moved, Changed, Report, Dump, Submit, BadLine, CutLine, Pool, Close, Write, Saved, NoMemory}
+use Rattle.dbm_messages.specs.declared.fault.ServeFault.{ServeFault}
+use Rattle.dbm_messages.specs.declared.fault.ServeFault.TheVariants.{NotText, ReadFile, FileTooLong, WriteFile, BadRedo, Unsafe, OtherSize, ReadClock, BadBase, Absent, Exists, NoStock, Locked, Moved, Changed, Report, Dump, Submit, BadLine, CutLine, Pool, Close, Write, Saved, NoMemory}
 
 -- the causes of the faults of a request: those of its words, its files and standard input, those of a dump, and those of a batch
 pub record WishCauses : Type 1 where

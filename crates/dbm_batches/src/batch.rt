@@ -7,21 +7,21 @@ ghost use Rattle.store_shared.specs.Closed.{IsRefusedClose};
 ghost use Rattle.store_shared.specs.Shared.{opened_by};
 ghost use Rattle.dbm_script.specs.Shorthand.{spelled};
 ghost use Rattle.dbm_script.specs.Tasks.{AreTasksOf, IsTasksFault};
-ghost use Rattle.dbm_script.specs.declared.shorthand.Lines.TheVariants.{OfBatch};
+ghost use Rattle.dbm_script.specs.declared.shorthand.LineKind.TheVariants.{OfBatch};
 ghost use Rattle.dbm_batches.specs.Batches.{DoesTasks, IsClosedAfter, IsReady, IsSubmitted, LeadTo, OnBatch, OnTasks, batch_causes, doing_causes, ready_causes, reply_line, submit_causes, task_causes, task_for};
-ghost use Rattle.dbm_faults.specs.declared.fault.ServeFault.TheVariants.{Close};
-ghost use Rattle.dbm_faults.specs.Faults.{pool_fault};
+ghost use Rattle.dbm_messages.specs.declared.fault.ServeFault.TheVariants.{Close};
+ghost use Rattle.dbm_messages.specs.Faults.{pool_fault};
 ghost use Rattle.dbm_batches.specs.Causes.{HasCause};
 ghost use Rattle.dbm_reports.specs.Served.{IsPrinted, IsUnserved};
 
-use dbm_faults::ServeFault;
-use dbm_reports::{Given, Report, ReportFault, Served, Unserved, read_input, write_report};
-use dbm_runs::{Batch as Asked, database_and_image};
+use dbm_args::Form;
+use dbm_messages::ServeFault;
+use dbm_records::{Batch as BatchRequest, database_and_image};
+use dbm_reports::{Given, Notes, Outcome, Report, ReportFault, Unserved, read_input, write_report};
 use dbm_script::{
-    Lines, Notation, RunWords, TasksFault, TimeOfDay, read_number, read_tasks, show_reply,
+    LineKind, Notation, RunWords, TasksFault, TimeOfDay, read_number, read_tasks, show_reply,
     spell_out,
 };
-use dbm_words::Form;
 use prog_registry::{ProgId, Registry};
 use sdbm_files::Image;
 use std::alloc::{AllocError, Global};
@@ -59,11 +59,11 @@ pub fn serve_batch<T: Threads + Wait + Sync, R: Read, W: Write>(
     rt: &T,
     alloc: Global,
     notation: &Notation<Global>,
-    asked: Asked<'_>,
+    asked: BatchRequest<'_>,
     given: &Given,
     reader: &mut R,
     writer: &mut W,
-) -> Result<Served, Unserved<ServeFault>>
+) -> Result<Outcome, Unserved<ServeFault>>
     ensures ok { IfOk result (λ served. IsPrinted (OnBatch notation.now asked.entry.form given.now asked.entry.workers asked.entry.image asked.entry.time (R.remaining reader.old)) (W.contents writer.old) (W.contents writer.new) served.status served.database) }
     ensures fault { IfErr result (IsUnserved (OnBatch notation.now asked.entry.form given.now asked.entry.workers asked.entry.image asked.entry.time (R.remaining reader.old)) (HasCause (batch_causes notation.now asked.entry.form given.now asked.entry.workers asked.entry.image asked.entry.time (R.remaining reader.old))) (W.contents writer.old) (W.contents writer.new)) }
     ensures database { IfOk result (λ served. is_some served.database ≡ true) }
@@ -85,7 +85,7 @@ pub fn report_batch<T: Threads + Wait + Sync, R: Read>(
     rt: &T,
     alloc: Global,
     notation: &Notation<Global>,
-    asked: Asked<'_>,
+    asked: BatchRequest<'_>,
     given: &Given,
     reader: &mut R,
 ) -> Result<Report, ServeFault>
@@ -151,6 +151,7 @@ fn run_batch<T: Threads + Wait + Sync>(
         text: show_replies(alloc, notation, done.replies.as_slice())?,
         status: 0,
         database: Some(done.database),
+        notes: Notes::none(),
     })
 }
 
@@ -164,7 +165,7 @@ fn words_of_lines(
     ensures ok { IfOk result (λ words. AreTasksOf Global notation.now (spelled OfBatch time input.now) words.items) }
     ensures fault { IfErr result (IsTasksFault Global notation.now (spelled OfBatch time input.now)) }
 {
-    let lines = spell_out(alloc, Lines::OfBatch, time, input)?;
+    let lines = spell_out(alloc, LineKind::OfBatch, time, input)?;
     read_tasks(alloc, notation, lines.as_slice())
 }
 

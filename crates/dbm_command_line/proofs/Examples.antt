@@ -4,12 +4,12 @@ use Rattle.clap.specs.Words.{Row, Text, fault_of, subcommand_of}
 use Rattle.clap.specs.declared.error.kind.ErrorKind.TheVariants.{DisplayHelp, DisplayVersion, MissingRequiredArgument, UnknownArgument}
 use Rattle.clap.proofs.OnLiterals.{clap_on_literals}
 use Rattle.dbm_command_line.specs.Tool.{tool}
-use Rattle.dbm_words.specs.Given.{is_given}
+use Rattle.dbm_args.specs.Given.{is_given}
 use Rattle.dbm_command_line.specs.Wishes.{lacks_word, writes_files}
-use Rattle.dbm_scripts.specs.declared.script.Script.{Script}
+use Rattle.dbm_databases.specs.declared.script.Script.{Script}
 use Rattle.dbm_command_line.specs.declared.wish.Wish.TheVariants as wish
-use Rattle.dbm_pairs.specs.declared.delete.Delete.{Delete}
-use Rattle.dbm_pairs.specs.declared.fetch.Fetch.{Fetch}
+use Rattle.dbm_records.specs.declared.delete.Delete.{Delete}
+use Rattle.dbm_records.specs.declared.fetch.Fetch.{Fetch}
 
 abbrev words : List Text
 words = codes "store" ∷ codes "db" ∷ codes "61" ∷ codes "62" ∷ codes "--insert" ∷ []

@@ -2,22 +2,23 @@
 use Rattle.std.specs.Prelude.{true, false, [], ◌∷◌, codes}
 use Rattle.clap.specs.Words.{App, Shape}
 use Rattle.clap.specs.Simple.{new_shape}
-use Rattle.dbm_pairs.specs.Fetch.{fetch}
-use Rattle.dbm_pairs.specs.Store.{store}
-use Rattle.dbm_pairs.specs.Delete.{delete}
-use Rattle.dbm_pairs.specs.Rename.{rename}
-use Rattle.dbm_runs.specs.Run.{run}
-use Rattle.dbm_runs.specs.Batch.{batch}
-use Rattle.dbm_listings.specs.List.{list}
-use Rattle.dbm_listings.specs.Keys.{keys}
-use Rattle.dbm_listings.specs.Check.{check}
-use Rattle.dbm_listings.specs.Stats.{stats}
-use Rattle.dbm_scripts.specs.Script.{script}
-use Rattle.dbm_scripts.specs.Widen.{widen}
-use Rattle.dbm_sessions.specs.Session.{session}
-use Rattle.dbm_dumps.specs.Backup.{backup}
-use Rattle.dbm_dumps.specs.Dump.{dump}
-use Rattle.dbm_dumps.specs.Load.{load}
+use Rattle.dbm_records.specs.Fetch.{fetch}
+use Rattle.dbm_records.specs.Store.{store}
+use Rattle.dbm_records.specs.Delete.{delete}
+use Rattle.dbm_records.specs.Rename.{rename}
+use Rattle.dbm_records.specs.Run.{run}
+use Rattle.dbm_records.specs.Batch.{batch}
+use Rattle.dbm_databases.specs.List.{list}
+use Rattle.dbm_databases.specs.Keys.{keys}
+use Rattle.dbm_databases.specs.Count.{count}
+use Rattle.dbm_databases.specs.Check.{check}
+use Rattle.dbm_databases.specs.Stats.{stats}
+use Rattle.dbm_databases.specs.Script.{script}
+use Rattle.dbm_databases.specs.Widen.{widen}
+use Rattle.dbm_session.specs.Session.{session}
+use Rattle.dbm_dump.specs.Backup.{backup}
+use Rattle.dbm_dump.specs.Dump.{dump}
+use Rattle.dbm_dump.specs.Load.{load}
 use Rattle.dbm_programs.specs.Asm.{asm}
 use Rattle.dbm_programs.specs.Disasm.{disasm}
 use Rattle.dbm_programs.specs.Programs.{programs}
@@ -39,5 +40,5 @@ bare = record titled {
 abbrev pub tool : App
 tool = record {
   top = record bare { is_leaf = false };
-  subs = fetch ∷ store ∷ delete ∷ rename ∷ list ∷ keys ∷ check ∷ stats ∷ script ∷ session ∷ widen ∷ backup ∷ dump ∷ load ∷ asm ∷ disasm ∷ verify ∷ programs ∷ run ∷ batch ∷ [];
+  subs = fetch ∷ store ∷ delete ∷ rename ∷ list ∷ keys ∷ count ∷ check ∷ stats ∷ script ∷ session ∷ widen ∷ backup ∷ dump ∷ load ∷ asm ∷ disasm ∷ verify ∷ programs ∷ run ∷ batch ∷ [];
 }

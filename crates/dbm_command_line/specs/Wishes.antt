@@ -7,118 +7,72 @@ use Rattle.clap.specs.Words.{IsAmong, Kinds, Row, Text, kind_of}
 use Rattle.clap.specs.declared.error.kind.ErrorKind.TheVariants.{DisplayHelp, DisplayVersion, OutOfMemory}
 use Rattle.clap.specs.declared.error.Error.{Error}
 use Rattle.dbm_command_line.specs.Tool.{tool}
-use Rattle.dbm_words.specs.Given.{IsAccess, has_words}
-use Rattle.dbm_dumps.specs.Backup.{BackupAsks}
-use Rattle.dbm_dumps.specs.Dump.{DumpAsks}
-use Rattle.dbm_dumps.specs.Load.{LoadAsks}
-use Rattle.dbm_listings.specs.Check.{CheckAsks}
-use Rattle.dbm_listings.specs.Keys.{KeysAsks}
-use Rattle.dbm_listings.specs.List.{ListAsks}
-use Rattle.dbm_listings.specs.Stats.{StatsAsks}
-use Rattle.dbm_pairs.specs.Delete.{DeleteAsks}
-use Rattle.dbm_pairs.specs.Fetch.{FetchAsks}
-use Rattle.dbm_pairs.specs.Rename.{RenameAsks}
-use Rattle.dbm_pairs.specs.Store.{StoreAsks}
-use Rattle.dbm_programs.specs.Asm.{AsmAsks}
-use Rattle.dbm_programs.specs.Disasm.{DisasmAsks}
+use Rattle.dbm_args.specs.Given.{IsAccess, has_words}
+use Rattle.dbm_dump.specs.Backup.{BackupAsks}
+use Rattle.dbm_dump.specs.Dump.{DumpAsks, dump_head}
+use Rattle.dbm_dump.specs.Load.{LoadAsks, load_head}
+use Rattle.dbm_databases.specs.Count.{CountAsks, count_head}
+use Rattle.dbm_databases.specs.Check.{CheckAsks, check_head}
+use Rattle.dbm_databases.specs.Keys.{KeysAsks, keys_head}
+use Rattle.dbm_databases.specs.List.{ListAsks, list_head}
+use Rattle.dbm_databases.specs.Stats.{StatsAsks, stats_head}
+use Rattle.dbm_records.specs.Delete.{DeleteAsks, delete_head}
+use Rattle.dbm_records.specs.Fetch.{FetchAsks, fetch_head}
+use Rattle.dbm_records.specs.Rename.{RenameAsks, rename_head}
+use Rattle.dbm_records.specs.Store.{StoreAsks, store_head}
+use Rattle.dbm_programs.specs.Asm.{AsmAsks, asm_head}
+use Rattle.dbm_programs.specs.Disasm.{DisasmAsks, disasm_head}
 use Rattle.dbm_programs.specs.Programs.{ProgramsAsks}
-use Rattle.dbm_programs.specs.Verify.{VerifyAsks}
-use Rattle.dbm_runs.specs.Batch.{BatchAsks, each_core}
-use Rattle.dbm_runs.specs.Run.{RunAsks}
-use Rattle.dbm_scripts.specs.Script.{ScriptAsks}
-use Rattle.dbm_scripts.specs.Widen.{WidenAsks}
-use Rattle.dbm_sessions.specs.Session.{SessionAsks}
+use Rattle.dbm_programs.specs.Verify.{VerifyAsks, verify_head}
+use Rattle.dbm_records.specs.Batch.{BatchAsks, each_core, batch_head}
+use Rattle.dbm_records.specs.Run.{RunAsks, run_head}
+use Rattle.dbm_databases.specs.Script.{ScriptAsks, script_head}
+use Rattle.dbm_databases.specs.Widen.{WidenAsks, widen_head}
+use Rattle.dbm_session.specs.Session.{SessionAsks}
 use Rattle.dbm_script.specs.declared.shorthand.TimeOfDay.{TimeOfDay}
 use Rattle.dbm_command_line.specs.declared.fault.ToolFault.{ToolFault}
 use Rattle.dbm_command_line.specs.declared.fault.ToolFault.TheVariants.{Refused, NoMemory, NoWord}
-use Rattle.dbm_words.specs.declared.options.Access.{Access}
-use Rattle.dbm_words.specs.declared.options.NotationOptions.{NotationOptions}
-use Rattle.dbm_words.specs.declared.options.TimeUnit.{TimeUnit}
-use Rattle.dbm_words.specs.declared.options.TimeUnit.TheVariants.{Seconds, Milliseconds}
+use Rattle.dbm_args.specs.declared.options.Access.{Access}
+use Rattle.dbm_args.specs.declared.options.Head.{Head}
+use Rattle.dbm_args.specs.declared.options.TimeUnit.{TimeUnit}
+use Rattle.dbm_args.specs.declared.options.TimeUnit.TheVariants.{Seconds, Milliseconds}
 use Rattle.dbm_command_line.specs.declared.wish.Ask.{Ask}
 use Rattle.dbm_command_line.specs.declared.wish.Ask.TheVariants as ask
 use Rattle.dbm_command_line.specs.declared.wish.Wish.{Wish}
 use Rattle.dbm_command_line.specs.declared.wish.Wish.TheVariants as wish
 
+-- what a request needs beside its own words: its files, and the notation of its bytes
+abbrev pub head_of : Wish → Head
+head_of (wish.Fetch fetch) = fetch_head fetch
+head_of (wish.Store store) = store_head store
+head_of (wish.Delete delete) = delete_head delete
+head_of (wish.Rename rename) = rename_head rename
+head_of (wish.Run run) = run_head run
+head_of (wish.Batch batch) = batch_head batch
+head_of (wish.List list) = list_head list
+head_of (wish.Keys keys) = keys_head keys
+head_of (wish.Count count) = count_head count
+head_of (wish.Check check) = check_head check
+head_of (wish.Stats stats) = stats_head stats
+head_of (wish.Script script) = script_head script
+head_of (wish.Widen widen) = widen_head widen
+head_of (wish.Dump dump) = dump_head dump
+head_of (wish.Load load) = load_head load
+head_of (wish.Asm asm) = asm_head asm
+head_of (wish.Disasm disasm) = disasm_head disasm
+head_of (wish.Verify verify) = verify_head verify
+
 -- the database that a request is about
 abbrev pub base_of : Wish → Option Text
-base_of (wish.Fetch fetch) = Some fetch.base.now
-base_of (wish.Store store) = Some store.base.now
-base_of (wish.Delete delete) = Some delete.base.now
-base_of (wish.Rename rename) = Some rename.base.now
-base_of (wish.Run run) = Some run.base.now
-base_of (wish.Batch batch) = Some batch.base.now
-base_of (wish.List list) = Some list.base.now
-base_of (wish.Keys keys) = Some keys.base.now
-base_of (wish.Check check) = Some check.base.now
-base_of (wish.Stats stats) = Some stats.base.now
-base_of (wish.Script script) = option_map (λ text. text.now) script.base
-base_of (wish.Widen widen) = Some widen.base.now
-base_of (wish.Dump dump) = Some dump.base.now
-base_of (wish.Load load) = Some load.base.now
-base_of (wish.Asm asm) = None
-base_of (wish.Disasm disasm) = None
-base_of (wish.Verify verify) = None
+base_of wish = option_map (λ text. text.now) (head_of wish).base
 
 -- the program file that a request is about
 abbrev pub file_of : Wish → Option Text
-file_of (wish.Run run) = Some run.file.now
-file_of (wish.Batch batch) = Some batch.file.now
-file_of (wish.Asm asm) = Some asm.file.now
-file_of (wish.Disasm disasm) = Some disasm.file.now
-file_of (wish.Verify verify) = Some verify.file.now
-file_of _ = None
-
--- the program's file has to be an image
-abbrev pub takes_image : Wish → Bool
-takes_image (wish.Run run) = run.image
-takes_image (wish.Batch batch) = batch.image
-takes_image (wish.Verify verify) = verify.image
-takes_image (wish.Disasm disasm) = true
-takes_image _ = false
+file_of wish = option_map (λ text. text.now) (head_of wish).file
 
 -- the files of its database are written after it, even if nothing has changed
 abbrev pub writes_files : Wish → Bool
-writes_files (wish.Fetch fetch) = false
-writes_files (wish.Store store) = true
-writes_files (wish.Delete delete) = true
-writes_files (wish.Rename rename) = true
-writes_files (wish.Run run) = true
-writes_files (wish.Batch batch) = true
-writes_files (wish.List list) = false
-writes_files (wish.Keys keys) = false
-writes_files (wish.Check check) = false
-writes_files (wish.Stats stats) = false
-writes_files (wish.Script script) = is_some script.base
-writes_files (wish.Widen widen) = true
-writes_files (wish.Dump dump) = false
-writes_files (wish.Load load) = true
-writes_files (wish.Asm asm) = false
-writes_files (wish.Disasm disasm) = false
-writes_files (wish.Verify verify) = false
-
-abbrev no_notation : NotationOptions
-no_notation = record { text = false; layout = None }
-
--- the options for its notation of bytes; the default if its words and lines have no bytes
-abbrev pub notation_of : Wish → NotationOptions
-notation_of (wish.Fetch fetch) = fetch.notation
-notation_of (wish.Store store) = store.notation
-notation_of (wish.Delete delete) = delete.notation
-notation_of (wish.Rename rename) = rename.notation
-notation_of (wish.Run run) = run.notation
-notation_of (wish.Batch batch) = batch.notation
-notation_of (wish.List list) = list.notation
-notation_of (wish.Keys keys) = keys.notation
-notation_of (wish.Script script) = script.notation
-notation_of (wish.Check check) = no_notation
-notation_of (wish.Stats stats) = no_notation
-notation_of (wish.Widen widen) = no_notation
-notation_of (wish.Dump dump) = no_notation
-notation_of (wish.Load load) = no_notation
-notation_of (wish.Asm asm) = no_notation
-notation_of (wish.Disasm disasm) = no_notation
-notation_of (wish.Verify verify) = no_notation
+writes_files wish = (head_of wish).writes
 
 -- the unit that a word for the time names, if it requests the time of day
 abbrev pub unit_named : Text → Option TimeUnit
@@ -166,6 +120,7 @@ WishAsks name rows (wish.Run run) = (name ≡ codes "run") × RunAsks rows run
 WishAsks name rows (wish.Batch batch) = (name ≡ codes "batch") × BatchAsks rows batch
 WishAsks name rows (wish.List list) = (name ≡ codes "list") × ListAsks rows list
 WishAsks name rows (wish.Keys keys) = (name ≡ codes "keys") × KeysAsks rows keys
+WishAsks name rows (wish.Count count) = (name ≡ codes "count") × CountAsks rows count
 WishAsks name rows (wish.Check check) = (name ≡ codes "check") × CheckAsks rows check
 WishAsks name rows (wish.Stats stats) = (name ≡ codes "stats") × StatsAsks rows stats
 WishAsks name rows (wish.Script script) = (name ≡ codes "script") × ScriptAsks rows script

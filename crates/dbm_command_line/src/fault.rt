@@ -4,7 +4,7 @@ ghost use Rattle.dbm_command_line.specs.Wishes.{IsAnswer, IsFaultOf};
 ghost use Rattle.dbm_command_line.specs.declared.fault.ToolFault.TheVariants.{NoMemory};
 
 use clap::error::ErrorKind;
-use dbm_words::Printed;
+use dbm_args::Printed;
 use std::alloc::AllocError;
 use std::io;
 use std::rt::Runtime;

@@ -15,7 +15,7 @@ pub use crate::fault::ToolFault;
 use crate::matched::asked;
 use crate::tool::tool_command;
 pub use crate::wish::{Ask, Request, Wish};
-use dbm_words::access;
+use dbm_args::access;
 use std::alloc::Global;
 
 /// Reads the words after the program's name: the request, and how its database is accessed.

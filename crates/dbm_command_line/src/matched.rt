@@ -5,13 +5,11 @@ ghost use Rattle.dbm_command_line.specs.Wishes.{SubcommandAsks, WishAsks, lacks_
 
 use crate::wish::{Ask, Wish};
 use clap::ArgMatches;
-use dbm_dumps::{Backup, Dump, Load};
-use dbm_listings::{Check, Keys, List, Stats};
-use dbm_pairs::{Delete, Fetch, Rename, Store};
+use dbm_databases::{Check, Count, Keys, List, Script, Stats, Widen};
+use dbm_dump::{Backup, Dump, Load};
 use dbm_programs::{Asm, Disasm, Programs, Verify};
-use dbm_runs::{Batch, Run};
-use dbm_scripts::{Script, Widen};
-use dbm_sessions::Session;
+use dbm_records::{Batch, Delete, Fetch, Rename, Run, Store};
+use dbm_session::Session;
 
 /// Reads the matches of the subcommand `name`. Returns `None` if a required word is missing, or if there is no subcommand of this
 /// name.
@@ -42,6 +40,7 @@ fn wished<'a>(name: &str, matches: &ArgMatches<'a>) -> Option<Wish<'a>>
         "rename" => Some(Wish::Rename(Rename::matched(matches)?)),
         "list" => Some(Wish::List(List::matched(matches)?)),
         "keys" => Some(Wish::Keys(Keys::matched(matches)?)),
+        "count" => Some(Wish::Count(Count::matched(matches)?)),
         "check" => Some(Wish::Check(Check::matched(matches)?)),
         "stats" => Some(Wish::Stats(Stats::matched(matches)?)),
         "script" => Some(Wish::Script(Script::matched(matches)?)),

@@ -2,18 +2,21 @@
 ghost use Rattle.std.specs.Prelude.{IfOk};
 ghost use Rattle.clap.specs.Words.{App, Shape};
 ghost use Rattle.clap.specs.Words as rules;
-ghost use Rattle.dbm_words.specs.CommandLine.{IsCommand, IsSubcommand};
+ghost use Rattle.dbm_args.specs.CommandLine.{IsCommand, IsSubcommand};
 ghost use Rattle.dbm_command_line.specs.Tool.{tool};
 ghost use Rattle.dbm_command_line.specs.Tool as spec;
 
 use clap::Command;
-use dbm_dumps::{backup_command, dump_command, load_command};
-use dbm_listings::{check_command, keys_command, list_command, stats_command};
-use dbm_pairs::{delete_command, fetch_command, rename_command, store_command};
+use dbm_databases::{
+    check_command, count_command, keys_command, list_command, script_command, stats_command,
+    widen_command,
+};
+use dbm_dump::{backup_command, dump_command, load_command};
 use dbm_programs::{asm_command, disasm_command, programs_command, verify_command};
-use dbm_runs::{batch_command, run_command};
-use dbm_scripts::{script_command, widen_command};
-use dbm_sessions::session_command;
+use dbm_records::{
+    batch_command, delete_command, fetch_command, rename_command, run_command, store_command,
+};
+use dbm_session::session_command;
 use std::alloc::{AllocError, Global};
 
 /// The program with all its subcommands. Fails only if allocation fails.
@@ -27,6 +30,7 @@ pub fn tool_command<'a>(alloc: Global) -> Result<Command<'a>, AllocError>
     let command = with_subcommand(command, rename_command(alloc));
     let command = with_subcommand(command, list_command(alloc));
     let command = with_subcommand(command, keys_command(alloc));
+    let command = with_subcommand(command, count_command(alloc));
     let command = with_subcommand(command, check_command(alloc));
     let command = with_subcommand(command, stats_command(alloc));
     let command = with_subcommand(command, script_command(alloc));
@@ -61,10 +65,10 @@ fn titled_command<'a>(alloc: Global) -> Command<'a>
         .version("2.0.0")
         .about("A key-value store in the files of an sdbm database")
         .after_help(
-            "Bytes are written in hex, two digits a byte, or as . for none; with --text as text.\n\
-             The status is 0; 1 where fetch, store, delete, rename or run answers missing, exists, crowded or refused,\n\
-             verify answers refused, or run --expect ended with another code; 2 for a fault, which standard error\n\
-             names; and 3 where run --expect ran nothing.\n\n\
+            "Bytes are in hex, two digits a byte, and . is no bytes; with --text they are text.\n\
+             The status is 0; 1 if fetch, store, delete, rename or run answers missing, exists, crowded or refused,\n\
+             if verify answers refused, or if run --expect gets another code; 2 for a fault, which is printed on\n\
+             standard error; and 3 if run --expect does not run the program.\n\n\
              Example: dbm store users ab xyz --text\n\
              stores the value xyz of the key ab in users.dir and users.pag.",
         )

@@ -1,16 +1,14 @@
 //! The requests of a command line.
-ghost use Rattle.std.specs.Prelude.{◌≡◌, option_map};
-ghost use Rattle.dbm_command_line.specs.Wishes.{asks_clock, asks_cores, base_of, file_of, notation_of, takes_image, time_asked, with_clock, with_time, with_workers, writes_files};
+ghost use Rattle.std.specs.Prelude.{◌≡◌};
+ghost use Rattle.dbm_command_line.specs.Wishes.{asks_clock, asks_cores, head_of, time_asked, with_clock, with_time, with_workers};
 
-use dbm_dumps::{Backup, Dump, Load};
-use dbm_listings::{Check, Keys, List, Stats};
-use dbm_pairs::{Delete, Fetch, Rename, Store};
+use dbm_args::{Access, Head, TimeUnit, Words};
+use dbm_databases::{Check, Count, Keys, List, Script, Stats, Widen};
+use dbm_dump::{Backup, Dump, Load};
 use dbm_programs::{Asm, Disasm, Programs, Verify};
-use dbm_runs::{Batch, EACH_CORE, Run};
+use dbm_records::{Batch, Delete, EACH_CORE, Fetch, Rename, Run, Store};
 use dbm_script::TimeOfDay;
-use dbm_scripts::{Script, Widen};
-use dbm_sessions::Session;
-use dbm_words::{Access, NotationOptions, TimeUnit, Words};
+use dbm_session::Session;
 
 /// A request: one subcommand with its words and options, as they were given. No word is read as bytes or as a
 /// number yet. A `base` names the files of a database, `BASE.dir` and `BASE.pag`.
@@ -24,6 +22,7 @@ pub enum Wish<'a> {
     Batch(Batch<'a>),
     List(List<'a>),
     Keys(Keys<'a>),
+    Count(Count<'a>),
     Check(Check<'a>),
     Stats(Stats<'a>),
     Script(Script<'a>),
@@ -56,79 +55,29 @@ pub struct Request<'a> {
 }
 
 impl<'a> Wish<'a> {
-    /// The database whose files have to be read, if any.
-    pub fn base(&self) -> Option<&'a str>
-        ensures { option_map (λ text. text.now) result ≡ base_of self.now }
+    /// What it needs beside its own words: its files, and the notation of its bytes.
+    pub fn head(&self) -> Head<'a>
+        ensures { result ≡ head_of self.now }
     {
         match *self {
-            Wish::Fetch(fetch) => Some(fetch.base),
-            Wish::Store(store) => Some(store.base),
-            Wish::Delete(delete) => Some(delete.base),
-            Wish::Rename(rename) => Some(rename.base),
-            Wish::Run(run) => Some(run.base),
-            Wish::Batch(batch) => Some(batch.base),
-            Wish::List(list) => Some(list.base),
-            Wish::Keys(keys) => Some(keys.base),
-            Wish::Check(check) => Some(check.base),
-            Wish::Stats(stats) => Some(stats.base),
-            Wish::Script(script) => script.base,
-            Wish::Widen(widen) => Some(widen.base),
-            Wish::Dump(dump) => Some(dump.base),
-            Wish::Load(load) => Some(load.base),
-            Wish::Asm(_) | Wish::Disasm(_) | Wish::Verify(_) => None,
-        }
-    }
-
-    /// The program file that has to be read, if any.
-    pub fn file(&self) -> Option<&'a str>
-        ensures { option_map (λ text. text.now) result ≡ file_of self.now }
-    {
-        match *self {
-            Wish::Run(run) => Some(run.file),
-            Wish::Batch(batch) => Some(batch.file),
-            Wish::Asm(asm) => Some(asm.file),
-            Wish::Disasm(disasm) => Some(disasm.file),
-            Wish::Verify(verify) => Some(verify.file),
-            _ => None,
-        }
-    }
-
-    /// Returns `true` if the program's file is an image and not a text: for `disasm`, and with `--image`.
-    pub fn takes_image(&self) -> bool
-        ensures { result ≡ takes_image self.now }
-    {
-        match *self {
-            Wish::Run(run) => run.image,
-            Wish::Batch(batch) => batch.image,
-            Wish::Verify(verify) => verify.image,
-            Wish::Disasm(_) => true,
-            _ => false,
-        }
-    }
-
-    /// Returns `true` if the files of its database are written after it: by `store`, `delete`, `rename`, `run`, `batch`, `widen`, `load`,
-    /// and `script` with a base. A `store`, `delete`, `rename` or `run` that changed nothing writes them too.
-    pub fn writes(&self) -> bool
-        ensures { result ≡ writes_files self.now }
-    {
-        match *self {
-            Wish::Store(_)
-            | Wish::Delete(_)
-            | Wish::Rename(_)
-            | Wish::Run(_)
-            | Wish::Batch(_)
-            | Wish::Widen(_)
-            | Wish::Load(_) => true,
-            Wish::Script(script) => script.base.is_some(),
-            Wish::Fetch(_)
-            | Wish::List(_)
-            | Wish::Keys(_)
-            | Wish::Check(_)
-            | Wish::Stats(_)
-            | Wish::Dump(_)
-            | Wish::Asm(_)
-            | Wish::Disasm(_)
-            | Wish::Verify(_) => false,
+            Wish::Fetch(fetch) => fetch.head(),
+            Wish::Store(store) => store.head(),
+            Wish::Delete(delete) => delete.head(),
+            Wish::Rename(rename) => rename.head(),
+            Wish::Run(run) => run.head(),
+            Wish::Batch(batch) => batch.head(),
+            Wish::List(list) => list.head(),
+            Wish::Keys(keys) => keys.head(),
+            Wish::Count(count) => count.head(),
+            Wish::Check(check) => check.head(),
+            Wish::Stats(stats) => stats.head(),
+            Wish::Script(script) => script.head(),
+            Wish::Widen(widen) => widen.head(),
+            Wish::Dump(dump) => dump.head(),
+            Wish::Load(load) => load.head(),
+            Wish::Asm(asm) => asm.head(),
+            Wish::Disasm(disasm) => disasm.head(),
+            Wish::Verify(verify) => verify.head(),
         }
     }
 
@@ -204,34 +153,6 @@ impl<'a> Wish<'a> {
         }
     }
 
-    /// The options for its notation of bytes; the default if its words and lines have no bytes.
-    pub fn notation(&self) -> NotationOptions<'a>
-        ensures { result ≡ notation_of self.now }
-    {
-        match *self {
-            Wish::Fetch(Fetch { notation, .. })
-            | Wish::Store(Store { notation, .. })
-            | Wish::Delete(Delete { notation, .. })
-            | Wish::Rename(Rename { notation, .. })
-            | Wish::Run(Run { notation, .. })
-            | Wish::Batch(Batch { notation, .. })
-            | Wish::List(List { notation, .. })
-            | Wish::Keys(Keys { notation, .. })
-            | Wish::Script(Script { notation, .. }) => notation,
-            Wish::Check(_)
-            | Wish::Stats(_)
-            | Wish::Widen(_)
-            | Wish::Dump(_)
-            | Wish::Load(_)
-            | Wish::Asm(_)
-            | Wish::Disasm(_)
-            | Wish::Verify(_) => NotationOptions {
-                text: false,
-                layout: None,
-            },
-        }
-    }
-
     /// Its words as messages show them.
     pub fn words(&self) -> Words<'a> {
         match self {
@@ -243,6 +164,7 @@ impl<'a> Wish<'a> {
             Wish::Batch(batch) => batch.words(),
             Wish::List(list) => list.words(),
             Wish::Keys(keys) => keys.words(),
+            Wish::Count(count) => count.words(),
             Wish::Check(check) => check.words(),
             Wish::Stats(stats) => stats.words(),
             Wish::Script(script) => script.words(),

@@ -5,8 +5,8 @@ use Rattle.std.proofs.lemmas.List.{take-append-le, take_all}
 use Rattle.std.proofs.Math.Seq.{take-length}
 use Rattle.std.proofs.lemmas.Option.{same_Some}
 use Rattle.sdbm_addr.specs.Pairs.{Pair}
-use Rattle.dbm_lines.specs.Lines.{Gives, Unread, lines_left}
-use Rattle.dbm_lines.proofs.LinesGiven.{is_over}
+use Rattle.dbm_script.specs.LineInput.{Gives, Unread, lines_left}
+use Rattle.dbm_script.proofs.LinesGiven.{is_over}
 use Rattle.dbm_dump.specs.declared.stage.Stage.{Stage}
 use Rattle.dbm_dump.specs.declared.stage.Stage.TheVariants.{First, Title, Keys, Pages, Count, Gap, Pairs, Between, Within, Over}
 use Rattle.dbm_dump.specs.declared.stage.Next.{Next}

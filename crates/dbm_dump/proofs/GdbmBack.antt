@@ -25,7 +25,7 @@ use Rattle.dbm_dump.specs.declared.stage.Role.{Role}
 use Rattle.dbm_dump.specs.declared.stage.Role.TheVariants.{Key, Value}
 use Rattle.dbm_dump.specs.declared.stage.Stage.{Stage}
 use Rattle.dbm_dump.specs.declared.stage.Stage.TheVariants.{First, Between, Within, Over}
-use Rattle.dbm_lines.proofs.CutTexts.{piece_first}
+use Rattle.dbm_script.proofs.CutTexts.{piece_first}
 use Rattle.dbm_dump.proofs.Ends.{whole_lines}
 use Rattle.dbm_dump.proofs.Free.{IsFree, free, free-append, free-base64, free-decimal}
 use Rattle.dbm_dump.proofs.PlainBack.{line_reads}

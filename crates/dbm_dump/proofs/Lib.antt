@@ -7,3 +7,4 @@ pub mod Free
 pub mod PlainBack
 pub mod GdbmBack
 pub mod MoreTexts
+pub mod Dumping

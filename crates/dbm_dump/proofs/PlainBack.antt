@@ -25,7 +25,7 @@ use Rattle.dbm_dump.specs.Reading.{AreBytes, Read, before_read, pairs_of, read, 
 use Rattle.dbm_dump.specs.declared.stage.Next.{Next}
 use Rattle.dbm_dump.specs.declared.stage.Stage.{Stage}
 use Rattle.dbm_dump.specs.declared.stage.Stage.TheVariants.{First, Keys, Pages, Count, Gap, Pairs, Over}
-use Rattle.dbm_lines.proofs.CutTexts.{piece_first}
+use Rattle.dbm_script.proofs.CutTexts.{piece_first}
 use Rattle.dbm_dump.proofs.Ends.{whole_lines}
 use Rattle.dbm_dump.proofs.Free.{IsFree, free, free-append, free-cons, free-decimal, free-shown}
 

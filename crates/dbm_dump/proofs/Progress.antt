@@ -13,9 +13,9 @@ use Rattle.dbm_dump.specs.declared.stage.Stage.{Stage}
 use Rattle.dbm_dump.specs.Steps.{is_end}
 use Rattle.dbm_dump.specs.Reading.{lines_of, pair_list, read, read_so, whole, without_empty_end}
 use Rattle.dbm_dump.specs.Loading.{AtLine, GivesLine, IsBad, IsCrowded, IsCutOff, IsLineFault, IsLoadFault, IsLoaded, IsOversized, IsStepFault, StoresAll, TakesLine, line_limit}
-use Rattle.dbm_lines.specs.Lines.{Gives, IsLongNext, Unread, lines_left}
-use Rattle.dbm_lines.proofs.CutTexts.{unread}
-use Rattle.dbm_lines.proofs.LinesGiven.{known, next_line, no_line}
+use Rattle.dbm_script.specs.LineInput.{Gives, IsLongNext, Unread, lines_left}
+use Rattle.dbm_script.proofs.CutTexts.{unread}
+use Rattle.dbm_script.proofs.LinesGiven.{known, next_line, no_line}
 use Rattle.dbm_dump.proofs.Ends.{after_line, empty_after, line_after, lines_after, none_after}
 use Rattle.dbm_dump.proofs.MoreLines.{read_more}
 use Rattle.dbm_dump.proofs.MorePairs.{StoresAll-append, StoresAll-unique}

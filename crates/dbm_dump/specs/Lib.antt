@@ -7,3 +7,7 @@ pub mod Steps
 pub mod Reading
 pub mod Loading
 pub mod FaultText
+pub mod Backup
+pub mod Causes
+pub mod Dump
+pub mod Load

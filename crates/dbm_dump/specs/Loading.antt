@@ -10,7 +10,7 @@ use Rattle.store_cmd.specs.declared.Entry.{Entry}
 use Rattle.store_cmd.specs.declared.Reply.{Reply}
 use Rattle.store_cmd.specs.declared.Reply.TheVariants as reply
 use Rattle.store_moves.specs.Acts.{Acts}
-use Rattle.dbm_lines.specs.Lines.{Gives, IsLongNext}
+use Rattle.dbm_script.specs.LineInput.{Gives, IsLongNext}
 use Rattle.dbm_dump.specs.Steps.{is_end, step}
 use Rattle.dbm_dump.specs.Reading.{Read, lines_of, pair_list, pairs_of, read}
 use Rattle.dbm_dump.specs.declared.fault.DumpFault.{DumpFault}

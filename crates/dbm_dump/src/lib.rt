@@ -1,19 +1,27 @@
-//! Dumps: writes all pairs of a database as one text, in our own format, in gdbm's or as commands for Redis. Loads the pairs of the first
-//! two into a database.
+//! Dumps: all pairs of a database as one text, in our own format, in gdbm's or as commands for Redis, and loading the first two. Also the
+//! subcommands `backup`, `dump` and `load`.
 #![tactic(auto)]
 
+mod backup;
+mod copy_fault;
+mod dump;
 mod fault;
 mod format;
 mod key_head;
+mod load;
 mod loading;
 mod marks;
 mod stage;
 mod symbols;
 mod writing;
 
+pub use backup::{Backup, backup_command};
+pub use copy_fault::CopyFault;
+pub use dump::{Dump, dump_command};
 pub use fault::DumpFault;
 pub use format::{Format, format_of, start_of};
 pub use key_head::KeyHead;
-pub use loading::{Loaded, load};
+pub use load::{Load, load_command};
+pub use loading::{Loaded, load_pairs};
 pub use stage::Stage;
 pub use writing::dump_pairs;

@@ -1,14 +1,13 @@
 //! Loads a dump into a database, line by line.
 ghost use Rattle.std.specs.Prelude.{◌≡◌, ◌<◌, ◌==◌, cond, length, true, false, IfOk, IfErr, IfSome};
-ghost use Rattle.dbm_lines.specs.Lines.{Gives, lines_left};
+ghost use Rattle.dbm_script.specs.LineInput.{Gives, lines_left};
 ghost use Rattle.dbm_dump.specs.Steps.{is_end};
 ghost use Rattle.dbm_dump.specs.Loading.{GivesLine, IsLineFault, IsLoadFault, IsLoaded, IsStepFault, IsStoreFault, StoresOne, TakesLine};
 
 use crate::fault::DumpFault;
 use crate::key_head::KeyHead;
 use crate::stage::{Next, Stage, step};
-use dbm_lines::{LineFault, Lines};
-use dbm_script::{Answer, answer_command};
+use dbm_script::{Answer, LineFault, LineReader, answer_command};
 use sdbm_addr::{Bytes, Mode};
 use sdbm_files::Image;
 use std::alloc::Global;
@@ -43,7 +42,7 @@ struct Loading {
 /// - `TooLarge` with a line that has more than 16,384 bytes, or whose pair, key or value is over the size limit.
 /// - `Crowded` with a line whose pair does not fit in the database.
 /// - `CutOff` if the dump is truncated.
-pub fn load<R: Read>(
+pub fn load_pairs<R: Read>(
     alloc: Global,
     reader: &mut R,
     start: Stage,
@@ -59,7 +58,7 @@ pub fn load<R: Read>(
         stage: start,
         count: 0,
     };
-    let mut lines = Lines::new(alloc);
+    let mut lines = LineReader::new(alloc);
     let mut line = Vec::new(alloc);
     for number in 1..u64::MAX {
         if !next_line(&mut lines, reader, &mut line, number)? {
@@ -73,7 +72,7 @@ pub fn load<R: Read>(
 // Reads the next line, which has this number. Returns `false` if no lines are left. An empty piece after the last LF is not a line, except
 // in an empty text, whose first line is empty.
 fn next_line<R: Read>(
-    lines: &mut Lines,
+    lines: &mut LineReader,
     reader: &mut R,
     line: &mut Vec<u8>,
     number: u64,
@@ -92,7 +91,7 @@ fn next_line<R: Read>(
 }
 
 // Returns `true` if a piece is empty and the last.
-fn is_empty_end(lines: &Lines, line: &[u8]) -> bool
+fn is_empty_end(lines: &LineReader, line: &[u8]) -> bool
     ensures { result ≡ cond lines.now.ended (length line.now == 0) false }
 {
     if lines.has_ended() {
@@ -103,7 +102,7 @@ fn is_empty_end(lines: &Lines, line: &[u8]) -> bool
 
 // Reads up to the next LF, or to the end of the text, as the line with this number. Returns `false` at the end of the text.
 fn next_piece<R: Read>(
-    lines: &mut Lines,
+    lines: &mut LineReader,
     reader: &mut R,
     line: &mut Vec<u8>,
     number: u64,

@@ -1,7 +1,7 @@
 -- The arguments of `asm`, its possible reports, and the conditions of its faults.
-use Rattle.std.specs.Prelude.{◌≡◌, List, [], ◌∷◌, ◌++◌, codes, ℕ}
+use Rattle.std.specs.Prelude.{◌≡◌, List, [], ◌∷◌, ◌++◌, codes, ℕ, Some, None}
 use Rattle.clap.specs.Words.{Shape, Row}
-use Rattle.dbm_words.specs.Given.{IsWord}
+use Rattle.dbm_args.specs.Given.{IsWord}
 use Rattle.dbm_programs.specs.declared.asm.Asm.{Asm}
 use Rattle.dbm_reports.specs.declared.databases.Given.{Given}
 use Rattle.dbm_reports.specs.Causes.{text_causes}
@@ -11,7 +11,9 @@ use Rattle.hex.specs.Hex.{encode_lower}
 use Rattle.bpf_insn.specs.declared.insn.Insn.{Insn}
 use Rattle.bpf_insn.specs.Code.{IsImage}
 use Rattle.bpf_asm.specs.Denotes.{Denotes, IsOnlyCode}
-use Rattle.dbm_words.specs.CommandLine.{required_word, subcommand}
+use Rattle.dbm_args.specs.CommandLine.{required_word, subcommand}
+use Rattle.dbm_args.specs.Heads.{head_on}
+use Rattle.dbm_args.specs.declared.options.Head.{Head}
 
 abbrev pub asm : Shape
 asm = subcommand (codes "asm") (required_word (codes "FILE") ∷ [])
@@ -34,3 +36,7 @@ asm_in given = record {
   reports = PrintsOf IsAssembled given.file.items;
   causes = text_causes given.file.items;
 }
+
+-- what it needs beside its own words
+abbrev pub asm_head : Asm → Head
+asm_head asm = record (head_on None) { file = Some asm.file }

@@ -1,7 +1,7 @@
 -- The arguments of `disasm`, its possible reports, and the conditions of its faults.
-use Rattle.std.specs.Prelude.{◌≡◌, List, [], ◌∷◌, codes, ℕ}
+use Rattle.std.specs.Prelude.{◌≡◌, List, [], ◌∷◌, codes, ℕ, Some, None, true}
 use Rattle.clap.specs.Words.{Shape, Row}
-use Rattle.dbm_words.specs.Given.{IsWord}
+use Rattle.dbm_args.specs.Given.{IsWord}
 use Rattle.dbm_programs.specs.declared.disasm.Disasm.{Disasm}
 use Rattle.dbm_reports.specs.declared.databases.Given.{Given}
 use Rattle.dbm_reports.specs.Known.{Known}
@@ -11,8 +11,10 @@ use Rattle.bpf_insn.specs.Code.{IsImage}
 use Rattle.bpf_asm.specs.Denotes.{Denotes}
 use Rattle.bpf_asm.specs.Printed.{text_of}
 use Rattle.prog_registry.specs.Judged.{IsUndecoded}
-use Rattle.dbm_words.specs.CommandLine.{required_word, subcommand}
+use Rattle.dbm_args.specs.CommandLine.{required_word, subcommand}
 use Rattle.dbm_reports.specs.Causes.{Causes, no_causes}
+use Rattle.dbm_args.specs.Heads.{head_on}
+use Rattle.dbm_args.specs.declared.options.Head.{Head}
 
 abbrev pub disasm : Shape
 disasm = subcommand (codes "disasm") (required_word (codes "FILE") ∷ [])
@@ -37,3 +39,7 @@ disasm_in given = record {
   reports = PrintsOf IsDisassembled given.file.items;
   causes = image_causes given.file.items;
 }
+
+-- what it needs beside its own words
+abbrev pub disasm_head : Disasm → Head
+disasm_head disasm = record (head_on None) { file = Some disasm.file; image = true }

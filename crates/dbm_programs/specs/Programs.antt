@@ -1,8 +1,8 @@
 -- The arguments of `programs`.
 use Rattle.std.specs.Prelude.{List, [], ◌∷◌, codes}
 use Rattle.clap.specs.Words.{Shape, Row, new_rule}
-use Rattle.dbm_words.specs.Given.{IsGiven}
-use Rattle.dbm_words.specs.CommandLine.{subcommand}
+use Rattle.dbm_args.specs.Given.{IsGiven}
+use Rattle.dbm_args.specs.CommandLine.{subcommand}
 use Rattle.dbm_programs.specs.declared.programs.Programs.{Programs}
 
 abbrev pub programs : Shape

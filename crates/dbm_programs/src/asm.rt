@@ -1,16 +1,16 @@
 //! `asm`: prints the image of a program's text.
 ghost use Rattle.std.specs.Prelude.{◌≡◌, IfOk, IfSome, IsNone, false};
 ghost use Rattle.clap.specs.Words.{found_of, rows_of};
-ghost use Rattle.dbm_words.specs.CommandLine.{IsSubcommand};
-ghost use Rattle.dbm_words.specs.Given.{has_words};
+ghost use Rattle.dbm_args.specs.CommandLine.{IsSubcommand};
+ghost use Rattle.dbm_args.specs.Given.{has_words};
 ghost use Rattle.dbm_programs.specs.Asm as spec;
-ghost use Rattle.dbm_programs.specs.Asm.{AsmAsks};
+ghost use Rattle.dbm_programs.specs.Asm.{AsmAsks, asm_head};
 
 use clap::{ArgMatches, Command};
+use dbm_args::arguments::file;
+use dbm_args::{Head, Subject, Words, subcommand, word};
 use dbm_reports::{Given, Report, ReportFault, Subcommand, printed, text_image};
 use dbm_script::Notation;
-use dbm_words::arguments::file;
-use dbm_words::{Subject, Words, subcommand, word};
 use std::alloc::{AllocError, Global};
 use std::io::Read;
 
@@ -29,6 +29,16 @@ impl<'a> Asm<'a> {
         Some(Asm {
             file: word(matches, "FILE")?,
         })
+    }
+
+    /// What it needs beside its own words.
+    pub fn head(&self) -> Head<'a>
+        ensures { result ≡ asm_head self.now }
+    {
+        Head {
+            file: Some(self.file),
+            ..Head::on(None)
+        }
     }
 
     /// The arguments that messages may show.

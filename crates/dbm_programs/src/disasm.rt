@@ -1,18 +1,18 @@
 //! `disasm`: prints the text of a program's image.
 ghost use Rattle.std.specs.Prelude.{◌≡◌, IfOk, IfSome, IsNone, false};
 ghost use Rattle.clap.specs.Words.{found_of, rows_of};
-ghost use Rattle.dbm_words.specs.CommandLine.{IsSubcommand};
-ghost use Rattle.dbm_words.specs.Given.{has_words};
+ghost use Rattle.dbm_args.specs.CommandLine.{IsSubcommand};
+ghost use Rattle.dbm_args.specs.Given.{has_words};
 ghost use Rattle.dbm_programs.specs.Disasm as spec;
-ghost use Rattle.dbm_programs.specs.Disasm.{DisasmAsks};
+ghost use Rattle.dbm_programs.specs.Disasm.{DisasmAsks, disasm_head};
 
 use bpf_asm::disassemble;
 use bpf_insn::{DecodeFault, decode};
 use clap::{ArgMatches, Command};
+use dbm_args::arguments::file;
+use dbm_args::{Head, Subject, Words, subcommand, word};
 use dbm_reports::{Given, Report, ReportFault, Subcommand, printed};
 use dbm_script::Notation;
-use dbm_words::arguments::file;
-use dbm_words::{Subject, Words, subcommand, word};
 use std::alloc::{AllocError, Global};
 use std::io::Read;
 
@@ -31,6 +31,17 @@ impl<'a> Disasm<'a> {
         Some(Disasm {
             file: word(matches, "FILE")?,
         })
+    }
+
+    /// What it needs beside its own words.
+    pub fn head(&self) -> Head<'a>
+        ensures { result ≡ disasm_head self.now }
+    {
+        Head {
+            file: Some(self.file),
+            image: true,
+            ..Head::on(None)
+        }
     }
 
     /// The arguments that messages may show.
@@ -57,8 +68,7 @@ pub fn disasm_command<'a>(alloc: Global) -> Result<Command<'a>, AllocError>
         ),
     ]?;
     let about = "Print the text of a program's image";
-    let notes =
-        "Prints one instruction a line. The bytes of an image come from the hex that asm prints so:\n\
+    let notes = "Prints one instruction a line. To make an image from the hex that asm prints:\n\
          dbm asm counter.s | xxd -r -p > counter.image\n\n\
          Example: dbm disasm counter.image";
     subcommand(alloc, "disasm", about, notes, args)

@@ -1,13 +1,13 @@
 //! `programs`: lists the stock programs, with their arguments and replies.
 ghost use Rattle.std.specs.Prelude.{IfOk};
 ghost use Rattle.clap.specs.Words.{found_of, rows_of};
-ghost use Rattle.dbm_words.specs.CommandLine.{IsSubcommand};
+ghost use Rattle.dbm_args.specs.CommandLine.{IsSubcommand};
 ghost use Rattle.dbm_programs.specs.Programs as spec;
 ghost use Rattle.dbm_programs.specs.Programs.{ProgramsAsks};
 
 use crate::stock::{show_all, show_one};
 use clap::{Arg, ArgMatches, Command};
-use dbm_words::{Words, subcommand, word};
+use dbm_args::{Words, subcommand, word};
 use std::alloc::{AllocError, Global};
 use stock_names::{ProgramWord, Stock, read_word};
 
@@ -71,7 +71,7 @@ pub fn programs_command<'a>(alloc: Global) -> Result<Command<'a>, AllocError>
     let args = vec![in alloc; Arg::new(alloc, "NAME").help(help)]?;
     let about = "List the stock programs, or describe one";
     let notes =
-        "A stock program is named @NAME wherever a command takes a program's FILE: what it does is proved.\n\n\
+        "Write @NAME for a stock program wherever a command takes the FILE of a program. Its behavior is proved.\n\n\
          Example: dbm programs lease";
     subcommand(alloc, "programs", about, notes, args)
 }

@@ -1,10 +1,10 @@
 //! `verify`: verifies a program, and prints why it is refused.
 ghost use Rattle.std.specs.Prelude.{◌≡◌, IfOk, IfSome, IsNone, false, IfErr};
 ghost use Rattle.clap.specs.Words.{found_of, rows_of};
-ghost use Rattle.dbm_words.specs.CommandLine.{IsSubcommand};
-ghost use Rattle.dbm_words.specs.Given.{has_words};
+ghost use Rattle.dbm_args.specs.CommandLine.{IsSubcommand};
+ghost use Rattle.dbm_args.specs.Given.{has_words};
 ghost use Rattle.dbm_programs.specs.Verify as spec;
-ghost use Rattle.dbm_programs.specs.Verify.{VerifyAsks};
+ghost use Rattle.dbm_programs.specs.Verify.{VerifyAsks, verify_head};
 ghost use Rattle.bpf_insn.specs.Code.{IsImage};
 ghost use Rattle.prog_registry.specs.Judged.{IsJudged, IsProgramOf};
 ghost use Rattle.dbm_reports.specs.Causes.{IsCaused, file_causes};
@@ -15,10 +15,10 @@ use bpf_explain::{explain_accepted, explain_refused};
 use bpf_insn::{Code, DecodeFault, decode};
 use bpf_verify::{Examined, Refused, VerifyFault, examine};
 use clap::{ArgMatches, Command};
+use dbm_args::arguments::{file, flag, image};
+use dbm_args::{Head, Words, has_flag, subcommand, word};
 use dbm_reports::{Given, Report, ReportFault, Subcommand, file_image, printed, refused};
 use dbm_script::Notation;
-use dbm_words::arguments::{file, flag, image};
-use dbm_words::{Words, has_flag, subcommand, word};
 use prog_registry::RegFault;
 use std::alloc::{AllocError, Global};
 use std::io::Read;
@@ -42,6 +42,17 @@ impl<'a> Verify<'a> {
             image: has_flag(matches, "image"),
             explain: has_flag(matches, "explain"),
         })
+    }
+
+    /// What it needs beside its own words.
+    pub fn head(&self) -> Head<'a>
+        ensures { result ≡ verify_head self.now }
+    {
+        Head {
+            file: Some(self.file),
+            image: self.image,
+            ..Head::on(None)
+        }
     }
 
     /// The arguments that messages may show.
@@ -70,13 +81,13 @@ pub fn verify_command<'a>(alloc: Global) -> Result<Command<'a>, AllocError>
         flag(
             alloc,
             "explain",
-            "Print what is known before each instruction, and in words why the program is refused"
+            "Print what the verifier knows before each instruction, and why it refuses the program"
         ),
     ]?;
     let about = "Say whether a program is accepted, or why it is refused";
     let notes =
         "Prints accepted UNITS, its length in units of 8 bytes, or refused FAULT with status 1. With --explain\n\
-         that line is the last one; of a file that is no program's image it stands alone.\n\n\
+         that line comes last; if the file is not the image of a program, it is the only one.\n\n\
          Example: dbm verify counter.s";
     subcommand(alloc, "verify", about, notes, args)
 }
@@ -203,12 +214,14 @@ fn behind(rows: String, last: Report) -> Result<Report, AllocError>
     let Report {
         status,
         database,
+        notes,
         ..
     } = last;
     Ok(Report {
         text,
         status,
         database,
+        notes,
     })
 }
 

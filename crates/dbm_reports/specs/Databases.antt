@@ -10,7 +10,7 @@ use Rattle.sdbm_files.specs.Limits.{pag_limit}
 use Rattle.sdbm_files.specs.Opened.{IsOpenFault}
 use Rattle.sdbm_files.specs.declared.opening.OpenFault.{OpenFault}
 use Rattle.sdbm_files.specs.declared.opening.OpenFault.TheVariants as opening
-use Rattle.dbm_words.specs.declared.options.Form.{Form}
+use Rattle.dbm_args.specs.declared.options.Form.{Form}
 use Rattle.dbm_reports.specs.declared.databases.Given.{Given}
 
 -- the hash of keys and the page size, from the options

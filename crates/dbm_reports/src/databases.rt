@@ -5,7 +5,7 @@ ghost use Rattle.dbm_reports.specs.Databases.{IsOpened, IsShort, IsTooLong, key_
 ghost use Rattle.dbm_reports.specs.Causes.{IsCaused, opening_causes};
 
 use crate::fault::ReportFault;
-use dbm_words::Form;
+use dbm_args::Form;
 use sdbm_addr::{KeyBytes, PageSize};
 use sdbm_files::{Image, PAG_LIMIT, ReadPages};
 use std::alloc::Global;

@@ -6,8 +6,8 @@ ghost use Rattle.dbm_reports.specs.Known.{layout_causes};
 
 use crate::fault::ReportFault;
 use byte_text::read_layout;
+use dbm_args::NotationOptions;
 use dbm_script::Notation;
-use dbm_words::NotationOptions;
 use std::alloc::Global;
 
 /// The notation from `--text` and `--as`, or hex without them.

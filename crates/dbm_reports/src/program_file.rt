@@ -5,6 +5,7 @@ ghost use Rattle.dbm_reports.specs.Reports.{IsTextImage, IsFileImage, Refuses};
 ghost use Rattle.dbm_reports.specs.Causes.{IsCaused, text_causes, file_causes};
 
 use crate::fault::ReportFault;
+use crate::notes::Notes;
 use crate::report::Report;
 use bpf_asm::{FaultKind, assemble};
 use bpf_insn::encode;
@@ -60,6 +61,10 @@ pub fn refused(
     ensures line { IfOk result (Refuses fault status database) }
     ensures told { IfOk result (λ report. fault ≢ NoMemory) }
 {
+    let notes = Notes {
+        refuses_program: matches!(fault, RegFault::Verify(_)),
+        ..Notes::none()
+    };
     let mut text = Vec::new(alloc);
     show_refusal(alloc, fault, &mut text)?;
     text.push(b'\n')?;
@@ -67,5 +72,6 @@ pub fn refused(
         text,
         status,
         database,
+        notes,
     })
 }

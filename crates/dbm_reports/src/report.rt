@@ -1,8 +1,9 @@
 //! The report of a subcommand, and of a command on an open database.
-ghost use Rattle.std.specs.Prelude.{◌≡◌, ◌++◌, ◌∷◌, [], None, IfOk};
+ghost use Rattle.std.specs.Prelude.{◌≡◌, ◌++◌, ◌∷◌, [], None, IfOk, decimal};
 ghost use Rattle.dbm_script.specs.Answers.{answer_text};
 ghost use Rattle.dbm_reports.specs.Reports.{IsCommandReport, Looks, Changes, answer_status, code_status, ok_line, run_status, status_of};
 
+use crate::notes::Notes;
 use dbm_script::{Answer, Notation, answer_command, show_answer};
 use itoa::Buffer;
 use sdbm_files::Image;
@@ -12,12 +13,13 @@ use store_cmd::{Command, Reply};
 /// The status if a run with an expected code did not run.
 pub const NOT_RUN: u8 = 3;
 
-/// The result of a subcommand: the text to print, its status, and the database to write, if any.
+/// The result of a subcommand: the text to print, its status, the database to write, if any, and what notes say of it.
 #[derive(Drop)]
 pub struct Report {
     pub text: Vec<u8>,
     pub status: u8,
     pub database: Option<Image<Global>>,
+    pub notes: Notes,
 }
 
 /// The report of a command after which no file is written.
@@ -33,12 +35,8 @@ pub fn look(
     ensures { IfOk result (Looks notation.now image command) }
 {
     let mut image = image;
-    let (text, status) = answer_line(alloc, notation, &mut image, command, None)?;
-    Ok(Report {
-        text,
-        status,
-        database: None,
-    })
+    let report = command_report(alloc, notation, &mut image, command, None)?;
+    Ok(report)
 }
 
 /// The report of a command after which the files are written. `expect` is the expected code of a run, if any.
@@ -55,27 +53,34 @@ pub fn change(
     ensures { IfOk result (Changes notation.now image command expect) }
 {
     let mut image = image;
-    let (text, status) = answer_line(alloc, notation, &mut image, command, expect)?;
+    let report = command_report(alloc, notation, &mut image, command, expect)?;
     Ok(Report {
-        text,
-        status,
+        text: report.text,
+        status: report.status,
         database: Some(image),
+        notes: report.notes,
     })
 }
 
-// Answers a command. Returns the line to print, and the status.
-fn answer_line(
+// Answers a command, and reports the answer. The report has no database.
+fn command_report(
     alloc: Global,
     notation: &Notation<Global>,
     image: &mut Image<Global>,
     command: Command<Global>,
     expect: Option<u64>,
-) -> Result<(Vec<u8>, u8), AllocError>
-    ensures { IfOk result (λ r. IsCommandReport notation.now image.old command expect image.new (record { text = r.0; status = r.1; database = None })) }
+) -> Result<Report, AllocError>
+    ensures report { IfOk result (IsCommandReport notation.now image.old command expect image.new) }
+    ensures none { IfOk result (λ report. report.database ≡ None) }
 {
     let answer = answer_command(alloc, image, command)?;
-    let line = shown(alloc, notation, &answer)?;
-    Ok((line, status_of(&answer, expect)))
+    let text = shown(alloc, notation, &answer)?;
+    Ok(Report {
+        text,
+        status: status_of(&answer, expect),
+        database: None,
+        notes: Notes::none(),
+    })
 }
 
 /// The text of an answer, as a line.
@@ -148,6 +153,7 @@ pub fn printed(text: Vec<u8>) -> Report
         text,
         status: 0,
         database: None,
+        notes: Notes::none(),
     }
 }
 
@@ -158,10 +164,24 @@ pub fn printed(text: Vec<u8>) -> Report
 pub fn show_ok<A: Allocator + Copy>(alloc: A, count: usize) -> Result<Vec<u8, A>, AllocError>
     ensures { IfOk result (λ text. text.items ≡ ok_line count) }
 {
+    show_named(alloc, b"ok ", count)
+}
+
+/// A line with a number after a name.
+///
+/// # Errors
+/// `AllocError` if allocation fails.
+pub fn show_named<A: Allocator + Copy>(
+    alloc: A,
+    name: &[u8],
+    number: usize,
+) -> Result<Vec<u8, A>, AllocError>
+    ensures { IfOk result (λ text. text.items ≡ name.now ++ (decimal number ++ 10 ∷ [])) }
+{
     let mut text = Vec::new(alloc);
-    text.extend_from_slice(b"ok ")?;
+    text.extend_from_slice(name)?;
     let mut digits = Buffer::new();
-    text.extend_from_slice(digits.format(count).as_bytes())?;
+    text.extend_from_slice(digits.format(number).as_bytes())?;
     text.push(b'\n')?;
     Ok(text)
 }

@@ -5,6 +5,7 @@ ghost use Rattle.dbm_reports.specs.Databases.{IsTooLong, MayBeWritten};
 ghost use Rattle.dbm_reports.specs.Served.{IsPrinted, IsUnserved};
 
 use crate::databases::{Given, is_too_long};
+use crate::notes::Notes;
 use crate::report::Report;
 use crate::subcommand::Subcommand;
 use byte_text::write_all;
@@ -13,11 +14,12 @@ use sdbm_files::Image;
 use std::alloc::Global;
 use std::io::{Read, Write};
 
-/// The result of a subcommand: its status, and the database if its files are to be written.
+/// The outcome of a subcommand once its text is written: its status, the database if its files are to be written, and what notes say of it.
 #[derive(Drop)]
-pub struct Served {
+pub struct Outcome {
     pub status: u8,
     pub database: Option<Image<Global>>,
+    pub notes: Notes,
 }
 
 /// Why serving a subcommand failed.
@@ -43,10 +45,10 @@ pub fn serve<S: Subcommand, R: Read, W: Write>(
     given: &Given,
     reader: &mut R,
     writer: &mut W,
-) -> Result<Served, Unserved<S::Fault>>
-    ensures ok { IfOk result (λ served. IsPrinted (S.reports subcommand.now notation.now given.now (R.remaining reader.old)) (W.contents writer.old) (W.contents writer.new) served.status served.database) }
+) -> Result<Outcome, Unserved<S::Fault>>
+    ensures ok { IfOk result (λ outcome. IsPrinted (S.reports subcommand.now notation.now given.now (R.remaining reader.old)) (W.contents writer.old) (W.contents writer.new) outcome.status outcome.database) }
     ensures fault { IfErr result (IsUnserved (S.reports subcommand.now notation.now given.now (R.remaining reader.old)) (S.causes subcommand.now notation.now given.now (R.remaining reader.old)) (W.contents writer.old) (W.contents writer.new)) }
-    ensures database { IfOk result (λ served. is_some served.database ≡ S.writes subcommand.now) }
+    ensures database { IfOk result (λ outcome. is_some outcome.database ≡ S.writes subcommand.now) }
     ensures unread { S.reads subcommand.now ≡ false → R.remaining reader.new ≡ R.remaining reader.old }
 {
     match subcommand.report(alloc, notation, given, reader) {
@@ -62,10 +64,10 @@ pub fn serve<S: Subcommand, R: Read, W: Write>(
 pub fn write_report<F: Drop, W: Write>(
     report: Report,
     writer: &mut W,
-) -> Result<Served, Unserved<F>>
-    ensures ok { IfOk result (λ served. IsPrinted (λ told. told ≡ report) (W.contents writer.old) (W.contents writer.new) served.status served.database) }
+) -> Result<Outcome, Unserved<F>>
+    ensures ok { IfOk result (λ outcome. IsPrinted (λ told. told ≡ report) (W.contents writer.old) (W.contents writer.new) outcome.status outcome.database) }
     ensures fault { IfErr result (IsUnserved (λ told. told ≡ report) (λ fault. ⊥) (W.contents writer.old) (W.contents writer.new)) }
-    ensures database { IfOk result (λ served. served.database ≡ report.database) }
+    ensures database { IfOk result (λ outcome. outcome.database ≡ report.database) }
 {
     let Ok(()) = write_all(writer, report.text.as_slice()) else {
         return Err(Unserved::Write);
@@ -73,9 +75,10 @@ pub fn write_report<F: Drop, W: Write>(
     let Ok(()) = check_length(&report.database) else {
         return Err(Unserved::TooLong);
     };
-    Ok(Served {
+    Ok(Outcome {
         status: report.status,
         database: report.database,
+        notes: report.notes,
     })
 }
 

@@ -12,3 +12,5 @@ pub mod HexWords
 pub mod Directly
 pub mod Vectors
 pub mod HexPairs
+pub mod CutTexts
+pub mod LinesGiven

@@ -7,8 +7,8 @@ use Rattle.std.specs.List.{ends_with, join_with_byte, onto_first, starts_with}
 use Rattle.std.specs.Prelude.{nat_eq, nat_lt, ◌+◌, ◌-◌, ◌/◌, ◌%◌, ◌==◌, if◌then◌else◌, ⊤}
 use Rattle.dbm_script.specs.Pieces.{pieces_of, pieces_left}
 use Rattle.dbm_script.specs.Shorthand.{fully_named, in_full, is_comment, spelled, spelled_line, timed}
-use Rattle.dbm_script.specs.declared.shorthand.Lines.{Lines}
-use Rattle.dbm_script.specs.declared.shorthand.Lines.TheVariants.{OfBatch, OfScript}
+use Rattle.dbm_script.specs.declared.shorthand.LineKind.{LineKind}
+use Rattle.dbm_script.specs.declared.shorthand.LineKind.TheVariants.{OfBatch, OfScript}
 use Rattle.dbm_script.specs.declared.shorthand.TimeOfDay.{TimeOfDay}
 
 -- ---- texts without a byte
@@ -102,19 +102,19 @@ timed_lacks (Some time) line p =
     lacks-cond (ends_with nat_eq line (codes " now")) 10 _ _ (lacks-append 10 (take (length line - 3) line) (decimal time.seconds) (lacks-take 10 (length line - 3) line p) (lacks-decimal time.seconds))
     (lacks-cond (ends_with nat_eq line (codes " now-ms")) 10 _ _ (lacks-append 10 (take (length line - 6) line) (decimal time.millis) (lacks-take 10 (length line - 6) line p) (lacks-decimal time.millis)) p)
 
-full_lacks : (lines : Lines) (time : Option TimeOfDay) (line : List ℕ) → Lacks 10 line → Lacks 10 (in_full lines time line)
+full_lacks : (lines : LineKind) (time : Option TimeOfDay) (line : List ℕ) → Lacks 10 line → Lacks 10 (in_full lines time line)
 full_lacks OfScript time line p = lacks-cond (starts_with nat_eq line (codes "run ")) 10 _ _ (timed_lacks time line p) (named_lacks line p)
 full_lacks OfBatch time line p = timed_lacks time line p
 
-line_lacks : (lines : Lines) (time : Option TimeOfDay) (line : List ℕ) → Lacks 10 line → Lacks 10 (spelled_line lines time line)
+line_lacks : (lines : LineKind) (time : Option TimeOfDay) (line : List ℕ) → Lacks 10 line → Lacks 10 (spelled_line lines time line)
 line_lacks lines time line p =
     lacks-cond (is_comment lines line) 10 _ _ tt (lacks-cond (ends_with nat_eq line (13 ∷ [])) 10 _ _ (refl, tt) (full_lacks lines time line p))
 
-lines_lack : (lines : Lines) (time : Option TimeOfDay) (text : List (List ℕ)) → AllLack 10 text → AllLack 10 (map (spelled_line lines time) text)
+lines_lack : (lines : LineKind) (time : Option TimeOfDay) (text : List (List ℕ)) → AllLack 10 text → AllLack 10 (map (spelled_line lines time) text)
 lines_lack lines time [] p = tt
 lines_lack lines time (line ∷ text) p = (line_lacks lines time line p.0, lines_lack lines time text p.1)
 
-pub lines_stay : (lines : Lines) (time : Option TimeOfDay) (text : List ℕ) → pieces_of 10 (spelled lines time text) ≡ map (spelled_line lines time) (pieces_of 10 text)
+pub lines_stay : (lines : LineKind) (time : Option TimeOfDay) (text : List ℕ) → pieces_of 10 (spelled lines time text) ≡ map (spelled_line lines time) (pieces_of 10 text)
 lines_stay lines time text = go (pieces_of 10 text) (let long = length-slice_split (λ b. eqb b 10) text in omega arith) (pieces_lack 10 text)
   where
     go : (all : List (List ℕ)) → 0 < length all → AllLack 10 all → pieces_of 10 (join_with_byte 10 (map (spelled_line lines time) all)) ≡ map (spelled_line lines time) all

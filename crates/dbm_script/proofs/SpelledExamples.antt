@@ -5,8 +5,8 @@ use Rattle.dbm_script.specs.Pieces.{pieces_of}
 use Rattle.dbm_script.specs.Shorthand.{spelled_line}
 use Rattle.dbm_script.specs.Tasks.{task_of}
 use Rattle.dbm_script.specs.declared.notations.Notation.{Notation}
-use Rattle.dbm_script.specs.declared.shorthand.Lines.{Lines}
-use Rattle.dbm_script.specs.declared.shorthand.Lines.TheVariants.{OfBatch, OfScript}
+use Rattle.dbm_script.specs.declared.shorthand.LineKind.{LineKind}
+use Rattle.dbm_script.specs.declared.shorthand.LineKind.TheVariants.{OfBatch, OfScript}
 use Rattle.dbm_script.specs.declared.shorthand.TimeOfDay.{TimeOfDay}
 
 a_comment : (time : Option TimeOfDay) → spelled_line OfScript time (codes "# put 61 31") ≡ []
@@ -36,7 +36,7 @@ no_clock = refl
 a_value_is_no_time : (time : Option TimeOfDay) → spelled_line OfScript time (codes "insert 61 now") ≡ codes "insert 61 now"
 a_value_is_no_time time = refl
 
-cr_lf : (lines : Lines) (time : Option TimeOfDay) → spelled_line lines time (codes "count" ++ 13 ∷ []) ≡ 13 ∷ []
+cr_lf : (lines : LineKind) (time : Option TimeOfDay) → spelled_line lines time (codes "count" ++ 13 ∷ []) ≡ 13 ∷ []
 cr_lf OfScript time = refl
 cr_lf OfBatch time = refl
 

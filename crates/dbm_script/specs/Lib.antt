@@ -10,3 +10,4 @@ pub mod Images
 pub mod Script
 pub mod Digits
 pub mod Direct
+pub mod LineInput

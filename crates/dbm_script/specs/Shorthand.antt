@@ -2,8 +2,8 @@
 use Rattle.std.specs.Prelude.{ℕ, nat_eq, ◌-◌, Bool, false, cond, List, [], ◌∷◌, ◌++◌, codes, decimal, drop, take, length, map, Option, Some, None}
 use Rattle.std.specs.List.{ends_with, join_with_byte, starts_with}
 use Rattle.dbm_script.specs.Pieces.{pieces_of}
-use Rattle.dbm_script.specs.declared.shorthand.Lines.{Lines}
-use Rattle.dbm_script.specs.declared.shorthand.Lines.TheVariants.{OfScript, OfBatch}
+use Rattle.dbm_script.specs.declared.shorthand.LineKind.{LineKind}
+use Rattle.dbm_script.specs.declared.shorthand.LineKind.TheVariants.{OfScript, OfBatch}
 use Rattle.dbm_script.specs.declared.shorthand.TimeOfDay.{TimeOfDay}
 
 -- a line with the full name of its command instead of a short name
@@ -22,21 +22,21 @@ timed (Some time) line =
 
 -- A line that is not a comment and does not end in CR. Each line of a batch ends in a time, and so does a line of a script that runs a
 -- program. The first word of a line of a batch is a key, not a command.
-abbrev pub in_full : Lines → Option TimeOfDay → List ℕ → List ℕ
+abbrev pub in_full : LineKind → Option TimeOfDay → List ℕ → List ℕ
 in_full OfScript time line = cond (starts_with nat_eq line (codes "run ")) (timed time line) (fully_named line)
 in_full OfBatch time line = timed time line
 
 -- In a script, a line that begins with # is a comment. In a batch, it is a task whose key begins with #.
-abbrev pub is_comment : Lines → List ℕ → Bool
+abbrev pub is_comment : LineKind → List ℕ → Bool
 is_comment OfScript line = starts_with nat_eq line (codes "#")
 is_comment OfBatch line = false
 
 -- A line with its shorthand expanded. A comment becomes an empty line. A line that ends in CR becomes a single CR, which is a bad line.
-abbrev pub spelled_line : Lines → Option TimeOfDay → List ℕ → List ℕ
+abbrev pub spelled_line : LineKind → Option TimeOfDay → List ℕ → List ℕ
 spelled_line lines time line =
     cond (is_comment lines line) []
     (cond (ends_with nat_eq line (13 ∷ [])) (13 ∷ []) (in_full lines time line))
 
 -- a text with its shorthand expanded, line by line
-abbrev pub spelled : Lines → Option TimeOfDay → List ℕ → List ℕ
+abbrev pub spelled : LineKind → Option TimeOfDay → List ℕ → List ℕ
 spelled lines time text = join_with_byte 10 (map (spelled_line lines time) (pieces_of 10 text))

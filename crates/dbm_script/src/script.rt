@@ -10,6 +10,7 @@ ghost use Rattle.dbm_script.specs.Images.{Verdict};
 ghost use Rattle.dbm_script.specs.Script.{AnswersExceed, IsScriptRun, RunsLines, AnswersLine, Adds, stage};
 
 use crate::answering::answer_one;
+use crate::bad_lines::{BadLines, LineCount};
 use crate::direct::answer_directly;
 use crate::fault::{LinesFault, ScriptFault};
 use crate::images::answer_image;
@@ -17,13 +18,24 @@ use crate::lines::{Ask, read_line};
 use crate::notations::Notation;
 use crate::pieces::first_piece;
 use crate::running::answer_run;
-use crate::shorthand::{Lines, TimeOfDay, spell_line};
+use crate::shorthand::{LineKind, TimeOfDay, spell_line};
 use crate::streams::read_all;
 use byte_text::write_all;
 use prog_registry::Registry;
 use sdbm_files::Image;
 use std::alloc::{AllocError, Allocator};
 use std::io::{Read, Write};
+
+/// A script that was run.
+#[derive(Drop)]
+pub struct ScriptRun<A: Allocator> {
+    /// The database after its lines.
+    pub image: Image<A>,
+    /// The text of the answers.
+    pub text: Vec<u8, A>,
+    /// Its lines that are not commands. No clause says which: notes show them.
+    pub bad_lines: BadLines,
+}
 
 /// Reads a script, runs all its lines on a database as session 0, writes the answers, and returns the database after them.
 ///
@@ -97,22 +109,23 @@ pub fn run_spelled<A: Allocator + Copy>(
     time: Option<TimeOfDay>,
     input: &[u8],
     most: u64,
-) -> Result<(Image<A>, Vec<u8, A>), LinesFault>
-    ensures runs { IfOk result (λ r. IsScriptRun A notation.now image (spelled Lines.OfScript time input.now) r.1.items r.0) }
-    ensures short { IfOk result (λ r. length r.1.items ≤ most) }
-    ensures long { IsErrOf result LinesFault.OutputTooLong → AnswersExceed A notation.now image (spelled Lines.OfScript time input.now) most }
-    ensures kept { IfOk result (λ r. (r.0.kind ≡ image.kind) × (r.0.size ≡ image.size)) }
+) -> Result<ScriptRun<A>, LinesFault>
+    ensures runs { IfOk result (λ run. IsScriptRun A notation.now image (spelled LineKind.OfScript time input.now) run.text.items run.image) }
+    ensures short { IfOk result (λ run. length run.text.items ≤ most) }
+    ensures long { IsErrOf result LinesFault.OutputTooLong → AnswersExceed A notation.now image (spelled LineKind.OfScript time input.now) most }
+    ensures kept { IfOk result (λ run. (run.image.kind ≡ image.kind) × (run.image.size ≡ image.size)) }
 {
     let mut image = image;
     let mut registry = Registry::new(alloc)?;
     let mut text = Vec::new(alloc);
     let mut line = Vec::new(alloc);
+    let mut counted = LineCount::new();
     let mut rest = Some(input);
     while let Some(left) = rest {
         let (short, after) = first_piece(b'\n', left);
         line.clear();
-        spell_line(Lines::OfScript, time, short, &mut line)?;
-        answer_line(
+        spell_line(LineKind::OfScript, time, short, &mut line)?;
+        let is_command = answer_line(
             alloc,
             notation,
             &mut image,
@@ -120,16 +133,21 @@ pub fn run_spelled<A: Allocator + Copy>(
             line.as_slice(),
             &mut text,
         )?;
+        counted.add(is_command);
         if text.len() as u64 > most {
             return Err(LinesFault::OutputTooLong);
         }
         rest = after;
     }
-    Ok((image, text))
+    Ok(ScriptRun {
+        image,
+        text,
+        bad_lines: counted.bad_lines(),
+    })
 }
 
 /// Answers one line on a database as session 0, and appends the answer with its LF to `text`. An empty line has no answer. Programs that
-/// the line submits go into the registry.
+/// the line submits go into the registry. Returns `false` if the line is a bad one, for a note; no clause says so.
 ///
 /// # Errors
 /// `AllocError` if allocation fails.
@@ -140,19 +158,20 @@ pub fn answer_line<A: Allocator + Copy>(
     registry: &mut Registry<A>,
     line: &[u8],
     text: &mut Vec<u8, A>,
-) -> Result<(), AllocError>
+) -> Result<bool, AllocError>
     ensures answer { OnOk result (Adds text.old.items text.new.items (λ added. (told : List (Option Verdict)) ×
         RunsLines A notation.now (stage image.old registry.old.programs) (line.now ∷ []) told added (stage image.new registry.new.programs))) }
     ensures kept { OnOk result ((image.new.kind ≡ image.old.kind) × (image.new.size ≡ image.old.size)) }
 {
     if line.is_empty() {
-        return Ok(());
+        return Ok(true);
     }
-    answer_words(alloc, notation, image, registry, line, text)?;
-    Ok(text.push(b'\n')?)
+    let is_command = answer_words(alloc, notation, image, registry, line, text)?;
+    text.push(b'\n')?;
+    Ok(is_command)
 }
 
-// Answers the words of a line: a request by its answer, anything else by `bad line`.
+// Answers the words of a line: a request by its answer, anything else by `bad line`. Returns whether it is a request.
 fn answer_words<A: Allocator + Copy>(
     alloc: A,
     notation: &Notation<A>,
@@ -160,17 +179,23 @@ fn answer_words<A: Allocator + Copy>(
     registry: &mut Registry<A>,
     line: &[u8],
     text: &mut Vec<u8, A>,
-) -> Result<(), AllocError>
+) -> Result<bool, AllocError>
     ensures answer { OnOk result (Adds text.old.items text.new.items (λ added. (told : Option Verdict) ×
         AnswersLine A notation.now (stage image.old registry.old.programs) (ask_of notation.now (pieces_of 32 line.now)) told added (stage image.new registry.new.programs))) }
     ensures kept { OnOk result ((image.new.kind ≡ image.old.kind) × (image.new.size ≡ image.old.size)) }
 {
     if answer_directly(alloc, notation, image, registry, line, text)? {
-        return Ok(());
+        return Ok(true);
     }
     match read_line(alloc, notation, line)? {
-        None => text.extend_from_slice(b"bad line"),
-        Some(ask) => answer_ask(alloc, notation, image, registry, ask, text),
+        None => {
+            text.extend_from_slice(b"bad line")?;
+            Ok(false)
+        }
+        Some(ask) => {
+            answer_ask(alloc, notation, image, registry, ask, text)?;
+            Ok(true)
+        }
     }
 }
 

@@ -9,7 +9,7 @@ use std::alloc::{AllocError, Allocator};
 
 /// The kind of lines in a text.
 #[derive(Clone, Copy, Debug, PartialEq, Eq)]
-pub enum Lines {
+pub enum LineKind {
     /// Lines of a script, which are commands.
     OfScript,
     /// Lines of a batch, which are runs of one program.
@@ -31,7 +31,7 @@ pub struct TimeOfDay {
 /// `AllocError` if allocation fails.
 pub fn spell_out<A: Allocator + Copy>(
     alloc: A,
-    lines: Lines,
+    lines: LineKind,
     time: Option<TimeOfDay>,
     input: &[u8],
 ) -> Result<Vec<u8, A>, AllocError>
@@ -56,7 +56,7 @@ pub fn spell_out<A: Allocator + Copy>(
 /// # Errors
 /// `AllocError` if allocation fails.
 pub fn spell_line<A: Allocator>(
-    lines: Lines,
+    lines: LineKind,
     time: Option<TimeOfDay>,
     line: &[u8],
     text: &mut Vec<u8, A>,
@@ -73,18 +73,18 @@ pub fn spell_line<A: Allocator>(
 }
 
 // Returns `true` if a line is a comment.
-fn is_comment(lines: Lines, line: &[u8]) -> bool
+fn is_comment(lines: LineKind, line: &[u8]) -> bool
     ensures { result ≡ is_comment lines line.now }
 {
     match lines {
-        Lines::OfScript => line.starts_with(b"#"),
-        Lines::OfBatch => false,
+        LineKind::OfScript => line.starts_with(b"#"),
+        LineKind::OfBatch => false,
     }
 }
 
 // Appends a line with its command and its time expanded to `text`.
 fn spell_words<A: Allocator>(
-    lines: Lines,
+    lines: LineKind,
     time: Option<TimeOfDay>,
     line: &[u8],
     text: &mut Vec<u8, A>,
@@ -92,13 +92,13 @@ fn spell_words<A: Allocator>(
     ensures { OnOk result (text.new.items ≡ text.old.items ++ in_full lines time line.now) }
 {
     match lines {
-        Lines::OfScript => {
+        LineKind::OfScript => {
             if line.starts_with(b"run ") {
                 return spell_time(time, line, text);
             }
             spell_name(line, text)
         }
-        Lines::OfBatch => spell_time(time, line, text),
+        LineKind::OfBatch => spell_time(time, line, text),
     }
 }
 

@@ -14,11 +14,11 @@ use Rattle.dbm_script.proofs.Runs.{RunsLines-append}
 use Rattle.dbm_script.specs.Script.{RunsLines, Stage, stage}
 use Rattle.dbm_script.specs.Shorthand.{spelled_line}
 use Rattle.dbm_script.specs.declared.notations.Notation.{Notation}
-use Rattle.dbm_script.specs.declared.shorthand.Lines.TheVariants.{OfScript}
+use Rattle.dbm_script.specs.declared.shorthand.LineKind.TheVariants.{OfScript}
 use Rattle.dbm_script.specs.declared.shorthand.TimeOfDay.{TimeOfDay}
-use Rattle.dbm_lines.specs.Lines.{GivesEnded, Unread, lines_left}
-use Rattle.dbm_lines.proofs.CutTexts.{unread}
-use Rattle.dbm_lines.proofs.LinesGiven.{known, some_pieces}
+use Rattle.dbm_script.specs.LineInput.{GivesEnded, Unread, lines_left}
+use Rattle.dbm_script.proofs.CutTexts.{unread}
+use Rattle.dbm_script.proofs.LinesGiven.{known, some_pieces}
 use Rattle.dbm_session.specs.HostCalls.{DidSave, GaveTime, HostCall, Logs, saves_in, times_in}
 use Rattle.dbm_session.specs.Sessions.{Answered, AnsweredOwn, AnsweredTimed, AnswersAs, AnswersLine, AnswersThenSaves, AreSpelled, Ends, IsOfScript, MaySave, RunsAsScript, RunsSession, SavesAtMostOne, SavesMaybe, Stops, WritesSome, before_last, ended_lines, half_after, half_line, is_own, is_save, last_after, last_piece}
 

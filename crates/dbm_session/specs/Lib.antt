@@ -1,2 +1,3 @@
 pub mod HostCalls
 pub mod Sessions
+pub mod Session

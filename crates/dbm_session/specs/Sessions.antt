@@ -10,7 +10,7 @@ use Rattle.dbm_script.specs.Images.{Verdict}
 use Rattle.dbm_script.specs.Script.{RunsLines, Stage, stage}
 use Rattle.dbm_script.specs.Shorthand.{spelled_line}
 use Rattle.dbm_script.specs.declared.notations.Notation.{Notation}
-use Rattle.dbm_script.specs.declared.shorthand.Lines.TheVariants.{OfScript}
+use Rattle.dbm_script.specs.declared.shorthand.LineKind.TheVariants.{OfScript}
 use Rattle.dbm_script.specs.declared.shorthand.TimeOfDay.{TimeOfDay}
 use Rattle.dbm_session.specs.HostCalls.{HostCall, DidSave, GaveTime, Logs, saves_in, times_in}
 use Rattle.dbm_session.specs.declared.host.Own.{Own}

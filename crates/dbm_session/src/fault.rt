@@ -1,6 +1,6 @@
 //! Errors of sessions.
 
-use dbm_lines::LineFault;
+use dbm_script::LineFault;
 use std::alloc::AllocError;
 
 /// Why a session stopped before the end of its input.

@@ -1,11 +1,18 @@
-//! Sessions: scripts that stay open. Each line is answered before the next is read, and the database is saved between lines.
+//! Sessions: scripts that stay open. Each line is answered before the next is read, and the database is saved between lines. Also the words of
+//! the subcommand `session`, when it saves by itself, and the lines that scripts do not have.
 #![tactic(auto)]
 
+mod every;
 mod fault;
 mod host;
 mod lines;
+mod own;
 mod running;
+mod session;
 
+pub use every::{Every, read_every};
 pub use fault::SessionFault;
 pub use host::{Host, Own};
+pub use own::{OwnLine, program_line, read_own, show_own};
 pub use running::{Ended, run_session};
+pub use session::{Session, session_command};

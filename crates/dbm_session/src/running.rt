@@ -11,8 +11,7 @@ use crate::fault::SessionFault;
 use crate::host::{Host, Own};
 use crate::lines::{asks_change, is_own, is_save};
 use byte_text::write_all;
-use dbm_lines::Lines;
-use dbm_script::{Lines as Whose, Notation, SCRIPT_LIMIT, answer_line, spell_line};
+use dbm_script::{LineKind, LineReader, Notation, SCRIPT_LIMIT, answer_line, spell_line};
 use prog_registry::Registry;
 use sdbm_files::Image;
 use std::alloc::{AllocError, Global};
@@ -62,7 +61,7 @@ pub fn run_session<R: Read, W: Write, H: Host>(
 {
     let registry = Registry::new(alloc)?;
     let mut session = Session { image, registry };
-    let mut lines = Lines::new(alloc);
+    let mut lines = LineReader::new(alloc);
     let (mut line, mut text) = (Vec::new(alloc), Vec::new(alloc));
     for count in 0..u64::MAX {
         host.ask(false);
@@ -206,12 +205,12 @@ fn answer_scripted<H: Host>(
 {
     let time = host.time();
     let mut spelled = Vec::new(alloc);
-    spell_line(Whose::OfScript, time, line, &mut spelled)?;
+    spell_line(LineKind::OfScript, time, line, &mut spelled)?;
     let Session {
         mut image,
         mut registry,
     } = session;
-    answer_line(
+    let _is_command = answer_line(
         alloc,
         notation,
         &mut image,

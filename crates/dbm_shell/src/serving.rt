@@ -1,13 +1,12 @@
 //! A session on the files of its database.
 
 use crate::shell::{Options, Shell};
-use dbm_faults::ServeFault;
 use dbm_files::{RunFiles, SessionSaves};
+use dbm_messages::ServeFault;
 use dbm_places::{FileBytes, FilesFault, RunPlace};
 use dbm_reports::{Given, ReportFault, notation_by, open};
 use dbm_script::Notation;
-use dbm_session::{Ended, SessionFault, run_session};
-use dbm_sessions::{Session, read_every};
+use dbm_session::{Ended, Session, SessionFault, read_every, run_session};
 use sdbm_files::Image;
 use std::alloc::Global;
 use std::fs::File;

@@ -4,14 +4,13 @@ ghost use Rattle.std.specs.List.{starts_with};
 ghost use Rattle.dbm_session.specs.HostCalls.{DidSave};
 
 use crate::host_log::HostLog;
-use dbm_faults::ServeFault;
 use dbm_files::{LockedFiles, Saved, SessionSaves, close_session, read_program, save_session};
+use dbm_messages::ServeFault;
 use dbm_places::{DataFiles, FilesFault, RunPlace, SeenFiles};
 use dbm_reports::is_too_long;
 use dbm_script::{Notation, TimeOfDay};
-use dbm_session::{Host, Own};
-use dbm_sessions::{Every, OwnLine, program_line, read_own, show_own};
-use dbm_telling::{is_terminal, note_unsaved, note_waiting_save};
+use dbm_session::{Every, Host, Own, OwnLine, program_line, read_own, show_own};
+use dbm_stderr::{is_terminal, note_unsaved, note_waiting_save};
 use sdbm_files::Image;
 use std::alloc::{AllocError, Global};
 use std::fs::File;

@@ -1,11 +1,11 @@
 -- The statistics of a database as text, one per line, and as a JSON object.
 use Rattle.std.specs.Prelude.{ℕ, ◌+◌, ◌-◌, ◌*◌, ◌/◌, ◌%◌, ◌==◌, ◌++◌, max, min, cond, codes, decimal, drop, length, replicate, slice_index_or, List, [], ◌∷◌}
 use Rattle.std.specs.List.{flat_map, range_with_len}
-use Rattle.sdbm_stats.specs.declared.Stats.{Stats}
-use Rattle.sdbm_stats.specs.declared.totals.PairTotals.{PairTotals}
-use Rattle.sdbm_stats.specs.declared.depths.Depths.{Depths}
-use Rattle.sdbm_stats.specs.declared.fullest.PageRoom.{PageRoom}
-use Rattle.sdbm_stats.specs.Totals.{greatest}
+use Rattle.dbm_stats.specs.declared.stats.Stats.{Stats}
+use Rattle.dbm_stats.specs.declared.totals.PairTotals.{PairTotals}
+use Rattle.dbm_stats.specs.declared.depths.Depths.{Depths}
+use Rattle.dbm_stats.specs.declared.fullest.PageRoom.{PageRoom}
+use Rattle.dbm_stats.specs.Totals.{greatest}
 use Rattle.dbm_stats.specs.Json.{field, next_field}
 
 -- ---- text

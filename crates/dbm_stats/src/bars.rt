@@ -1,84 +1,49 @@
-//! Bars of `#` that show how full pages are.
-ghost use Rattle.std.specs.Prelude.{◌≡◌, ◌≤◌, ◌++◌, length, replicate, OnOk};
-ghost use Rattle.sdbm_stats.specs.Totals.{greatest};
-ghost use Rattle.dbm_stats.specs.Figures.{bar_length, bar_row, bar_rows, percent};
+//! Counts pages by how full they are, in tenths.
+ghost use Rattle.std.specs.Prelude.{◌≡◌, ◌≤◌, ◌==◌, ◌^◌, IfOk, length, map as map_list};
+ghost use Rattle.std.specs.List.{count_by, range_with_len};
+ghost use Rattle.dbm_stats.specs.Shapes.{tenth};
 
-use crate::rows::show_number;
+use crate::totals::PageShape;
+use sdbm_addr::PageSize;
 use std::alloc::{AllocError, Allocator};
 
-// The longest bar.
-static SIGNS: [u8; 40] = [b'#'; 40];
-
-/// Adds a line for each tenth, at most ten.
+/// The number of pages in each tenth, beginning with the emptiest.
 ///
 /// # Errors
-/// `AllocError` if allocation fails. A part of the output may then be in `text`.
-pub fn show_bars<A: Allocator>(bars: &[u32], text: &mut Vec<u8, A>) -> Result<(), AllocError>
-    requires { length bars.now ≤ 10 }
-    ensures { OnOk result (text.new.items ≡ text.old.items ++ bar_rows bars.now) }
+/// `AllocError` if allocation of ten numbers fails.
+pub fn bars_of<A: Allocator>(
+    alloc: A,
+    shapes: &[PageShape],
+    size: PageSize,
+) -> Result<Vec<u32, A>, AllocError>
+    requires { length shapes.now ≤ 2 ^ 31 }
+    ensures { IfOk result (λ bars. bars.items ≡ map_list (λ i. count_by (λ (s : PageShape). tenth size s.filled == i) shapes.now) (range_with_len 0 10)) }
 {
-    let most = most_of(bars);
-    for i in 0..bars.len() {
-        show_bar(most, i as u64, bars[i], text)?;
+    let mut bars = Vec::new(alloc);
+    for i in 0..10 {
+        bars.push(count_tenth(shapes, size, i))?;
     }
-    Ok(())
+    Ok(bars)
 }
 
-// The greatest number, or 0.
-fn most_of(bars: &[u32]) -> u32
-    ensures { result ≡ greatest (λ n. n) bars.now }
+// The number of pages in a tenth.
+fn count_tenth(shapes: &[PageShape], size: PageSize, i: u64) -> u32
+    requires { length shapes.now ≤ 2 ^ 31 }
+    ensures { result ≡ count_by (λ (s : PageShape). tenth size s.filled == i) shapes.now }
 {
-    let mut most = 0u32;
-    for bar in bars {
-        most = most.max(*bar);
+    let mut count = 0;
+    for shape in shapes {
+        if tenth(shape.filled, size) == i {
+            count += 1;
+        }
     }
-    most
+    count
 }
 
-// Adds the line of one tenth.
-fn show_bar<A: Allocator>(
-    most: u32,
-    i: u64,
-    number: u32,
-    text: &mut Vec<u8, A>,
-) -> Result<(), AllocError>
-    requires { i ≤ 10 }
-    ensures { OnOk result (text.new.items ≡ text.old.items ++ bar_row most i number) }
+// The tenth of a page with `filled` bytes in use.
+fn tenth(filled: u32, size: PageSize) -> u64
+    ensures { result ≡ tenth size filled }
 {
-    text.extend_from_slice(b"from ")?;
-    show_percent(i, text)?;
-    text.extend_from_slice(b"%  ")?;
-    text.extend_from_slice(signs(bar_length(most, number)))?;
-    text.push(b' ')?;
-    show_number(number as u64, text)?;
-    Ok(text.push(b'\n')?)
-}
-
-// Adds the lower bound of a tenth in percent, two characters wide.
-fn show_percent<A: Allocator>(i: u64, text: &mut Vec<u8, A>) -> Result<(), AllocError>
-    requires { i ≤ 10 }
-    ensures { OnOk result (text.new.items ≡ text.old.items ++ percent i) }
-{
-    if i == 0 {
-        return text.extend_from_slice(b" 0");
-    }
-    show_number(10 * i, text)
-}
-
-// A bar of this length.
-fn signs(count: usize) -> &'static [u8]
-    requires { count ≤ 40 }
-    ensures { result.now ≡ replicate count 35 }
-{
-    &SIGNS[..count]
-}
-
-// The length of the bar for `number`, if 40 signs represent `most`.
-fn bar_length(most: u32, number: u32) -> usize
-    ensures value { result ≡ bar_length most number }
-    ensures short { result ≤ 40 }
-{
-    let above = 40 * number as u64 + (most as u64).saturating_sub(1);
-    let length = above / most.max(1) as u64;
-    length.min(40) as usize
+    let tenths = 10 * filled as u64 / size.bytes() as u64;
+    tenths.min(9)
 }

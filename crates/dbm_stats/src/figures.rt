@@ -3,9 +3,9 @@ ghost use Rattle.std.specs.Prelude.{◌≡◌, ◌≤◌, ◌++◌, length, IfOk
 ghost use Rattle.std.specs.List.{flat_map};
 ghost use Rattle.dbm_stats.specs.Figures.{figures_text, full_row};
 
-use crate::bars::show_bars;
+use crate::bar_lines::show_bars;
 use crate::rows::{show_depths, show_files, show_full, show_pairs};
-use sdbm_stats::{PageRoom, Stats};
+use crate::{PageRoom, Stats};
 use std::alloc::{AllocError, Allocator};
 
 /// The statistics of a database, one per line, and bars that show how full its pages are.

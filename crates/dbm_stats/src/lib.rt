@@ -1,12 +1,24 @@
-//! Prints the statistics of a database as text and as a JSON object. Also JSON strings and fields for other lines.
+//! Statistics of a database: its pairs and their bytes, how full its pages are, and how deep its directory is. They are printed as text or as
+//! a JSON object. Also JSON strings and fields for other lines.
 #![tactic(auto)]
 
+mod bar_lines;
 mod bars;
+mod depths;
 mod figures;
+mod fullest;
 mod json;
 mod object;
 mod rows;
+mod shapes;
+mod splits;
+mod stats;
+mod totals;
 
+pub use depths::Depths;
 pub use figures::figures_text;
+pub use fullest::PageRoom;
 pub use json::{show_count_object, show_string};
 pub use object::figures_object;
+pub use stats::{Stats, stats_of};
+pub use totals::PairTotals;

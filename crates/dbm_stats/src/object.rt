@@ -5,7 +5,7 @@ ghost use Rattle.dbm_stats.specs.Figures.{between_commas, depth_fields, figures_
 
 use crate::json::{show_field, show_next_field};
 use crate::rows::show_number;
-use sdbm_stats::{Depths, PageRoom, PairTotals, Stats};
+use crate::{Depths, PageRoom, PairTotals, Stats};
 use std::alloc::{AllocError, Allocator};
 
 /// A line with the statistics of a database as a JSON object.

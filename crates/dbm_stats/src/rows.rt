@@ -2,8 +2,8 @@
 ghost use Rattle.std.specs.Prelude.{◌≡◌, ◌++◌, decimal, OnOk};
 ghost use Rattle.dbm_stats.specs.Figures.{depth_rows, file_rows, full_row, pair_rows, quotient, row};
 
+use crate::{Depths, PageRoom, PairTotals, Stats};
 use itoa::Buffer;
-use sdbm_stats::{Depths, PageRoom, PairTotals, Stats};
 use std::alloc::{AllocError, Allocator};
 
 // Adds a line with a label and a number.

@@ -10,25 +10,25 @@ use Rattle.sdbm_saves.specs.Parts.{IsReadSo}
 use Rattle.sdbm_saves.specs.declared.part.Part.{Part}
 use Rattle.sdbm_saves.proofs.PartRead.{part_is_read}
 use Rattle.dbm_script.specs.declared.notations.Notation.{Notation}
-use Rattle.dbm_words.specs.declared.options.Form.{Form}
+use Rattle.dbm_args.specs.declared.options.Form.{Form}
 use Rattle.dbm_reports.specs.declared.databases.Given.{Given}
 use Rattle.dbm_reports.specs.declared.report.Report.{Report}
 use Rattle.dbm_reports.specs.declared.fault.ReportFault.{ReportFault}
-use Rattle.dbm_quick.specs.declared.asked.Asked.{Asked}
-use Rattle.dbm_quick.specs.Asked.{IsMeant}
+use Rattle.dbm_records.specs.declared.page_request.PageRequest.{PageRequest}
+use Rattle.dbm_records.specs.PageRequests.{IsMeant}
 
 -- an equivalent result of the words can be used instead
-pub meant_by : (form : Form) (file : List ℕ) (n : Notation Global) (one other : Given → Report → Type 0) (asked : Asked) → ((given : Given) (report : Report) → one given report → other given report)
+pub meant_by : (form : Form) (file : List ℕ) (n : Notation Global) (one other : Given → Report → Type 0) (asked : PageRequest) → ((given : Given) (report : Report) → one given report → other given report)
     → IsMeant form file n one asked → IsMeant form file n other asked
 meant_by form file n one other asked to means = record { keyed = means.keyed; same = λ given db report file_is opened told. to given report (means.same given db report file_is opened told) }
 
 -- the request, if there is one
-pub meant_where : (form : Form) (file : List ℕ) (n : Notation Global) (one other : Given → Report → Type 0) (found : Option (Form × Asked)) (asked : Result (Option Asked) ReportFault)
+pub meant_where : (form : Form) (file : List ℕ) (n : Notation Global) (one other : Given → Report → Type 0) (found : Option (Form × PageRequest)) (asked : Result (Option PageRequest) ReportFault)
     → ((given : Given) (report : Report) → one given report → other given report) → IfSome found (λ m. (m.0 ≡ form) × (asked ≡ Ok (Some m.1)))
     → IfOk asked (λ o. IfSome o (λ a. (f : List ℕ) → IsMeant form f n one a)) → IfSome found (λ m. IsMeant m.0 file n other m.1)
 meant_where form file n one other None asked to is means = tt
 meant_where form file n one other (Some m) asked to is means =
-    let there : (f : List ℕ) → IsMeant form f n one m.1 = subst (λ (r : Result (Option Asked) ReportFault). IfOk r (λ o. IfSome o (λ a. (f : List ℕ) → IsMeant form f n one a))) is.1 means in
+    let there : (f : List ℕ) → IsMeant form f n one m.1 = subst (λ (r : Result (Option PageRequest) ReportFault). IfOk r (λ o. IfSome o (λ a. (f : List ℕ) → IsMeant form f n one a))) is.1 means in
     subst (λ (f : Form). IsMeant f file n other m.1) (sym is.0) (meant_by form file n one other m.1 to (there file))
 
 -- a plan that knows every file that was read this way knows the file of this page and zeros

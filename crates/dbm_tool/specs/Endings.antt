@@ -1,32 +1,23 @@
 -- The exit status of the program.
-use Rattle.std.specs.Prelude.{◌≡◌, ◌⊎◌, ℕ, Option, Some, None}
+use Rattle.std.specs.Prelude.{◌≡◌, ◌⊎◌, ℕ}
 use Rattle.dbm_command_line.specs.Wishes.{IsAnswer}
 use Rattle.dbm_command_line.specs.declared.fault.ToolFault.{ToolFault}
 use Rattle.dbm_tool.specs.declared.ending.Ending.{Ending}
 use Rattle.dbm_tool.specs.declared.ending.Ending.TheVariants.{Served, Refused, Failed}
-use Rattle.dbm_faults.specs.declared.fault.ServeFault.{ServeFault}
-use Rattle.dbm_faults.specs.declared.fault.ServeFault.TheVariants as fault
-use Rattle.dbm_tool.specs.declared.outcome.WishOutcome.{WishOutcome}
+use Rattle.dbm_messages.specs.declared.fault.ServeFault.{ServeFault}
+use Rattle.dbm_messages.specs.declared.fault.ServeFault.TheVariants as fault
 
 -- help and the version are not faults
 abbrev pub IsRefusalStatus : ToolFault → ℕ → Type 0
 IsRefusalStatus fault status = (IsAnswer fault → status ≡ 0) × ((IsAnswer fault → ⊥) → status ≡ 2)
 
 abbrev pub IsExitStatus : Ending → ℕ → Type 0
-IsExitStatus (Served given) status = status ≡ given
+IsExitStatus (Served served) status = status ≡ served.status
 IsExitStatus (Refused fault) status = IsRefusalStatus fault status
 IsExitStatus (Failed fault) status = status ≡ 2
 
-abbrev pub ending_by : Option ServeFault → ℕ → Ending
-ending_by (Some fault) status = Failed fault
-ending_by None status = Served status
-
--- the fault of an outcome, or its status if it has no fault
-abbrev pub IsEndingOf : WishOutcome → Ending → Type 0
-IsEndingOf outcome ending = ending ≡ ending_by outcome.err outcome.status
-
 -- Printing an ending leaves it unchanged, except a refusal or help that cannot be printed.
 abbrev pub IsTold : Ending → Ending → Type 0
-IsTold (Served status) told = told ≡ Served status
+IsTold (Served served) told = told ≡ Served served
 IsTold (Refused refusal) told = (told ≡ Refused refusal) ⊎ (told ≡ Failed fault.Write)
 IsTold (Failed reason) told = told ≡ Failed reason

@@ -1,18 +1,17 @@
 -- The output, and the database that has to be written, after a request was served or refused.
-use Rattle.std.specs.Prelude.{◌≡◌, ℕ, Bool, false, List, Option, Some, None, IfSome, IsNone, Result, Ok, Err, is_some}
+use Rattle.std.specs.Prelude.{◌≡◌, ℕ, Bool, false, List, Option, IfOk, IfErr, Result, Ok, Err, is_some}
 use Rattle.std.specs.Io.KnownBytes.{Keeps}
 use Rattle.sdbm_addr.specs.Database.{Database}
 use Rattle.dbm_command_line.specs.declared.wish.Wish.{Wish}
 use Rattle.dbm_reports.specs.Served.{IsPrinted, WasCutShort, WasTooLong}
 use Rattle.dbm_reports.specs.declared.databases.Given.{Given}
-use Rattle.dbm_reports.specs.declared.serving.Served.{Served}
+use Rattle.dbm_reports.specs.declared.serving.Outcome.{Outcome}
 use Rattle.dbm_reports.specs.declared.serving.Unserved.{Unserved}
 use Rattle.dbm_reports.specs.declared.serving.Unserved.TheVariants as unserved
-use Rattle.dbm_faults.specs.declared.fault.ServeFault.{ServeFault}
-use Rattle.dbm_faults.specs.declared.fault.ServeFault.TheVariants.{FileTooLong, Write}
+use Rattle.dbm_messages.specs.declared.fault.ServeFault.{ServeFault}
+use Rattle.dbm_messages.specs.declared.fault.ServeFault.TheVariants.{FileTooLong, Write}
 use Rattle.dbm_batches.specs.Causes.{HasCause}
 use Rattle.dbm_tool.specs.Services.{Service, service_for}
-use Rattle.dbm_tool.specs.declared.outcome.WishOutcome.{WishOutcome}
 
 -- A request is served: the text of its result was written, and the status and the database that has to be written are those of the result.
 abbrev pub IsServed : Wish → Given → Option (List ℕ) → Option (List ℕ) → Option (List ℕ) → ℕ → Option Database → Type 0
@@ -30,21 +29,15 @@ abbrev pub IsUnserved : Wish → Given → Option (List ℕ) → Option (List �
 IsUnserved wish given input old new fault = IsUnservedBy (service_for wish given input) old new fault
 
 -- All facts about an outcome: what is printed and the database that has to be written, or the fault; and the rest of standard input.
-pub record IsOutcome (service : Service) (writes reads : Bool) (input left old new : Option (List ℕ)) (outcome : WishOutcome) : Type 0 where
-  pub served : IsNone outcome.err → IsPrinted service.reports old new outcome.status outcome.database
-  pub fault : IfSome outcome.err (IsUnservedBy service old new)
+pub record IsOutcome (service : Service) (writes reads : Bool) (input left old new : Option (List ℕ)) (came : Result Outcome ServeFault) : Type 0 where
+  pub served : IfOk came (λ outcome. IsPrinted service.reports old new outcome.status outcome.database)
+  pub fault : IfErr came (IsUnservedBy service old new)
   pub unread : reads ≡ false → left ≡ input
-  pub database : IsNone outcome.err → is_some outcome.database ≡ writes
-  pub status : IfSome outcome.err (λ fault. outcome.status ≡ 2)
-  pub none : IfSome outcome.err (λ fault. outcome.database ≡ None)
+  pub database : IfOk came (λ outcome. is_some outcome.database ≡ writes)
 
--- the outcome of a fault
-abbrev pub failed : ServeFault → WishOutcome
-failed fault = record { err = Some fault; status = 2; database = None }
-
--- the result of a subcommand as the outcome of a request
-abbrev pub outcome_by : {F : Type 0} → (F → ServeFault) → Result Served (Unserved F) → WishOutcome
-outcome_by f (Ok served) = record { err = None; status = served.status; database = served.database }
-outcome_by f (Err (unserved.Unreported fault)) = failed (f fault)
-outcome_by f (Err unserved.Write) = failed Write
-outcome_by f (Err unserved.TooLong) = failed FileTooLong
+-- the outcome of a subcommand as that of a request
+abbrev pub outcome_by : {F : Type 0} → (F → ServeFault) → Result Outcome (Unserved F) → Result Outcome ServeFault
+outcome_by f (Ok outcome) = Ok outcome
+outcome_by f (Err (unserved.Unreported fault)) = Err (f fault)
+outcome_by f (Err unserved.Write) = Err Write
+outcome_by f (Err unserved.TooLong) = Err FileTooLong

@@ -2,28 +2,29 @@
 use Rattle.std.specs.Prelude.{ℕ, Bool, true, false, List, Option, Some, None}
 use Rattle.std.specs.declared.alloc.Global.{Global}
 use Rattle.dbm_script.specs.declared.notations.Notation.{Notation}
-use Rattle.dbm_command_line.specs.Wishes.{notation_of}
+use Rattle.dbm_command_line.specs.Wishes.{head_of}
 use Rattle.dbm_command_line.specs.declared.wish.Wish.{Wish}
 use Rattle.dbm_command_line.specs.declared.wish.Wish.TheVariants as wish
-use Rattle.dbm_runs.specs.declared.batch.Batch.{Batch}
+use Rattle.dbm_records.specs.declared.batch.Batch.{Batch}
 use Rattle.dbm_reports.specs.declared.databases.Given.{Given}
 use Rattle.dbm_reports.specs.declared.report.Report.{Report}
 use Rattle.dbm_reports.specs.Known.{Known, layout_causes}
 use Rattle.dbm_reports.specs.Notations.{notation_by}
-use Rattle.dbm_pairs.specs.Fetch.{fetch_in}
-use Rattle.dbm_pairs.specs.Store.{store_in, takes_input}
-use Rattle.dbm_pairs.specs.Delete.{delete_in}
-use Rattle.dbm_pairs.specs.Rename.{rename_in}
-use Rattle.dbm_runs.specs.Run.{run_in}
-use Rattle.dbm_listings.specs.List.{list_in}
-use Rattle.dbm_listings.specs.Keys.{keys_in}
-use Rattle.dbm_listings.specs.Check.{check_in}
-use Rattle.dbm_listings.specs.Stats.{stats_in}
-use Rattle.dbm_scripts.specs.Script.{script_in}
-use Rattle.dbm_scripts.specs.Widen.{widen_in}
-use Rattle.dbm_dumps.specs.Causes.{DumpKnown}
-use Rattle.dbm_dumps.specs.Dump.{dump_in}
-use Rattle.dbm_dumps.specs.Load.{load_in}
+use Rattle.dbm_records.specs.Fetch.{fetch_in}
+use Rattle.dbm_records.specs.Store.{store_in, takes_input}
+use Rattle.dbm_records.specs.Delete.{delete_in}
+use Rattle.dbm_records.specs.Rename.{rename_in}
+use Rattle.dbm_records.specs.Run.{run_in}
+use Rattle.dbm_databases.specs.List.{list_in}
+use Rattle.dbm_databases.specs.Keys.{keys_in}
+use Rattle.dbm_databases.specs.Count.{count_in}
+use Rattle.dbm_databases.specs.Check.{check_in}
+use Rattle.dbm_databases.specs.Stats.{stats_in}
+use Rattle.dbm_databases.specs.Script.{script_in}
+use Rattle.dbm_databases.specs.Widen.{widen_in}
+use Rattle.dbm_dump.specs.Causes.{DumpKnown}
+use Rattle.dbm_dump.specs.Dump.{dump_in}
+use Rattle.dbm_dump.specs.Load.{load_in}
 use Rattle.dbm_programs.specs.Asm.{asm_in}
 use Rattle.dbm_programs.specs.Disasm.{disasm_in}
 use Rattle.dbm_programs.specs.Verify.{verify_in}
@@ -67,6 +68,7 @@ service_in n (wish.Run run) given input = reporting (run_in n run given)
 service_in n (wish.Batch batch) given input = batch_in n batch given input
 service_in n (wish.List list) given input = reporting (list_in n list given)
 service_in n (wish.Keys keys) given input = reporting (keys_in n keys given)
+service_in n (wish.Count count) given input = reporting (count_in n count given)
 service_in n (wish.Check check) given input = reporting (check_in check given)
 service_in n (wish.Stats stats) given input = reporting (stats_in stats given)
 service_in n (wish.Script script) given input = reporting (script_in n script.base script given input)
@@ -79,7 +81,7 @@ service_in n (wish.Verify verify) given input = reporting (verify_in verify give
 
 -- the notation of a request, if its layout is valid
 abbrev pub notation_for : Wish → Option (Notation Global)
-notation_for wish = notation_by (notation_of wish).text (notation_of wish).layout
+notation_for wish = notation_by (head_of wish).notation.text (head_of wish).notation.layout
 
 -- the facts in a notation; an unknown layout has no result
 abbrev pub noted : Option (Notation Global) → (Notation Global → Service) → Service

@@ -1,16 +1,15 @@
 //! A copy of a database in new files.
 
-use crate::ending::Ending;
-use crate::outcome::FAULT;
-use crate::request::{given_of, told_without_bytes};
+use crate::ending::{Ending, FAULT, Served};
+use crate::request::given_of;
 use crate::tell;
 use byte_text::write_all;
-use dbm_dumps::Backup;
-use dbm_faults::ServeFault;
+use dbm_dump::Backup;
 use dbm_files::{Copied, save_copy};
+use dbm_messages::ServeFault;
 use dbm_places::{FileBytes, RunPlace, names_of};
 use dbm_reports::{open, page_size_of, show_ok};
-use dbm_telling::{Told, Work, tell_saving};
+use dbm_stderr::{DiagnosticContext, Work, tell_saving};
 use sdbm_files::{Image, PAG_LIMIT};
 use std::alloc::Global;
 use std::fs::{self, File};
@@ -31,10 +30,10 @@ pub fn serve_backup<R: Runtime<File = File> + Clock + AllocGlobal>(
     rt: &R,
     backup: &Backup<'_>,
     bytes: FileBytes,
-) -> Result<Ending, ServeFault> {
+) -> Result<Served, ServeFault> {
     let image = open(rt.alloc(), &given_of(bytes), backup.form)?;
     match make_copy(rt, backup, &image) {
-        Ok(()) => Ok(Ending::Served(0)),
+        Ok(()) => Ok(Served::plain(0)),
         Err(fault) => Ok(refuse_copy(rt, backup, fault)),
     }
 }
@@ -44,9 +43,9 @@ pub fn refuse_copy<R: Runtime<File = File> + AllocGlobal>(
     rt: &R,
     backup: &Backup<'_>,
     fault: ServeFault,
-) -> Ending {
-    let _ = tell(rt, Some(&told_of_copy(backup)), Ending::Failed(fault));
-    Ending::Served(FAULT)
+) -> Served {
+    let _ = tell(rt, Some(&context_of_copy(backup)), Ending::Failed(fault));
+    Served::plain(FAULT)
 }
 
 // Saves a database in the files of the copy, and prints the number of pairs.
@@ -90,6 +89,10 @@ fn place_of_copy<'a>(backup: &Backup<'a>) -> RunPlace<'a> {
 }
 
 // The context for sentences about the copy.
-fn told_of_copy<'a>(backup: &Backup<'a>) -> Told<'a> {
-    told_without_bytes(place_of_copy(backup), backup.words_of_copy())
+fn context_of_copy<'a>(backup: &Backup<'a>) -> DiagnosticContext<'a> {
+    DiagnosticContext {
+        place: place_of_copy(backup),
+        words: backup.words_of_copy(),
+        lines: None,
+    }
 }

@@ -2,11 +2,11 @@
 ghost use Rattle.std.specs.Prelude.{◌≡◌, ◌/◌, IfOk, IfSome, decimal, string_bytes};
 ghost use Rattle.std.specs.Duration.{as_nanos};
 ghost use Rattle.dbm_tool.specs.Clocks.{nanos_in};
-ghost use Rattle.dbm_words.specs.declared.options.TimeUnit.TheVariants.{Seconds, Milliseconds};
+ghost use Rattle.dbm_args.specs.declared.options.TimeUnit.TheVariants.{Seconds, Milliseconds};
 
-use dbm_faults::ServeFault;
+use dbm_args::TimeUnit;
+use dbm_messages::ServeFault;
 use dbm_script::TimeOfDay;
-use dbm_words::TimeUnit;
 use std::alloc::{AllocError, Global};
 use std::time::{Clock, Duration, SystemTime, UNIX_EPOCH};
 

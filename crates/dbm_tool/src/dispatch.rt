@@ -1,16 +1,15 @@
 //! Selects the subcommand to serve.
-ghost use Rattle.std.specs.Prelude.{◌≡◌, None};
+ghost use Rattle.std.specs.Prelude.{◌≡◌};
 ghost use Rattle.dbm_command_line.specs.Wishes.{writes_files};
-ghost use Rattle.dbm_faults.specs.Faults.{dumps_fault, report_fault};
-ghost use Rattle.dbm_tool.specs.Outcomes.{IsOutcome, failed, outcome_by};
+ghost use Rattle.dbm_messages.specs.declared.fault.ServeFault.{ServeFault};
+ghost use Rattle.dbm_tool.specs.Outcomes.{IsOutcome, outcome_by};
 ghost use Rattle.dbm_tool.specs.Services.{reads_input, service_for, service_in};
 
-use crate::outcome::{FAULT, WishOutcome};
 use dbm_batches::serve_batch;
 use dbm_command_line::Wish;
-use dbm_dumps::DumpsFault;
-use dbm_faults::ServeFault;
-use dbm_reports::{Given, ReportFault, Served, Unserved, notation_by, serve};
+use dbm_dump::CopyFault;
+use dbm_messages::ServeFault;
+use dbm_reports::{Given, Outcome, ReportFault, Unserved, notation_by, serve};
 use dbm_script::Notation;
 use std::alloc::Global;
 use std::io::{Read, Write};
@@ -25,12 +24,13 @@ pub fn serve_wish<T: Threads + Wait + Sync, R: Read, W: Write>(
     given: &Given,
     reader: &mut R,
     writer: &mut W,
-) -> WishOutcome
+) -> Result<Outcome, ServeFault>
     ensures { IsOutcome (service_for wish.entry given.now (R.remaining reader.old)) (writes_files wish.entry) (reads_input wish.entry) (R.remaining reader.old) (R.remaining reader.new) (W.contents writer.old) (W.contents writer.new) result }
 {
-    match notation_by(alloc, wish.notation()) {
+    let head = wish.head();
+    match notation_by(alloc, head.notation) {
         Ok(notation) => serve_in(rt, alloc, &notation, wish, given, reader, writer),
-        Err(fault) => failed(ServeFault::from(fault)),
+        Err(fault) => Err(ServeFault::from(fault)),
     }
 }
 
@@ -43,7 +43,7 @@ fn serve_in<T: Threads + Wait + Sync, R: Read, W: Write>(
     given: &Given,
     reader: &mut R,
     writer: &mut W,
-) -> WishOutcome
+) -> Result<Outcome, ServeFault>
     ensures { IsOutcome (service_in n.now wish.entry given.now (R.remaining reader.old)) (writes_files wish.entry) (reads_input wish.entry) (R.remaining reader.old) (R.remaining reader.new) (W.contents writer.old) (W.contents writer.new) result }
 {
     match wish {
@@ -52,76 +52,67 @@ fn serve_in<T: Threads + Wait + Sync, R: Read, W: Write>(
         Wish::Delete(delete) => outcome_of(serve(alloc, n, &delete, given, reader, writer)),
         Wish::Rename(rename) => outcome_of(serve(alloc, n, &rename, given, reader, writer)),
         Wish::Run(asked) => outcome_of(serve(alloc, n, &asked, given, reader, writer)),
-        Wish::Batch(asked) => {
-            outcome_of_batch(serve_batch(rt, alloc, n, asked, given, reader, writer))
-        }
+        Wish::Batch(asked) => outcome_of(serve_batch(rt, alloc, n, asked, given, reader, writer)),
         Wish::List(list) => outcome_of(list.serve(alloc, n, given, writer)),
         Wish::Keys(keys) => outcome_of(keys.serve(alloc, n, given, writer)),
+        Wish::Count(count) => outcome_of(serve(alloc, n, &count, given, reader, writer)),
         Wish::Check(check) => outcome_of(serve(alloc, n, &check, given, reader, writer)),
         Wish::Stats(stats) => outcome_of(serve(alloc, n, &stats, given, reader, writer)),
         Wish::Script(script) => outcome_of(serve(alloc, n, &script, given, reader, writer)),
         Wish::Widen(widen) => outcome_of(serve(alloc, n, &widen, given, reader, writer)),
-        Wish::Dump(dump) => outcome_of_dump(serve(alloc, n, &dump, given, reader, writer)),
-        Wish::Load(load) => outcome_of_dump(serve(alloc, n, &load, given, reader, writer)),
+        Wish::Dump(dump) => outcome_of(serve(alloc, n, &dump, given, reader, writer)),
+        Wish::Load(load) => outcome_of(serve(alloc, n, &load, given, reader, writer)),
         Wish::Asm(asm) => outcome_of(serve(alloc, n, &asm, given, reader, writer)),
         Wish::Disasm(disasm) => outcome_of(serve(alloc, n, &disasm, given, reader, writer)),
         Wish::Verify(verify) => outcome_of(serve(alloc, n, &verify, given, reader, writer)),
     }
 }
 
-// The outcome of a subcommand.
-fn outcome_of(came: Result<Served, Unserved<ReportFault>>) -> WishOutcome
-    ensures { result ≡ outcome_by report_fault came }
+// A fault of a subcommand that is also a fault of the program.
+trait SubcommandFault: Drop {
+    // The fault of the program.
+    ghost as_fault: { Self → ServeFault };
+
+    fn into_fault(self) -> ServeFault
+        ensures { result ≡ as_fault self };
+}
+
+impl SubcommandFault for ReportFault {
+    ghost use Rattle.dbm_messages.specs.Faults.{report_fault};
+
+    ghost as_fault = { report_fault };
+
+    fn into_fault(self) -> ServeFault {
+        ServeFault::from(self)
+    }
+}
+
+impl SubcommandFault for CopyFault {
+    ghost use Rattle.dbm_messages.specs.Faults.{dumps_fault};
+
+    ghost as_fault = { dumps_fault };
+
+    fn into_fault(self) -> ServeFault {
+        ServeFault::from(self)
+    }
+}
+
+impl SubcommandFault for ServeFault {
+    ghost as_fault = { λ fault. fault };
+
+    fn into_fault(self) -> ServeFault {
+        self
+    }
+}
+
+// The outcome of a subcommand, with its fault as one of the program.
+fn outcome_of<F: SubcommandFault>(came: Result<Outcome, Unserved<F>>) -> Result<Outcome, ServeFault>
+    ensures { result ≡ outcome_by F.as_fault came }
 {
     match came {
-        Ok(served) => served_outcome(served),
-        Err(Unserved::Unreported(fault)) => failed(ServeFault::from(fault)),
-        Err(Unserved::Write) => failed(ServeFault::Write),
-        Err(Unserved::TooLong) => failed(ServeFault::FileTooLong),
-    }
-}
-
-// The outcome of `dump` or `load`.
-fn outcome_of_dump(came: Result<Served, Unserved<DumpsFault>>) -> WishOutcome
-    ensures { result ≡ outcome_by dumps_fault came }
-{
-    match came {
-        Ok(served) => served_outcome(served),
-        Err(Unserved::Unreported(fault)) => failed(ServeFault::from(fault)),
-        Err(Unserved::Write) => failed(ServeFault::Write),
-        Err(Unserved::TooLong) => failed(ServeFault::FileTooLong),
-    }
-}
-
-// The outcome of a batch.
-fn outcome_of_batch(came: Result<Served, Unserved<ServeFault>>) -> WishOutcome
-    ensures { result ≡ outcome_by (λ fault. fault) came }
-{
-    match came {
-        Ok(served) => served_outcome(served),
-        Err(Unserved::Unreported(fault)) => failed(fault),
-        Err(Unserved::Write) => failed(ServeFault::Write),
-        Err(Unserved::TooLong) => failed(ServeFault::FileTooLong),
-    }
-}
-
-fn served_outcome(served: Served) -> WishOutcome
-    ensures { result ≡ record { err = None; status = served.status; database = served.database } }
-{
-    let Served { status, database } = served;
-    WishOutcome {
-        err: None,
-        status,
-        database,
-    }
-}
-
-fn failed(fault: ServeFault) -> WishOutcome
-    ensures { result ≡ failed fault }
-{
-    WishOutcome {
-        err: Some(fault),
-        status: FAULT,
-        database: None,
+        Ok(outcome) => Ok(outcome),
+        Err(Unserved::Unreported(fault)) => Err(fault.into_fault()),
+        Err(Unserved::Write) => Err(ServeFault::Write),
+        Err(Unserved::TooLong) => Err(ServeFault::FileTooLong),
     }
 }

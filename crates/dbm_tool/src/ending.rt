@@ -1,30 +1,75 @@
 //! How a run of the program ends.
 ghost use Rattle.std.specs.Prelude.{◌≡◌};
-ghost use Rattle.dbm_tool.specs.Endings.{IsEndingOf, IsExitStatus, IsRefusalStatus};
+ghost use Rattle.dbm_tool.specs.Endings.{IsExitStatus, IsRefusalStatus};
 
-use crate::outcome::{FAULT, WishOutcome};
 use dbm_command_line::ToolFault;
-use dbm_faults::ServeFault;
+use dbm_messages::ServeFault;
+use dbm_records::PageResult;
+use dbm_reports::{Notes, Outcome};
+
+/// The status of every fault.
+pub const FAULT: u8 = 2;
+
+/// A request that was served and printed: its exit status, and what the notes on standard error say of it.
+#[derive(Drop)]
+pub struct Served {
+    pub status: u8,
+    pub notes: Notes,
+    /// Why the verifier refuses its program.
+    pub refusal: Option<String>,
+    /// Its change is durable in the redo file, but not yet done in the files of the database.
+    pub is_pending: bool,
+}
+
+impl Served {
+    /// A request with a status and nothing to note.
+    pub fn plain(status: u8) -> Served
+        ensures { result.status ≡ status }
+    {
+        Served {
+            status,
+            notes: Notes::none(),
+            refusal: None,
+            is_pending: false,
+        }
+    }
+
+    /// The request of an outcome, once its text is printed and its files are written.
+    pub fn of(outcome: &Outcome, refusal: Option<String>, is_pending: bool) -> Served
+        ensures status { result.status ≡ outcome.now.status }
+        ensures notes { result.notes ≡ outcome.now.notes }
+    {
+        Served {
+            status: outcome.status,
+            notes: outcome.notes,
+            refusal,
+            is_pending,
+        }
+    }
+
+    /// The request of a result on one page, once its text is printed and its files are written.
+    pub fn on_page(page: &PageResult, refusal: Option<String>, is_pending: bool) -> Served
+        ensures status { result.status ≡ page.now.status }
+        ensures notes { result.notes ≡ page.now.notes }
+    {
+        Served {
+            status: page.status,
+            notes: page.notes,
+            refusal,
+            is_pending,
+        }
+    }
+}
 
 /// How a run of the program ends.
 #[derive(Drop)]
 pub enum Ending {
-    /// The request was served, with this status.
-    Served(u8),
+    /// The request was served.
+    Served(Served),
     /// The words are invalid, or they request help or the version.
     Refused(ToolFault),
     /// The request failed.
     Failed(ServeFault),
-}
-
-/// The ending of an outcome, once its files have been written.
-pub fn ending_of(outcome: &WishOutcome) -> Ending
-    ensures { IsEndingOf outcome.now result }
-{
-    match outcome.err {
-        Some(fault) => Ending::Failed(fault),
-        None => Ending::Served(outcome.status),
-    }
 }
 
 /// The exit status of the program: that of the served request, 0 if the words requested help or the version, and 2
@@ -33,7 +78,7 @@ pub fn exit_status(ending: &Ending) -> u8
     ensures { IsExitStatus ending.now result }
 {
     match ending {
-        Ending::Served(status) => *status,
+        Ending::Served(served) => served.status,
         Ending::Refused(fault) => refusal_status(fault),
         Ending::Failed(_) => FAULT,
     }

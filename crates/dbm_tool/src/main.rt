@@ -1,13 +1,15 @@
 //! A program for the files of a store: fetches, stores and lists pairs, runs scripts, and handles programs as text and images.
 #![tactic(auto)]
 
+ghost use Rattle.std.specs.Prelude.{◌≡◌};
 ghost use Rattle.dbm_tool.specs.Endings.{IsTold};
+ghost use Rattle.dbm_tool.specs.declared.ending.Ending.TheVariants.{Failed, Refused};
 
 mod backup;
 mod clock;
 mod dispatch;
 mod ending;
-mod outcome;
+mod printing;
 mod quick;
 mod request;
 mod serve;
@@ -16,22 +18,23 @@ mod stock;
 
 use backup::{refuse_copy, serve_backup};
 use clock::{read_clock, read_time};
+use dbm_args::Access;
 use dbm_command_line::{Ask, Request, ToolFault, Wish, read_words};
-use dbm_faults::ServeFault;
 use dbm_files::{LockedFiles, RunFiles, Saved, save_files, take_rest};
+use dbm_messages::ServeFault;
 use dbm_places::{RunPlace, has_no_files};
 use dbm_reports::{Given, NOT_RUN, ReportFault};
-use dbm_script::{Lines, SCRIPT_LIMIT, read_number};
+use dbm_script::{LineKind, SCRIPT_LIMIT, read_number};
 use dbm_shell::serve_session;
-use dbm_telling::{
-    Counted, Kept, Told, Watched, advise, has_bad_line, is_terminal, note_absent, note_object,
-    note_of_bad_lines, note_of_half_line, note_of_line_end, note_pending, note_refusal, note_that,
-    take_and_tell, tell_saving,
+use dbm_stderr::{
+    DiagnosticContext, PipeWriter, ProgressReader, RecordingReader, advise, is_terminal,
+    note_absent, note_bad_lines, note_object, note_of_half_line, note_of_line_end, note_pending,
+    note_refusal, note_that, take_and_tell, tell_saving,
 };
-use dbm_words::Access;
-use ending::{Ending, ending_of, exit_status};
-use quick::{may_be_quick, print_quick, refusal_in, serve_quick};
-use request::{given_of, place_asked, reads_whole, told_of, work_asked, work_of};
+use ending::{Ending, Served, exit_status};
+use printing::{print_change, print_lines};
+use quick::{PageServed, may_be_quick, refusal_in, serve_quick};
+use request::{context_of, given_of, place_asked, reads_whole, work_asked, work_of};
 use sdbm_saves::ReadFiles;
 use serve::serve;
 use sizes::{must_be_wide, refuse_small};
@@ -86,33 +89,36 @@ fn run<R: Runtime<File = File> + AllocGlobal + Threads + Wait + Sync>(
         }
     }
     match read_words(alloc, words.as_slice()) {
-        Ok(request) => {
-            let told = told_of(&request);
-            let is_dump = matches!(request.ask, Ask::Wish(Wish::Dump(_)));
-            let keeps = !matches!(request.ask, Ask::Wish(Wish::Load(_)) | Ask::Session(_));
-            let input = Counted::new(rt, rt.reader(), work_asked(&request.ask));
-            let mut reader = Kept::new(alloc, input, keeps);
-            let ending = match serve_request(rt, request, &mut reader) {
-                Ok(ending) => ending,
-                Err(fault) => Ending::Failed(fault),
-            };
-            // The reader of the pipe, such as `head`, has read enough and is gone. This is not a fault, except for a dump: a truncated dump
-            // is an error.
-            if reader.has_no_reader && !is_dump {
-                return Ending::Served(0);
-            }
-            note(rt, &told, &ending, &reader);
-            let is_bad_line = matches!(ending, Ending::Failed(ServeFault::BadLine(_)));
-            let ending = tell(rt, Some(&told), ending);
-            if is_bad_line {
-                note_line_end(rt, Lines::OfBatch, &reader);
-            }
-            ending
-        }
+        Ok(request) => serve_and_tell(rt, request),
         Err(ToolFault::NoMemory) => tell(rt, None, Ending::Failed(ServeFault::NoMemory)),
         Err(fault) => {
             let fault = refused_in_lines(alloc, words.as_slice(), fault);
             tell(rt, None, Ending::Refused(fault))
+        }
+    }
+}
+
+// Serves a request, and reports its notes or its fault.
+fn serve_and_tell<R: Runtime<File = File> + AllocGlobal + Threads + Wait + Sync>(
+    rt: &R,
+    request: Request<'_>,
+) -> Ending {
+    let context = context_of(&request);
+    let records = !matches!(request.ask, Ask::Wish(Wish::Load(_)) | Ask::Session(_));
+    let input = ProgressReader::new(rt, rt.reader(), work_asked(&request.ask));
+    let mut reader = RecordingReader::new(rt.alloc(), input, records);
+    match serve_request(rt, request, &mut reader) {
+        Ok(Some(served)) => {
+            note(rt, &context, &served, reader.text());
+            Ending::Served(served)
+        }
+        Ok(None) => Ending::Served(Served::plain(0)),
+        Err(fault) => {
+            let ending = tell(rt, Some(&context), Ending::Failed(fault));
+            if matches!(fault, ServeFault::BadLine(_)) {
+                note_line_end(rt, LineKind::OfBatch, reader.text());
+            }
+            ending
         }
     }
 }
@@ -161,56 +167,51 @@ fn refused_again(alloc: Global, words: &[String]) -> Option<ToolFault> {
 // Prints notes next to an answer that may not be what the user meant: missing files, an object instead of an image, a refused program,
 // invalid lines of a script, a last line without LF, and a save that is not done in its files. After a bad line it also reports
 // a line that ends in CR.
-fn note<R: Runtime<File = File> + AllocGlobal, I: Read>(
+fn note<R: Runtime<File = File> + AllocGlobal>(
     rt: &R,
-    told: &Told<'_>,
-    ending: &Ending,
-    input: &Kept<I>,
+    context: &DiagnosticContext<'_>,
+    served: &Served,
+    input: &[u8],
 ) {
-    if !matches!(ending, Ending::Served(_)) {
-        return;
+    if !context.place.writes {
+        note_absent(rt, context);
     }
-    if !told.place.writes {
-        note_absent(rt, told);
+    if served.is_pending {
+        note_pending(rt, context);
     }
-    if input.is_pending {
-        note_pending(rt, told);
+    if matches!(served.status, 1 | NOT_RUN) {
+        note_object(rt, context);
     }
-    if matches!(ending, Ending::Served(1 | NOT_RUN)) {
-        note_object(rt, told);
+    if let Some(refusal) = &served.refusal {
+        note_refusal(rt, context, refusal.as_str());
     }
-    if let Some(refusal) = &input.refusal {
-        note_refusal(rt, told, refusal.as_str());
+    if served.notes.bad_lines.count > 0 {
+        note_bad_lines(rt, served.notes.bad_lines);
+        note_line_end(rt, LineKind::OfScript, input);
     }
-    // A strict script that is not run has no answers.
-    if (input.has_bad_line || (told.strict && matches!(ending, Ending::Served(1))))
-        && let Some(note) = note_of_bad_lines(rt.alloc(), told.notation, told.clock, input.text())
-    {
-        note_that(rt, note);
-        note_line_end(rt, Lines::OfScript, input);
-    }
-    if matches!(ending, Ending::Served(0))
-        && let Some(lines) = told.lines
-        && let Some(note) = note_of_half_line(lines, input.text())
+    if served.status == 0
+        && let Some(lines) = context.lines
+        && let Some(note) = note_of_half_line(lines, input)
     {
         note_that(rt, note);
     }
 }
 
 // Notes which line of a script or a batch ends in CR, if one does.
-fn note_line_end<R: Runtime, I: Read>(rt: &R, lines: Lines, input: &Kept<I>) {
-    if let Some(note) = note_of_line_end(lines, input.text()) {
+fn note_line_end<R: Runtime>(rt: &R, lines: LineKind, input: &[u8]) {
+    if let Some(note) = note_of_line_end(lines, input) {
         note_that(rt, note);
     }
 }
 
 // Serves a request after these checks: its base is a name, the timeout is valid, and required files exist. A run that writes holds its lock
 // until its change is saved. It is refused first if standard output cannot be written, since its answer would be lost after the change.
+// Returns `None` if the reader of the answer is gone, which is no fault.
 fn serve_request<R: Runtime<File = File> + AllocGlobal + Threads + Wait + Sync, I: Read>(
     rt: &R,
     request: Request<'_>,
-    reader: &mut Kept<I>,
-) -> Result<Ending, ServeFault> {
+    reader: &mut RecordingReader<I>,
+) -> Result<Option<Served>, ServeFault> {
     let is_wide = must_be_wide(&request);
     let Request { ask, access } = request;
     let stock = match &ask {
@@ -218,25 +219,15 @@ fn serve_request<R: Runtime<File = File> + AllocGlobal + Threads + Wait + Sync, 
         _ => None,
     };
     let place = place_asked(&ask);
-    if let Some(base) = place.base
-        && !is_name(base)
-    {
+    if place.base.is_some_and(|base| !is_name(base)) {
         return Err(ServeFault::BadBase);
     }
     if let Ask::Backup(backup) = &ask
         && !is_name(backup.to)
     {
-        return Ok(refuse_copy(rt, backup, ServeFault::BadBase));
+        return Ok(Some(refuse_copy(rt, backup, ServeFault::BadBase)));
     }
-    let copies = matches!(ask, Ask::Backup(_));
-    let writes = place.writes || copies;
-    let patience = patience_of(rt, access.timeout, writes)?;
-    if (access.must_exist || copies) && has_no_files(rt, place.base) {
-        return Err(ServeFault::Absent);
-    }
-    if writes && io::writer(rt).write(&[]).is_err() {
-        return Err(ServeFault::Write);
-    }
+    let patience = check_access(rt, &ask, access, place)?;
     let taking = Taking { place, patience };
     // A terminal reports the end of its input only once, so it is not read ahead.
     if place.base.is_some() && reads_whole(&ask) && !is_terminal(rt, 0) {
@@ -253,14 +244,33 @@ fn serve_request<R: Runtime<File = File> + AllocGlobal + Threads + Wait + Sync, 
         Ask::Wish(wish) => serve_timed(rt, wish, taking, taken, reader),
         Ask::Session(session) => {
             serve_session(rt, session, place, taken, reader)?;
-            Ok(Ending::Served(0))
+            Ok(Some(Served::plain(0)))
         }
-        Ask::Backup(backup) => serve_backup(rt, &backup, taken.bytes),
+        Ask::Backup(backup) => Ok(Some(serve_backup(rt, &backup, taken.bytes)?)),
         Ask::Programs(programs) => {
-            print_programs(rt, &programs, reader)?;
-            Ok(Ending::Served(0))
+            let is_read = print_programs(rt, &programs)?;
+            Ok(is_read.then_some(Served::plain(0)))
         }
     }
+}
+
+// Checks that required files exist, and that standard output can be written if there may be a change. Returns the longest wait for the lock.
+fn check_access<R: Runtime<File = File> + AllocGlobal>(
+    rt: &R,
+    ask: &Ask<'_>,
+    access: Access<'_>,
+    place: RunPlace<'_>,
+) -> Result<Option<Duration>, ServeFault> {
+    let copies = matches!(ask, Ask::Backup(_));
+    let writes = place.writes || copies;
+    let patience = patience_of(rt, access.timeout, writes)?;
+    if (access.must_exist || copies) && has_no_files(rt, place.base) {
+        return Err(ServeFault::Absent);
+    }
+    if writes && io::writer(rt).write(&[]).is_err() {
+        return Err(ServeFault::Write);
+    }
+    Ok(patience)
 }
 
 // Takes the files of a request, except pages that it may not need.
@@ -326,7 +336,7 @@ fn asked_patience<R: Runtime + AllocGlobal>(rt: &R) -> Option<Duration> {
     let seconds = read_number(word.as_bytes(), u64::MAX);
     if seconds.is_none() {
         let _ = eprintln!(rt;
-            "dbm: note: DBM_TIMEOUT is no number of seconds, so it counts as unset"
+            "dbm: note: DBM_TIMEOUT is not a number of seconds, so it is ignored"
         );
     }
     Some(Duration::from_secs(seconds?))
@@ -339,8 +349,8 @@ fn serve_timed<R: Runtime<File = File> + AllocGlobal + Threads + Wait + Sync, I:
     wish: Wish<'_>,
     taking: Taking<'_>,
     taken: RunFiles,
-    reader: &mut Kept<I>,
-) -> Result<Ending, ServeFault> {
+    reader: &mut RecordingReader<I>,
+) -> Result<Option<Served>, ServeFault> {
     let Some(unit) = wish.time_asked() else {
         let wish = with_lines_timed(rt, wish)?;
         return serve_staffed(rt, wish, taking, taken, reader);
@@ -355,8 +365,8 @@ fn serve_staffed<R: Runtime<File = File> + AllocGlobal + Threads + Wait + Sync, 
     wish: Wish<'_>,
     taking: Taking<'_>,
     taken: RunFiles,
-    reader: &mut Kept<I>,
-) -> Result<Ending, ServeFault> {
+    reader: &mut RecordingReader<I>,
+) -> Result<Option<Served>, ServeFault> {
     if !wish.asks_cores() {
         return serve_peeked(rt, wish, taking, taken, reader);
     }
@@ -385,8 +395,8 @@ fn serve_peeked<R: Runtime<File = File> + AllocGlobal + Threads + Wait + Sync, I
     wish: Wish<'_>,
     taking: Taking<'_>,
     taken: RunFiles,
-    reader: &mut Kept<I>,
-) -> Result<Ending, ServeFault> {
+    reader: &mut RecordingReader<I>,
+) -> Result<Option<Served>, ServeFault> {
     let RunFiles {
         bytes,
         mut held,
@@ -401,21 +411,48 @@ fn serve_peeked<R: Runtime<File = File> + AllocGlobal + Threads + Wait + Sync, I
         return serve_taken(rt, wish, taken, reader);
     };
     let reads = held.is_none();
-    let Some(quick) = serve_quick(rt, wish, &bytes, &unread, &mut held, reader)? else {
-        let taken = RunFiles {
-            bytes,
-            held,
-            unread: Some(unread),
-        };
-        let taken = take_rest(rt, taking.place, taken, taking.patience)?;
-        return serve_taken(rt, wish, taken, reader);
-    };
-    drop(unread);
-    drop(held);
-    if quick.plan.is_none() {
-        print_quick(rt, reads, quick.text.as_slice(), reader)?;
+    match serve_quick(rt, wish, &bytes, &unread, &mut held)? {
+        Some(page) => {
+            drop(unread);
+            drop(held);
+            print_page(rt, wish, bytes.program.as_slice(), page, reads)
+        }
+        None => {
+            let taken = RunFiles {
+                bytes,
+                held,
+                unread: Some(unread),
+            };
+            let taken = take_rest(rt, taking.place, taken, taking.patience)?;
+            serve_taken(rt, wish, taken, reader)
+        }
     }
-    Ok(Ending::Served(quick.status))
+}
+
+// Prints the lines of a request that was served from one page, unless its save has printed them.
+fn print_page<R: Runtime<File = File> + AllocGlobal>(
+    rt: &R,
+    wish: Wish<'_>,
+    program: &[u8],
+    page: PageServed,
+    reads: bool,
+) -> Result<Option<Served>, ServeFault> {
+    let PageServed { result, saved } = page;
+    let refusal = refusal_in(rt.alloc(), wish, program, result.notes);
+    if saved.is_none() && !print_unsaved(rt, reads, result.text.as_slice())? {
+        return Ok(None);
+    }
+    let is_pending = saved == Some(Saved::Pending);
+    Ok(Some(Served::on_page(&result, refusal, is_pending)))
+}
+
+// Prints the lines of a request that saved nothing. Returns `false` if it only reads and the reader of its answer is gone.
+fn print_unsaved<R: Runtime>(rt: &R, reads: bool, lines: &[u8]) -> Result<bool, ServeFault> {
+    if reads {
+        return print_lines(rt, lines);
+    }
+    print_change(rt, lines)?;
+    Ok(true)
 }
 
 // The same request, with the time of day for its lines if they may request it.
@@ -432,21 +469,29 @@ fn serve_taken<R: Runtime<File = File> + AllocGlobal + Threads + Wait + Sync, I:
     rt: &R,
     wish: Wish<'_>,
     taken: RunFiles,
-    reader: &mut Kept<I>,
-) -> Result<Ending, ServeFault> {
+    reader: &mut RecordingReader<I>,
+) -> Result<Option<Served>, ServeFault> {
     let RunFiles { bytes, held, .. } = taken;
     let given = given_of(bytes);
     match held {
-        Some(held) => serve_change(rt, wish, given, held, reader),
-        None => {
-            let alloc = rt.alloc();
-            let mut writer = Watched::new(io::writer(rt));
-            let outcome = serve(rt, alloc, wish, &given, reader, &mut writer);
-            reader.has_bad_line = writer.has_bad_line();
-            reader.has_no_reader = writer.has_no_reader();
-            Ok(ending_of(&outcome))
-        }
+        Some(held) => Ok(Some(serve_change(rt, wish, given, held, reader)?)),
+        None => serve_reading(rt, wish, &given, reader),
     }
+}
+
+// Serves a request that only reads. A truncated dump is a fault, even if the reader of the pipe is gone.
+fn serve_reading<R: Runtime<File = File> + AllocGlobal + Threads + Wait + Sync, I: Read>(
+    rt: &R,
+    wish: Wish<'_>,
+    given: &Given,
+    reader: &mut RecordingReader<I>,
+) -> Result<Option<Served>, ServeFault> {
+    let mut writer = PipeWriter::new(io::writer(rt));
+    let served = serve(rt, rt.alloc(), wish, given, reader, &mut writer);
+    if writer.has_no_reader() && !matches!(wish, Wish::Dump(_)) {
+        return Ok(None);
+    }
+    Ok(Some(Served::of(&served?, None, false)))
 }
 
 // Serves a request that may change its database. Its lines are printed once the save is committed and the lock released.
@@ -455,48 +500,66 @@ fn serve_change<R: Runtime<File = File> + AllocGlobal + Threads + Wait + Sync, I
     wish: Wish<'_>,
     given: Given,
     held: LockedFiles,
-    reader: &mut Kept<I>,
-) -> Result<Ending, ServeFault> {
-    let alloc = rt.alloc();
-    let mut lines = Vec::new(alloc);
-    let outcome = serve(rt, alloc, wish, &given, reader, &mut lines);
-    reader.has_bad_line = has_bad_line(lines.as_slice());
-    reader.refusal = refusal_in(alloc, wish, given.file.as_slice(), lines.as_slice());
-    let old = ReadFiles {
-        pages: &given.pag,
-        directory: given.dir.as_slice(),
-    };
-    if let Some(new) = &outcome.database {
-        tell_saving(rt, work_of(&wish), new.pag_len());
-        let writer = &mut io::writer(rt);
-        let saved = save_files(rt, held, old, new, lines.as_slice(), writer)?;
-        reader.is_pending = saved == Saved::Pending;
-    }
-    match outcome.err {
+    reader: &mut RecordingReader<I>,
+) -> Result<Served, ServeFault> {
+    let mut lines = Vec::new(rt.alloc());
+    let outcome = match serve(rt, rt.alloc(), wish, &given, reader, &mut lines) {
+        Ok(outcome) => outcome,
         // Collecting lines in memory only fails if allocation fails.
-        Some(ServeFault::Write) => Err(ServeFault::NoMemory),
-        _ => Ok(ending_of(&outcome)),
+        Err(ServeFault::Write) => return Err(ServeFault::NoMemory),
+        Err(fault) => return Err(fault),
+    };
+    let refusal = refusal_in(rt.alloc(), wish, given.file.as_slice(), outcome.notes);
+    let mut is_pending = false;
+    if let Some(new) = &outcome.database {
+        let old = ReadFiles {
+            pages: &given.pag,
+            directory: given.dir.as_slice(),
+        };
+        tell_saving(rt, work_of(&wish), new.pag_len());
+        let saved = save_files(rt, held, old, new, lines.as_slice(), &mut io::writer(rt))?;
+        is_pending = saved == Saved::Pending;
     }
+    Ok(Served::of(&outcome, refusal, is_pending))
 }
 
 // Prints why the words are refused, or the help or the version that they request, or the fault and what to do. If help cannot be printed
 // on standard output, that is the fault. If standard error fails, only the status reports the fault.
 fn tell<R: Runtime<File = File> + AllocGlobal>(
     rt: &R,
-    told: Option<&Told<'_>>,
+    context: Option<&DiagnosticContext<'_>>,
     ending: Ending,
 ) -> Ending
     ensures { IsTold ending result }
 {
-    let ending = match ending {
-        Ending::Refused(refusal) if refusal.print(rt).is_err() => {
-            Ending::Failed(ServeFault::Write)
-        }
-        ending => ending,
-    };
-    if let Ending::Failed(fault) = &ending {
-        let _ = eprintln!(rt; "dbm: {fault}");
-        advise(rt, told, *fault);
+    match ending {
+        Ending::Served(served) => Ending::Served(served),
+        Ending::Refused(refusal) => tell_refusal(rt, context, refusal),
+        Ending::Failed(fault) => tell_fault(rt, context, fault),
     }
-    ending
+}
+
+fn tell_refusal<R: Runtime<File = File> + AllocGlobal>(
+    rt: &R,
+    context: Option<&DiagnosticContext<'_>>,
+    refusal: ToolFault,
+) -> Ending
+    ensures { IsTold (Refused refusal) result }
+{
+    if refusal.print(rt).is_err() {
+        return tell_fault(rt, context, ServeFault::Write);
+    }
+    Ending::Refused(refusal)
+}
+
+fn tell_fault<R: Runtime<File = File> + AllocGlobal>(
+    rt: &R,
+    context: Option<&DiagnosticContext<'_>>,
+    fault: ServeFault,
+) -> Ending
+    ensures { result ≡ Failed fault }
+{
+    let _ = eprintln!(rt; "dbm: {fault}");
+    advise(rt, context, fault);
+    Ending::Failed(fault)
 }

@@ -4,27 +4,26 @@ ghost use Rattle.sdbm_addr.specs.Pairs.{page_bytes};
 ghost use Rattle.sdbm_saves.specs.Redo.{IsPlan, Knows};
 ghost use Rattle.sdbm_saves.specs.Recording.{part_pages};
 ghost use Rattle.dbm_reports.specs.Databases.{page_size_of};
-ghost use Rattle.dbm_quick.specs.Asked.{IsMeant};
+ghost use Rattle.dbm_records.specs.PageRequests.{IsMeant};
 ghost use Rattle.dbm_tool.specs.Services.{service_in};
 
-use byte_text::write_all;
+use dbm_args::Form;
 use dbm_command_line::{Ask, Wish};
-use dbm_faults::ServeFault;
 use dbm_files::{LockedFiles, PlannedPart, Saved, UnreadPages, save_part};
+use dbm_messages::ServeFault;
 use dbm_places::FileBytes;
 use dbm_programs::refusal_of;
-use dbm_quick::{
-    Asked, Quick, asked_by_delete, asked_by_fetch, asked_by_run, asked_by_store, work,
+use dbm_records::{
+    PageRequest, PageResult, answer_on_page, delete_request, fetch_request, run_request,
+    store_request,
 };
-use dbm_reports::{ReportFault, key_bytes_of, notation_by, page_size_of};
+use dbm_reports::{Notes, ReportFault, key_bytes_of, notation_by, page_size_of};
 use dbm_script::Notation;
-use dbm_telling::{Kept, Watched, is_refused};
-use dbm_words::Form;
 use sdbm_addr::PageSize;
 use sdbm_saves::Part;
 use std::alloc::Global;
 use std::fs::File;
-use std::io::{self, Read};
+use std::io;
 use std::rt::{Files, Runtime};
 use store_parts::{has_own_pairs, page_of};
 
@@ -36,26 +35,32 @@ pub fn may_be_quick(ask: &Ask<'_>) -> bool {
     )
 }
 
-/// Serves a request from the page of its key; its files were taken except `.pag`. If there is a change it saves it, releases
-/// the lock, and prints the lines. If there is none, `print_quick` prints the lines after the lock is released. Returns `None` if that page
-/// is not enough: then nothing was written, and the caller has to read all of `.pag`.
+/// A request that was served from the page of its key.
+#[derive(Drop)]
+pub struct PageServed {
+    pub result: PageResult,
+    /// How its change was saved. `None` if there was none: then its lines are not printed yet.
+    pub saved: Option<Saved>,
+}
+
+/// Serves a request from the page of its key; its files were taken except `.pag`. If there is a change it saves it, releases the lock, and
+/// prints the lines. If there is none, the caller prints the lines after it has released the lock. Returns `None` if that page is not enough:
+/// then nothing was written, and the caller has to read all of `.pag`.
 ///
 /// # Errors
 /// `Write` if its lines could not be written, and those of a save.
-pub fn serve_quick<R: Runtime<File = File> + AllocGlobal, I: Read>(
+pub fn serve_quick<R: Runtime<File = File> + AllocGlobal>(
     rt: &R,
     wish: Wish<'_>,
     bytes: &FileBytes,
     unread: &UnreadPages,
     held: &mut Option<LockedFiles>,
-    reader: &mut Kept<I>,
-) -> Result<Option<Quick>, ServeFault> {
+) -> Result<Option<PageServed>, ServeFault> {
     let alloc = rt.alloc();
-    let Ok(notation) = notation_by(alloc, wish.notation()) else {
+    let Ok(notation) = notation_by(alloc, wish.head().notation) else {
         return Ok(None);
     };
-    let file = bytes.program.as_slice();
-    let Some((form, asked)) = asked_of(alloc, &notation, wish, file) else {
+    let Some((form, asked)) = asked_of(alloc, &notation, wish, bytes.program.as_slice()) else {
         return Ok(None);
     };
     let directory = bytes.directory.as_slice();
@@ -69,37 +74,34 @@ pub fn serve_quick<R: Runtime<File = File> + AllocGlobal, I: Read>(
         page: page.as_slice(),
     };
     let (kind, size) = (key_bytes_of(form), page_size_of(form));
-    let Some(quick) = work(alloc, &notation, asked, part, kind, size) else {
+    let Some(result) = answer_on_page(alloc, &notation, asked, part, kind, size) else {
         return Ok(None);
     };
-    if !are_free(alloc, unread, number, quick.numbers.as_slice(), size) || !unread.is_guarded(rt) {
+    if !are_free(alloc, unread, number, result.numbers.as_slice(), size) || !unread.is_guarded(rt) {
         return Ok(None);
     }
-    if held.is_none() && quick.plan.is_some() {
+    if held.is_none() && result.plan.is_some() {
         return Ok(None);
     }
-    if quick.plan.is_some()
-        && let Some(held) = held.take()
-    {
-        save_quick(rt, held, part, size, &quick, reader)?;
-    }
-    reader.refusal = refusal_in(alloc, wish, file, quick.text.as_slice());
-    Ok(Some(quick))
+    let saved = save_quick(rt, held, part, size, &result)?;
+    Ok(Some(PageServed { result, saved }))
 }
 
-// Saves the change of a command, if there is one, releases the lock, and prints the lines.
-fn save_quick<R: Runtime<File = File> + AllocGlobal, I: Read>(
+// Saves the change of a command, releases the lock, and prints the lines. Returns `None` if there is no change.
+fn save_quick<R: Runtime<File = File> + AllocGlobal>(
     rt: &R,
-    held: LockedFiles,
+    held: &mut Option<LockedFiles>,
     part: Part<'_>,
     size: PageSize,
-    quick: &Quick,
-    reader: &mut Kept<I>,
-) -> Result<(), ServeFault>
+    quick: &PageResult,
+) -> Result<Option<Saved>, ServeFault>
     requires { IfSome quick.now.plan (λ plan. IsPlan plan.items × Knows plan.items (part_pages part size, part.directory.now)) }
 {
     let Some(plan) = &quick.plan else {
-        return Ok(());
+        return Ok(None);
+    };
+    let Some(held) = held.take() else {
+        return Ok(None);
     };
     let planned = PlannedPart {
         part,
@@ -107,29 +109,8 @@ fn save_quick<R: Runtime<File = File> + AllocGlobal, I: Read>(
         plan: plan.as_slice(),
     };
     let lines = quick.text.as_slice();
-    let writer = &mut io::writer(rt);
-    let saved = save_part(rt, held, planned, lines, writer)?;
-    reader.is_pending = saved == Saved::Pending;
-    Ok(())
-}
-
-/// Prints the lines of a request that saves nothing. If it only reads, its reader may be gone.
-///
-/// # Errors
-/// `Write` if they could not be printed.
-pub fn print_quick<R: Runtime<File = File> + AllocGlobal, I: Read>(
-    rt: &R,
-    reads: bool,
-    lines: &[u8],
-    reader: &mut Kept<I>,
-) -> Result<(), ServeFault> {
-    let mut writer = Watched::new(io::writer(rt));
-    let written = write_all(&mut writer, lines);
-    reader.has_no_reader = reads && writer.has_no_reader();
-    match written {
-        Ok(()) => Ok(()),
-        Err(_) => Err(ServeFault::Write),
-    }
+    let saved = save_part(rt, held, planned, lines, &mut io::writer(rt))?;
+    Ok(Some(saved))
 }
 
 // The request that may be served from the page of its key, and the form of its files.
@@ -138,14 +119,14 @@ fn asked_of(
     notation: &Notation<Global>,
     wish: Wish<'_>,
     file: &[u8],
-) -> Option<(Form, Asked)>
+) -> Option<(Form, PageRequest)>
     ensures { IfSome result (λ meant. IsMeant meant.0 file.now notation.now (λ given report. (input : Option (List ℕ)) → (service_in notation.now wish.entry given input).reports report) meant.1) }
 {
     match wish {
-        Wish::Fetch(fetch) => meant(fetch.form, asked_by_fetch(alloc, notation, &fetch)),
-        Wish::Store(store) => meant(store.form, asked_by_store(alloc, notation, &store)),
-        Wish::Delete(delete) => meant(delete.form, asked_by_delete(alloc, notation, &delete)),
-        Wish::Run(run) => match asked_by_run(alloc, notation, &run, file) {
+        Wish::Fetch(fetch) => meant(fetch.form, fetch_request(alloc, notation, &fetch)),
+        Wish::Store(store) => meant(store.form, store_request(alloc, notation, &store)),
+        Wish::Delete(delete) => meant(delete.form, delete_request(alloc, notation, &delete)),
+        Wish::Run(run) => match run_request(alloc, notation, &run, file) {
             Ok(asked) => Some((run.form, asked)),
             Err(_) => None,
         },
@@ -154,7 +135,7 @@ fn asked_of(
 }
 
 // The request, if there is one, together with the form of its files.
-fn meant(form: Form, asked: Result<Option<Asked>, ReportFault>) -> Option<(Form, Asked)>
+fn meant(form: Form, asked: Result<Option<PageRequest>, ReportFault>) -> Option<(Form, PageRequest)>
     ensures { IfSome result (λ meant. (meant.0 ≡ form) × (asked ≡ Ok (Some meant.1))) }
 {
     match asked {
@@ -228,10 +209,10 @@ fn is_free(alloc: Global, unread: &UnreadPages, number: u32, size: PageSize) -> 
     }
 }
 
-/// Why the program of a run is refused, if its lines say so. Returns `None` if memory ran out.
-pub fn refusal_in(alloc: Global, wish: Wish<'_>, file: &[u8], lines: &[u8]) -> Option<String> {
+/// Why the verifier refuses the program of a run, if it does. `None` if memory ran out.
+pub fn refusal_in(alloc: Global, wish: Wish<'_>, file: &[u8], notes: Notes) -> Option<String> {
     match wish {
-        Wish::Run(run) if is_refused(lines) => {
+        Wish::Run(run) if notes.refuses_program => {
             refusal_of(alloc, file, run.image).unwrap_or(None)
         }
         _ => None,

@@ -5,15 +5,14 @@ ghost use Rattle.dbm_tool.specs.Stock.{file_in};
 ghost use Rattle.sdbm_files.specs.Limits.{pag_limit};
 
 use crate::stock::{file_in, file_or_unknown};
+use dbm_args::{Numbers, Words};
 use dbm_command_line::{Ask, Request, Wish};
-use dbm_dumps::Backup;
+use dbm_dump::Backup;
 use dbm_places::{FileBytes, RunPlace};
-use dbm_programs::Programs;
 use dbm_reports::Given;
-use dbm_script::Lines;
-use dbm_sessions::Session;
-use dbm_telling::{Told, Work};
-use dbm_words::{NotationOptions, Numbers, Words};
+use dbm_script::LineKind;
+use dbm_session::Session;
+use dbm_stderr::{DiagnosticContext, Work};
 use sdbm_addr::PageSize;
 use sdbm_files::PAG_LIMIT;
 
@@ -24,10 +23,11 @@ pub fn place_of<'a>(wish: &Wish<'a>) -> RunPlace<'a>
     ensures writes { result.writes ≡ writes_files wish.now }
     ensures limit { result.pages_limit ≡ pag_limit }
 {
+    let head = wish.head();
     RunPlace {
-        base: wish.base(),
-        file: file_in(wish.file()),
-        writes: wish.writes(),
+        base: head.base,
+        file: file_in(head.file),
+        writes: head.writes,
         pages_limit: PAG_LIMIT,
         page_size: size_of(&wish.words()),
     }
@@ -54,81 +54,39 @@ pub fn given_of(bytes: FileBytes) -> Given
 }
 
 /// The parts of a request that notes and sentences show.
-pub fn told_of<'a>(request: &Request<'a>) -> Told<'a> {
-    let told = match &request.ask {
-        Ask::Wish(wish) => told_of_wish(wish),
-        Ask::Session(session) => told_of_session(session),
-        Ask::Backup(backup) => told_of_backup(backup),
-        Ask::Programs(programs) => told_of_programs(programs),
-    };
+pub fn context_of<'a>(request: &Request<'a>) -> DiagnosticContext<'a> {
+    let words = words_of(&request.ask);
     let numbers = Numbers {
         timeout: request.access.timeout,
-        ..told.words.numbers
+        ..words.numbers
     };
-    Told {
-        words: Words {
-            numbers,
-            ..told.words
-        },
-        ..told
+    DiagnosticContext {
+        place: place_asked(&request.ask),
+        words: Words { numbers, ..words },
+        lines: lines_of(&request.ask),
     }
 }
 
-fn told_of_wish<'a>(wish: &Wish<'a>) -> Told<'a> {
-    Told {
-        place: place_of(wish),
-        words: Words {
-            base: wish.base(),
-            file: file_or_unknown(wish.file()),
+// The words that a sentence may show.
+fn words_of<'a>(ask: &Ask<'a>) -> Words<'a> {
+    match ask {
+        Ask::Wish(wish) => Words {
+            base: wish.head().base,
+            file: file_or_unknown(wish.head().file),
             ..wish.words()
         },
-        notation: wish.notation(),
-        strict: matches!(wish, Wish::Script(script) if script.strict),
-        clock: wish.asks_clock(),
-        lines: lines_of(wish),
+        Ask::Session(session) => session.words(),
+        Ask::Backup(backup) => backup.words(),
+        Ask::Programs(programs) => programs.words(),
     }
 }
 
 // The kind of lines on standard input, if it is a script or a batch.
-fn lines_of(wish: &Wish<'_>) -> Option<Lines> {
-    match wish {
-        Wish::Script(_) => Some(Lines::OfScript),
-        Wish::Batch(_) => Some(Lines::OfBatch),
+fn lines_of(ask: &Ask<'_>) -> Option<LineKind> {
+    match ask {
+        Ask::Wish(Wish::Script(_)) => Some(LineKind::OfScript),
+        Ask::Wish(Wish::Batch(_)) => Some(LineKind::OfBatch),
         _ => None,
-    }
-}
-
-fn told_of_session<'a>(session: &Session<'a>) -> Told<'a> {
-    Told {
-        place: place_of_session(session),
-        words: session.words(),
-        notation: session.notation,
-        strict: false,
-        clock: session.clock,
-        lines: None,
-    }
-}
-
-fn told_of_backup<'a>(backup: &Backup<'a>) -> Told<'a> {
-    told_without_bytes(place_of_backup(backup), backup.words())
-}
-
-fn told_of_programs<'a>(programs: &Programs<'a>) -> Told<'a> {
-    told_without_bytes(no_place(), programs.words())
-}
-
-/// The parts that sentences show of a request whose words and lines have no bytes.
-pub fn told_without_bytes<'a>(place: RunPlace<'a>, words: Words<'a>) -> Told<'a> {
-    Told {
-        place,
-        words,
-        notation: NotationOptions {
-            text: false,
-            layout: None,
-        },
-        strict: false,
-        clock: false,
-        lines: None,
     }
 }
 

@@ -1,21 +1,21 @@
 //! Serves a request on the bytes of its files, standard input and standard output.
-ghost use Rattle.std.specs.Prelude.{◌≡◌, false, IfSome, IsNone, None, is_some};
+ghost use Rattle.std.specs.Prelude.{◌≡◌, false, IfOk, IfErr, is_some};
 ghost use Rattle.dbm_command_line.specs.Wishes.{writes_files};
 ghost use Rattle.dbm_tool.specs.Outcomes.{IsServed, IsUnserved};
 ghost use Rattle.dbm_tool.specs.Services.{reads_input};
 
 use crate::dispatch::serve_wish;
-use crate::outcome::WishOutcome;
 use dbm_command_line::Wish;
-use dbm_reports::Given;
+use dbm_messages::ServeFault;
+use dbm_reports::{Given, Outcome};
 use std::alloc::Global;
 use std::io::{Read, Write};
 use std::sync::Wait;
 use std::thread::Threads;
 
 /// Serves a request: reads its words, opens the database, reads standard input for a script, a batch or a load, executes the request, and
-/// writes the lines that it prints. The status is 1 if nothing was found or changed, and `FAULT` if there is a fault. The outcome has a
-/// database exactly for a request that writes (`Wish::writes`), and never with a fault.
+/// writes the lines that it prints. The status is 1 if nothing was found or changed. The outcome has a database exactly for a request that
+/// writes (`Head::writes`).
 ///
 /// # Errors
 /// The first that is met, in this order; those that a `ReportFault` names are within `Report`. `BadLayout` if the layout is unknown;
@@ -34,13 +34,11 @@ pub fn serve<T: Threads + Wait + Sync, R: Read, W: Write>(
     given: &Given,
     reader: &mut R,
     writer: &mut W,
-) -> WishOutcome
-    ensures served { IsNone result.err → IsServed wish.entry given.now (R.remaining reader.old) (W.contents writer.old) (W.contents writer.new) result.status result.database }
-    ensures fault { IfSome result.err (IsUnserved wish.entry given.now (R.remaining reader.old) (W.contents writer.old) (W.contents writer.new)) }
+) -> Result<Outcome, ServeFault>
+    ensures served { IfOk result (λ outcome. IsServed wish.entry given.now (R.remaining reader.old) (W.contents writer.old) (W.contents writer.new) outcome.status outcome.database) }
+    ensures fault { IfErr result (IsUnserved wish.entry given.now (R.remaining reader.old) (W.contents writer.old) (W.contents writer.new)) }
     ensures unread { reads_input wish.entry ≡ false → R.remaining reader.new ≡ R.remaining reader.old }
-    ensures database { IsNone result.err → is_some result.database ≡ writes_files wish.entry }
-    ensures status { IfSome result.err (λ _. result.status ≡ 2) }
-    ensures none { IfSome result.err (λ _. result.database ≡ None) }
+    ensures database { IfOk result (λ outcome. is_some outcome.database ≡ writes_files wish.entry) }
 {
     serve_wish(rt, alloc, wish, given, reader, writer)
 }

@@ -1,8 +1,8 @@
 //! Detects files of small pages that are to be opened with wide pages.
-use crate::request::told_of;
+use crate::request::context_of;
 use dbm_command_line::Request;
-use dbm_faults::ServeFault;
 use dbm_files::{RunFiles, UnreadPages, take_rest};
+use dbm_messages::ServeFault;
 use dbm_places::RunPlace;
 use sdbm_addr::{KeyBytes, PageSize};
 use sdbm_sizes::{MOST_PAGES, page_looks_small, pages_look_small};
@@ -16,7 +16,7 @@ const KINDS: [KeyBytes; 2] = [KeyBytes::Signed, KeyBytes::Unsigned];
 
 /// Returns `true` if the files of a request must not look small: they are opened with wide pages, and the user does not insist.
 pub fn must_be_wide(request: &Request<'_>) -> bool {
-    told_of(request).words.wide && !request.access.insist
+    context_of(request).words.wide && !request.access.insist
 }
 
 /// Refuses files that look small. An unread `.pag` is read whole if its last page may be small: a database of small

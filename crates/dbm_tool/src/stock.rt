@@ -1,18 +1,16 @@
 //! Stock programs that a command line names.
 ghost use Rattle.std.specs.Prelude.{◌≡◌, ◌⊎◌, IfOk, IfErr, option_map};
-ghost use Rattle.dbm_command_line.specs.Wishes.{file_of, takes_image};
-ghost use Rattle.dbm_faults.specs.declared.fault.ServeFault.TheVariants.{NoMemory, NoStock};
+ghost use Rattle.dbm_command_line.specs.Wishes.{file_of, head_of};
+ghost use Rattle.dbm_messages.specs.declared.fault.ServeFault.TheVariants.{NoMemory, NoStock};
 ghost use Rattle.stock_names.specs.declared.ProgramWord.TheVariants.{Unknown};
 ghost use Rattle.dbm_tool.specs.Stock.{IsStockFile, file_in, word_in};
 
-use crate::quick::print_quick;
+use crate::printing::print_lines;
 use dbm_command_line::Wish;
-use dbm_faults::ServeFault;
+use dbm_messages::ServeFault;
 use dbm_programs::Programs;
-use dbm_telling::Kept;
 use std::alloc::Global;
 use std::fs::File;
-use std::io::Read;
 use std::rt::Runtime;
 use stock_names::{ProgramWord, read_word};
 
@@ -40,30 +38,30 @@ pub fn file_or_unknown<'a>(word: Option<&'a str>) -> Option<&'a str> {
 /// # Errors
 /// `NoStock` if no stock program has the name, and `NoMemory`.
 pub fn stock_file(alloc: Global, wish: &Wish<'_>) -> Result<Option<Vec<u8>>, ServeFault>
-    ensures ok { IfOk result (λ file. IsStockFile (takes_image wish.now) (word_in (file_of wish.now)) (option_map (λ bytes. bytes.items) file)) }
+    ensures ok { IfOk result (λ file. IsStockFile (head_of wish.now).image (word_in (file_of wish.now)) (option_map (λ bytes. bytes.items) file)) }
     ensures fault { IfErr result (λ fault. (fault ≡ NoMemory) ⊎ ((fault ≡ NoStock) × (word_in (file_of wish.now) ≡ Unknown))) }
 {
-    let Some(word) = wish.file() else {
+    let head = wish.head();
+    let Some(word) = head.file else {
         return Ok(None);
     };
     match read_word(word.as_bytes()) {
         ProgramWord::File => Ok(None),
         ProgramWord::Unknown => Err(ServeFault::NoStock),
-        ProgramWord::Stock(stock) => Ok(Some(stock.file(alloc, wish.takes_image())?)),
+        ProgramWord::Stock(stock) => Ok(Some(stock.file(alloc, head.image)?)),
     }
 }
 
-/// Prints the stock programs, or one of them.
+/// Prints the stock programs, or one of them. Returns `false` if standard output is a pipe whose reader is gone.
 ///
 /// # Errors
 /// `NoStock` if no stock program has the name, `Write` if the text cannot be printed, and `NoMemory`.
-pub fn print_programs<R: Runtime<File = File> + AllocGlobal, I: Read>(
+pub fn print_programs<R: Runtime<File = File> + AllocGlobal>(
     rt: &R,
     programs: &Programs<'_>,
-    reader: &mut Kept<I>,
-) -> Result<(), ServeFault> {
+) -> Result<bool, ServeFault> {
     let Some(text) = programs.text(rt.alloc())? else {
         return Err(ServeFault::NoStock);
     };
-    print_quick(rt, true, text.as_bytes(), reader)
+    print_lines(rt, text.as_bytes())
 }

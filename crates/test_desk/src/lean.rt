@@ -8,7 +8,7 @@ use sdbm_files::Image;
 use std::alloc::{AllocError, Allocator, Global};
 use std::fmt::Write;
 use store_cmd::SharedCommand;
-use test_lines::{MOST_TIMES, fill, show_command, show_pairs};
+use test_support::{MOST_TIMES, fill, show_command, show_pairs};
 
 const MORE: &str = " with more memory";
 

@@ -4,7 +4,7 @@ use crate::calls::Call;
 use desk_core::{Event, Ticket};
 use std::alloc::{Allocator, Global};
 use store_cmd::SharedCommand;
-use test_lines::read_command;
+use test_support::read_command;
 
 fn read_ticket(word: &str) -> Option<Ticket> {
     Some(Ticket(word.parse::<usize>().ok()?))

@@ -40,7 +40,7 @@ use linked_list_allocator::LocalHeap;
 use report::show_line;
 use std::alloc::{AllocError, Allocator, Global};
 use std::io;
-use test_lines::read_all;
+use test_support::read_all;
 
 // The answer to a line. A lean line is for the desks in a heap.
 fn answer<A: Allocator + Copy>(

@@ -12,7 +12,7 @@ use sdbm_addr::{KeyBytes, PageSize};
 use sdbm_files::{Image, OpenFault};
 use std::alloc::{AllocError, Allocator};
 use std::mem;
-use test_lines::{read_bytes, read_file, read_kind, read_size, same_trail};
+use test_support::{read_bytes, read_file, read_kind, read_size, same_trail};
 
 // The hash of keys and the size of pages, and the rest of the words.
 fn read_shape(words: &str) -> Option<(KeyBytes, PageSize, &str)> {

@@ -6,7 +6,7 @@ use sdbm_page::Page;
 use std::alloc::{AllocError, Allocator, Global};
 use std::fmt::Write;
 use store_cmd::{KeptEntry, Trail};
-use test_lines::{show_bytes, show_command, show_file, show_pairs, show_reply};
+use test_support::{show_bytes, show_command, show_file, show_pairs, show_reply};
 
 /// Writes the outcome of a call or of an event.
 pub fn show_outcome<A: Allocator>(

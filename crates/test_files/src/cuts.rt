@@ -5,7 +5,7 @@ use crate::files::open_files;
 use sdbm_files::OpenFault;
 use std::alloc::{AllocError, Global};
 use std::fmt::Write;
-use test_lines::{cut, number};
+use test_support::{cut, number};
 
 // The first `count` bytes, or all if there are fewer.
 fn first(bytes: &[u8], count: usize) -> &[u8] {

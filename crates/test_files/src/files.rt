@@ -4,7 +4,7 @@ use crate::bench::{Bench, Known};
 use sdbm_addr::{KeyBytes, PageSize};
 use sdbm_files::{Image, MemSink, OpenFault, WriteFault};
 use std::alloc::{AllocError, Allocator, Global};
-use test_lines::{cut, read_file, read_kind, read_size, show_file};
+use test_support::{cut, read_file, read_kind, read_size, show_file};
 
 /// Both files of a database.
 #[derive(Drop)]

@@ -6,7 +6,7 @@ use linked_list_allocator::LocalHeap;
 use sdbm_files::{Image, MemSink, OpenFault, Sink, WriteFault};
 use std::alloc::{Allocator, Global};
 use std::fmt::Write;
-use test_lines::{bytes_of, cut, number, show_bytes};
+use test_support::{bytes_of, cut, number, show_bytes};
 
 /// Opens files in a heap of this size, and reports the result and the use of the heap afterwards.
 pub fn within_text(global: Global, known: &Known, count: &str) -> Option<String> {

@@ -17,7 +17,7 @@
 //! | `full`, `free` | takes all memory, or gives it back |
 //! | `# TEXT` | the line itself |
 //!
-//! Bytes and files are as in `test_lines`. A line after the word `lean` is for a bench in a heap. There `widen` is called with 16 bytes
+//! Bytes and files are as in `test_support`. A line after the word `lean` is for a bench in a heap. There `widen` is called with 16 bytes
 //! more each time until there is enough. A `whole` database is written, read again and written a second time: `again` says that it stayed
 //! the same. Except for that word, the answers there are those of an independent implementation.
 #![tactic(auto)]
@@ -36,7 +36,7 @@ use linked_list_allocator::LocalHeap;
 use report::show_line;
 use std::alloc::{AllocError, Allocator, Global};
 use std::io;
-use test_lines::read_all;
+use test_support::read_all;
 
 // The answer to a line. A lean line is for the bench in a heap.
 fn answer<A: Allocator + Copy>(

@@ -8,7 +8,7 @@ use crate::sinks::short_text;
 use crate::whole::files_text;
 use crate::widening::widen_text;
 use std::alloc::{AllocError, Allocator};
-use test_lines::fill;
+use test_support::fill;
 
 fn full<A: Allocator + Copy>(bench: &mut Bench<A>) -> Option<String> {
     bench.blocks = fill(bench.global, bench.heap?, 0).ok()?;

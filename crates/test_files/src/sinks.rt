@@ -4,7 +4,7 @@ use crate::files::{Files, files_of};
 use sdbm_files::{Image, Sink, SinkFault, WriteFault};
 use std::alloc::{AllocError, Allocator, Global};
 use std::fmt::Write;
-use test_lines::{cut, number};
+use test_support::{cut, number};
 
 // The way in which a sink stops.
 #[derive(Clone, Copy, Debug, PartialEq, Eq)]

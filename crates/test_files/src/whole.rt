@@ -3,7 +3,7 @@
 use crate::files::{files_of, open_files, open_known, opened_text, read_known, same_files};
 use sdbm_files::Image;
 use std::alloc::Global;
-use test_lines::tail;
+use test_support::tail;
 
 // Returns whether a database that is written and read again has the same number of pairs and is written as the same bytes.
 fn image_stays(global: Global, image: &Image<Global>) -> Option<bool> {

@@ -5,7 +5,7 @@ use crate::files::{Files, files_of, same_files};
 use sdbm_addr::PageSize;
 use sdbm_files::{Image, widen};
 use std::alloc::Allocator;
-use test_lines::{MOST_TIMES, fill};
+use test_support::{MOST_TIMES, fill};
 
 fn widen_once<A: Allocator + Copy>(image: Image<A>) -> Result<Image<A>, Image<A>> {
     match widen(image) {

@@ -4,7 +4,7 @@ use crate::bench::Bench;
 use sdbm_dir::{Dir, DirFault, Place};
 use std::alloc::{AllocError, Allocator, Global};
 use std::fmt::Write;
-use test_lines::{read_file, show_file};
+use test_support::{read_file, show_file};
 
 // Splits the place to which a hash leads, and returns its bit.
 fn split<A: Allocator>(dir: &mut Dir<A>, hash: u32) -> Result<Option<u32>, AllocError> {

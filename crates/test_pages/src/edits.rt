@@ -5,7 +5,7 @@ use crate::page_edits::{add_if_room, empty_page, has_room, place_of, take_out};
 use sdbm_addr::PageSize;
 use sdbm_page::Page;
 use std::alloc::{AllocError, Global};
-use test_lines::{cut, number, read_size};
+use test_support::{cut, number, read_size};
 
 // The next of a sequence of pseudo-random numbers.
 fn next_number(number: u64) -> u64 {

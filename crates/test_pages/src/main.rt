@@ -31,7 +31,7 @@
 //! | `full`, `free` | takes all memory, or gives it back |
 //! | `# TEXT` | the line itself |
 //!
-//! Bytes and files are as in `test_lines`. A line after the word `lean` is for a bench in a heap. A `whole` page is written and
+//! Bytes and files are as in `test_support`. A line after the word `lean` is for a bench in a heap. A `whole` page is written and
 //! read again: `again` says that it stayed the same. Except for that word, the answers there are those of an independent
 //! implementation, except for 7 pages whose keys were chosen to set the same marks, and whose answers follow from their construction.
 #![tactic(auto)]
@@ -52,7 +52,7 @@ use linked_list_allocator::LocalHeap;
 use report::show_line;
 use std::alloc::{AllocError, Allocator, Global};
 use std::io;
-use test_lines::read_all;
+use test_support::read_all;
 
 // The answer to a line. A lean line is for the bench in a heap.
 fn answer<A: Allocator + Copy>(

@@ -8,7 +8,7 @@ use sdbm_addr::PageSize;
 use sdbm_page::{Page, PageFault};
 use std::alloc::{AllocError, Allocator, Global};
 use std::mem;
-use test_lines::{bytes_of, cut, number, read_file, read_size, show_bytes, show_file};
+use test_support::{bytes_of, cut, number, read_file, read_size, show_bytes, show_file};
 
 // Returns `true` if two pages have the same size and the same pairs in the same places.
 fn are_equal<A: Allocator>(a: &Page<A>, b: &Page<A>) -> bool {

@@ -8,7 +8,7 @@ use sdbm_page::Page;
 use sdbm_split::{Plan, PlanFault, plan_store};
 use std::alloc::{AllocError, Allocator, Global};
 use std::fmt::Write;
-use test_lines::{bytes_of, cut, read_size};
+use test_support::{bytes_of, cut, read_size};
 
 // The plan for storing a second key next to a first key.
 fn plan_of_two<A: Allocator + Copy>(

@@ -7,7 +7,7 @@ use crate::plans::plan_text;
 use crate::whole::page_text;
 use crate::words::word_line;
 use std::alloc::{AllocError, Allocator};
-use test_lines::fill;
+use test_support::fill;
 
 fn full<A: Allocator + Copy>(bench: &mut Bench<A>) -> Option<String> {
     bench.blocks = fill(bench.global, bench.heap?, 0).ok()?;

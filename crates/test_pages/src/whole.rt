@@ -3,7 +3,7 @@
 use crate::pages::{read_page, read_page_bytes, show_pairs_of};
 use sdbm_page::Page;
 use std::alloc::Global;
-use test_lines::tail;
+use test_support::tail;
 
 // Returns `true` if a page's own bytes are a page with the same bytes.
 fn page_stays(global: Global, page: &Page<Global>) -> bool {

@@ -3,7 +3,7 @@
 use sdbm_addr::{Bytes, KeyBytes, PageSize, child, clone_pairs, hash, mask};
 use std::alloc::{AllocError, Global};
 use store_cmd::{Command, SizeFault, check_sizes};
-use test_lines::{bytes_of, cut, read_command, read_kind, read_size, show_bytes, show_pairs};
+use test_support::{bytes_of, cut, read_command, read_kind, read_size, show_bytes, show_pairs};
 
 fn show_number(global: Global, number: u32) -> Option<String> {
     format!(in global; "{number}").ok()

@@ -12,7 +12,7 @@ use std::sync::Wait;
 use std::thread::Threads;
 use store_cmd::Reply;
 use store_shared::{Calls, CloseFault, Closed, Store};
-use test_lines::read_bytes;
+use test_support::read_bytes;
 use worker_pool::{Answers, PoolFault, Task, run_jobs};
 
 /// The state of a test.

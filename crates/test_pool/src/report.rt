@@ -6,7 +6,7 @@ use std::sync::Wait;
 use std::thread::Threads;
 use store_cmd::{Command, KeptEntry};
 use store_shared::Calls;
-use test_lines::show_reply;
+use test_support::show_reply;
 
 // The time of a call.
 fn show_time(out: &mut String, entry: &KeptEntry<Global>) -> Result<(), AllocError> {

@@ -11,7 +11,7 @@ use std::thread;
 use std::thread::Threads;
 use store_cmd::{Command, Refusal, Reply};
 use store_shared::{Calls, Gate, Session, Store};
-use test_lines::{read_command, show_reply};
+use test_support::{read_command, show_reply};
 
 // The largest number of threads at once.
 const THREADS: usize = 8;

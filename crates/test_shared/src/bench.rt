@@ -10,7 +10,7 @@ use std::fmt::Write;
 use std::mem;
 use store_cmd::Trail;
 use store_shared::{Calls, Gate, Store};
-use test_lines::{MOST_TIMES, fill, show_pairs};
+use test_support::{MOST_TIMES, fill, show_pairs};
 
 /// The additional bytes for each new attempt of a call.
 pub const STEP: usize = 16;

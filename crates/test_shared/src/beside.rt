@@ -11,7 +11,7 @@ use std::thread;
 use std::thread::Threads;
 use store_cmd::Command;
 use store_shared::{Gate, Session, Store};
-use test_lines::read_command;
+use test_support::read_command;
 
 // The number of short calls that have to be answered, each well before the programs of its round have ended.
 const WANTED: u64 = 3;

@@ -8,7 +8,7 @@ use std::fmt::Write;
 use std::sync::Wait;
 use store_cmd::{Command, Refusal};
 use store_shared::{Gate, Session, SessionFault, Store};
-use test_lines::{MOST_TIMES, read_command, show_reply};
+use test_support::{MOST_TIMES, read_command, show_reply};
 
 // The sessions on a store, and the call of one of them that watches while calls of another are refused.
 #[derive(Drop)]

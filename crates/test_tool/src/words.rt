@@ -1,7 +1,7 @@
 //! The requests of command lines, their refusals, and the texts of help.
 
+use dbm_args::{Access, TimeUnit};
 use dbm_command_line::{Ask, Request, ToolFault, Wish, read_words};
-use dbm_words::{Access, TimeUnit};
 use std::alloc::{AllocError, Global};
 use std::fmt::Write;
 
@@ -39,6 +39,7 @@ fn asked_text(global: Global, wish: &Wish<'_>) -> Result<String, AllocError> {
         Wish::Batch(batch) => format!(in global; "{batch:?}"),
         Wish::List(list) => format!(in global; "{list:?}"),
         Wish::Keys(keys) => format!(in global; "{keys:?}"),
+        Wish::Count(count) => format!(in global; "{count:?}"),
         Wish::Check(check) => format!(in global; "{check:?}"),
         Wish::Stats(stats) => format!(in global; "{stats:?}"),
         Wish::Script(script) => format!(in global; "{script:?}"),
@@ -56,9 +57,9 @@ fn wish_text(global: Global, wish: &Wish<'_>) -> Option<String> {
     write!(
         out,
         " base {:?} file {:?} writes {}",
-        wish.base(),
-        wish.file(),
-        wish.writes()
+        wish.head().base,
+        wish.head().file,
+        wish.head().writes
     )
     .ok()?;
     Some(out)

@@ -1,5 +1,5 @@
 use Rattle.std.proofs.Common.{◌≡◌, ◌<◌, ◌∙◌, Bool, true, List, ℕ, sym, ap, subst, rules}
-use Rattle.dbm_lines.specs.Lines.{Gives, lines_left}
+use Rattle.dbm_script.specs.LineInput.{Gives, lines_left}
 use Rattle.dbm_dump.proofs.Ends.{IsEnd, gives_rest}
 use Rattle.dbm_dump.proofs.loading.next_line.Goals as goal
 

@@ -1,7 +1,4 @@
-use Rattle.std.proofs.Common.{refl}
 use Rattle.dbm_reports.proofs.report.look.Goals as goal
 
 pub returns : goal.returns
-returns c =
-    let told = c.in_ok-text.ensures in
-    (c.answer_line.new.image, (record { answer = told.answer; answers = told.answers; kind = told.kind; size = told.size; text_is = told.text_is; status_is = told.status_is }, refl))
+returns c = (c.command_report.new.image, (c.in_ok-report.ensures.report, c.in_ok-report.ensures.none))

@@ -3,7 +3,7 @@ use Rattle.prog_registry.specs.Registry.{Registered}
 use Rattle.dbm_script.specs.Pieces.{pieces_of, pieces_left}
 use Rattle.dbm_script.specs.Script.{RunsLines, RunsScript, stage}
 use Rattle.dbm_script.specs.Shorthand.{spelled, spelled_line}
-use Rattle.dbm_script.specs.declared.shorthand.Lines.TheVariants.{OfScript}
+use Rattle.dbm_script.specs.declared.shorthand.LineKind.TheVariants.{OfScript}
 use Rattle.dbm_script.proofs.LinesStay.{lines_stay, spelled_first}
 use Rattle.dbm_script.proofs.Runs.{IsScriptRun-from, next_done, one_more}
 use Rattle.dbm_script.proofs.script.run_spelled.Goals as goal
@@ -26,8 +26,8 @@ loop-rest-preserved g c =
     let line = c.as_slice.result.now in
     let is : f c.first_piece.result.0.now ≡ line = search rules in
     let next = spelled_first f c.loop-rest.rest c.first_piece.result.1 _ _ line c.in-Some.is c.first_piece.ensures is in
-    let kept = c.in_ok-answer_line.ensures.kept in
-    let adds = c.in_ok-answer_line.ensures.answer in
+    let kept = c.in_ok-is_command.ensures.kept in
+    let adds = c.in_ok-is_command.ensures.answer in
     record {
       done = before.done ++ line ∷ [];
       lines = next_done before.done line _ _ _ before.lines next;
@@ -45,7 +45,7 @@ returns-then-len-most-clause-long g c = λ _.
     let line = c.as_slice.result.now in
     let is : f c.first_piece.result.0.now ≡ line = search rules in
     let next = spelled_first f c.loop-rest.rest c.first_piece.result.1 _ _ line c.in-Some.is c.first_piece.ensures is in
-    let adds = c.in_ok-answer_line.ensures.answer in
+    let adds = c.in_ok-is_command.ensures.answer in
     record {
       first = before.done ++ line ∷ [];
       others = map f (pieces_left 10 c.first_piece.result.1);

@@ -3,7 +3,7 @@ use Rattle.dbm_script.specs.Pieces.{pieces_of, pieces_left}
 use Rattle.dbm_script.specs.Images.{Verdict}
 use Rattle.dbm_script.specs.Script.{RunsLines, stage}
 use Rattle.dbm_script.specs.Shorthand.{spelled, spelled_line}
-use Rattle.dbm_script.specs.declared.shorthand.Lines.TheVariants.{OfScript}
+use Rattle.dbm_script.specs.declared.shorthand.LineKind.TheVariants.{OfScript}
 use Rattle.dbm_script.proofs.script.run_spelled.Given as goal
 
 -- some lines are done, and the rest are left

@@ -1,7 +1,7 @@
 use Rattle.std.proofs.Common.{Bool, false, true, List, ℕ, refl, sym, ap, subst, ◌∙◌}
 use Rattle.std.proofs.lemmas.Result.{IfErr-weaker, IfOk-weaker}
 use Rattle.std.specs.Io.KnownBytes.{Appends}
-use Rattle.dbm_lines.specs.Lines.{GivesEnded, lines_left}
+use Rattle.dbm_script.specs.LineInput.{GivesEnded, lines_left}
 use Rattle.dbm_script.specs.Script.{stage}
 use Rattle.dbm_session.specs.Sessions.{WritesSome}
 use Rattle.dbm_session.proofs.Turns.{all_answered, all_as_script, all_begun, all_ended, all_half, all_same, all_stopped, all_stopped_within, all_unread, any_err, saves_no_more}

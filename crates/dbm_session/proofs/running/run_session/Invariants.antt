@@ -1,6 +1,6 @@
 use Rattle.std.proofs.Common.{◌≡◌}
 use Rattle.dbm_script.specs.Script.{stage}
-use Rattle.dbm_lines.specs.Lines.{lines_left}
+use Rattle.dbm_script.specs.LineInput.{lines_left}
 use Rattle.dbm_session.proofs.Turns.{AllProgress}
 use Rattle.dbm_session.proofs.running.run_session.Given as goal
 

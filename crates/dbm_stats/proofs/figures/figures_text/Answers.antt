@@ -1,6 +1,6 @@
 use Rattle.std.proofs.Common.{◌≡◌, ◌++◌, ℕ, List, ap, ◌∙◌}
 use Rattle.std.specs.List.{flat_map}
-use Rattle.sdbm_stats.specs.declared.fullest.PageRoom.{PageRoom}
+use Rattle.dbm_stats.specs.declared.fullest.PageRoom.{PageRoom}
 use Rattle.dbm_stats.specs.Figures.{bar_rows, full_row}
 use Rattle.dbm_stats.proofs.RowLemmas.{seven_parts}
 use Rattle.dbm_stats.proofs.figures.figures_text.Goals as goal

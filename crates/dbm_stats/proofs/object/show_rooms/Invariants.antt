@@ -1,6 +1,6 @@
 use Rattle.std.proofs.Common.{◌≡◌, ◌∷◌, take}
 use Rattle.std.specs.List.{flat_map}
-use Rattle.sdbm_stats.specs.declared.fullest.PageRoom.{PageRoom}
+use Rattle.dbm_stats.specs.declared.fullest.PageRoom.{PageRoom}
 use Rattle.dbm_stats.specs.Figures.{room_object}
 use Rattle.dbm_stats.proofs.object.show_rooms.Given as goal
 

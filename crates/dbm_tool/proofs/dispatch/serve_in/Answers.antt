@@ -1,20 +1,21 @@
 use Rattle.std.proofs.Common.{refl}
-use Rattle.dbm_dumps.specs.Dump.{dump_in}
-use Rattle.dbm_dumps.specs.Load.{load_in}
-use Rattle.dbm_listings.specs.Check.{check_in}
-use Rattle.dbm_listings.specs.Keys.{keys_in}
-use Rattle.dbm_listings.specs.List.{list_in}
-use Rattle.dbm_listings.specs.Stats.{stats_in}
-use Rattle.dbm_pairs.specs.Delete.{delete_in}
-use Rattle.dbm_pairs.specs.Fetch.{fetch_in}
-use Rattle.dbm_pairs.specs.Store.{store_in}
+use Rattle.dbm_dump.specs.Dump.{dump_in}
+use Rattle.dbm_dump.specs.Load.{load_in}
+use Rattle.dbm_databases.specs.Count.{count_in}
+use Rattle.dbm_databases.specs.Check.{check_in}
+use Rattle.dbm_databases.specs.Keys.{keys_in}
+use Rattle.dbm_databases.specs.List.{list_in}
+use Rattle.dbm_databases.specs.Stats.{stats_in}
+use Rattle.dbm_records.specs.Delete.{delete_in}
+use Rattle.dbm_records.specs.Fetch.{fetch_in}
+use Rattle.dbm_records.specs.Store.{store_in}
 use Rattle.dbm_programs.specs.Asm.{asm_in}
 use Rattle.dbm_programs.specs.Disasm.{disasm_in}
 use Rattle.dbm_programs.specs.Verify.{verify_in}
-use Rattle.dbm_pairs.specs.Rename.{rename_in}
-use Rattle.dbm_runs.specs.Run.{run_in}
-use Rattle.dbm_scripts.specs.Script.{script_in}
-use Rattle.dbm_scripts.specs.Widen.{widen_in}
+use Rattle.dbm_records.specs.Rename.{rename_in}
+use Rattle.dbm_records.specs.Run.{run_in}
+use Rattle.dbm_databases.specs.Script.{script_in}
+use Rattle.dbm_databases.specs.Widen.{widen_in}
 use Rattle.dbm_tool.specs.Services.{batch_in}
 use Rattle.dbm_tool.proofs.Turns.{batched, dumped, reported}
 use Rattle.dbm_tool.proofs.dispatch.serve_in.Goals as goal
@@ -40,6 +41,9 @@ returns-in-List g c = rw (c.in-List.is) (reported (list_in c.args.n.now c.in-Lis
 pub returns-in-Keys : goal.returns-in-Keys
 returns-in-Keys g c = rw (c.in-Keys.is) (reported (keys_in c.args.n.now c.in-Keys.keys c.args.given.now) _ _ _ _ _ _ c.serve-in-Keys.result c.outcome_of-in-Keys.result c.outcome_of-in-Keys.ensures c.serve-in-Keys.ensures.ok c.serve-in-Keys.ensures.fault c.serve-in-Keys.ensures.database (λ _. refl))
 
+pub returns-in-Count : goal.returns-in-Count
+returns-in-Count g c = rw (c.in-Count.is) (reported (count_in c.args.n.now c.in-Count.count c.args.given.now) _ _ _ _ _ _ c.serve-in-Count.result c.outcome_of-in-Count.result c.outcome_of-in-Count.ensures c.serve-in-Count.ensures.ok c.serve-in-Count.ensures.fault c.serve-in-Count.ensures.database c.serve-in-Count.ensures.unread)
+
 pub returns-in-Check : goal.returns-in-Check
 returns-in-Check g c = rw (c.in-Check.is) (reported (check_in c.in-Check.check c.args.given.now) _ _ _ _ _ _ c.serve-in-Check.result c.outcome_of-in-Check.result c.outcome_of-in-Check.ensures c.serve-in-Check.ensures.ok c.serve-in-Check.ensures.fault c.serve-in-Check.ensures.database c.serve-in-Check.ensures.unread)
 
@@ -53,10 +57,10 @@ pub returns-in-Widen : goal.returns-in-Widen
 returns-in-Widen g c = rw (c.in-Widen.is) (reported (widen_in c.in-Widen.widen c.args.given.now) _ _ _ _ _ _ c.serve-in-Widen.result c.outcome_of-in-Widen.result c.outcome_of-in-Widen.ensures c.serve-in-Widen.ensures.ok c.serve-in-Widen.ensures.fault c.serve-in-Widen.ensures.database c.serve-in-Widen.ensures.unread)
 
 pub returns-in-Dump : goal.returns-in-Dump
-returns-in-Dump g c = rw (c.in-Dump.is) (dumped (dump_in c.in-Dump.dump c.args.given.now) _ _ _ _ _ _ c.serve-in-Dump.result c.outcome_of_dump.result c.outcome_of_dump.ensures c.serve-in-Dump.ensures.ok c.serve-in-Dump.ensures.fault c.serve-in-Dump.ensures.database c.serve-in-Dump.ensures.unread)
+returns-in-Dump g c = rw (c.in-Dump.is) (dumped (dump_in c.in-Dump.dump c.args.given.now) _ _ _ _ _ _ c.serve-in-Dump.result c.outcome_of-in-Dump.result c.outcome_of-in-Dump.ensures c.serve-in-Dump.ensures.ok c.serve-in-Dump.ensures.fault c.serve-in-Dump.ensures.database c.serve-in-Dump.ensures.unread)
 
 pub returns-in-Load : goal.returns-in-Load
-returns-in-Load g c = rw (c.in-Load.is) (dumped (load_in c.in-Load.load c.args.given.now (g.R.Read.remaining c.args.reader.now)) _ _ _ _ _ _ c.serve-in-Load.result c.outcome_of_dump-in-Load.result c.outcome_of_dump-in-Load.ensures c.serve-in-Load.ensures.ok c.serve-in-Load.ensures.fault c.serve-in-Load.ensures.database c.serve-in-Load.ensures.unread)
+returns-in-Load g c = rw (c.in-Load.is) (dumped (load_in c.in-Load.load c.args.given.now (g.R.Read.remaining c.args.reader.now)) _ _ _ _ _ _ c.serve-in-Load.result c.outcome_of-in-Load.result c.outcome_of-in-Load.ensures c.serve-in-Load.ensures.ok c.serve-in-Load.ensures.fault c.serve-in-Load.ensures.database c.serve-in-Load.ensures.unread)
 
 pub returns-in-Asm : goal.returns-in-Asm
 returns-in-Asm g c = rw (c.in-Asm.is) (reported (asm_in c.args.given.now) _ _ _ _ _ _ c.serve-in-Asm.result c.outcome_of-in-Asm.result c.outcome_of-in-Asm.ensures c.serve-in-Asm.ensures.ok c.serve-in-Asm.ensures.fault c.serve-in-Asm.ensures.database c.serve-in-Asm.ensures.unread)
@@ -70,4 +74,4 @@ returns-in-Verify g c = rw (c.in-Verify.is) (reported (verify_in c.in-Verify.ver
 pub returns-in-Batch : goal.returns-in-Batch
 returns-in-Batch g c =
     rw (c.in-Batch.is)
-    (batched (batch_in c.args.n.now c.in-Batch.asked c.args.given.now (g.R.Read.remaining c.args.reader.now)) _ _ _ _ _ c.serve_batch.result c.outcome_of_batch.result c.outcome_of_batch.ensures c.serve_batch.ensures.ok c.serve_batch.ensures.fault c.serve_batch.ensures.database)
+    (batched (batch_in c.args.n.now c.in-Batch.asked c.args.given.now (g.R.Read.remaining c.args.reader.now)) _ _ _ _ _ c.serve_batch.result c.outcome_of-in-Batch.result c.outcome_of-in-Batch.ensures c.serve_batch.ensures.ok c.serve_batch.ensures.fault c.serve_batch.ensures.database)

@@ -11,9 +11,3 @@ returns-clause-unread g c = c.serve_wish.ensures.unread
 
 pub returns-clause-database : goal.returns-clause-database
 returns-clause-database g c = c.serve_wish.ensures.database
-
-pub returns-clause-status : goal.returns-clause-status
-returns-clause-status g c = c.serve_wish.ensures.status
-
-pub returns-clause-none : goal.returns-clause-none
-returns-clause-none g c = c.serve_wish.ensures.none

@@ -1,0 +1,76 @@
+//! The values of options that several subcommands take.
+ghost use Rattle.std.specs.Prelude.{◌≡◌};
+ghost use Rattle.dbm_args.specs.Heads.{head_on};
+
+/// The format of a database's files, from `--unsigned` and `--wide`.
+#[derive(Clone, Copy, Debug)]
+pub struct Form {
+    /// The hash treats the bytes of keys as unsigned.
+    pub unsigned: bool,
+    /// Pages have 8,192 bytes.
+    pub wide: bool,
+}
+
+/// The notation of bytes in arguments and lines, from `--text` and `--as`.
+#[derive(Clone, Copy, Debug)]
+pub struct NotationOptions<'a> {
+    /// Bytes are text, not hex.
+    pub text: bool,
+    /// The layout of printed values; all other bytes are text.
+    pub layout: Option<&'a str>,
+}
+
+/// What a subcommand needs beside its own words: its files, and the notation of its bytes.
+#[derive(Clone, Copy)]
+pub struct Head<'a> {
+    /// The database whose files are read.
+    pub base: Option<&'a str>,
+    /// The program's file, which is read too.
+    pub file: Option<&'a str>,
+    /// The program's file is an image and not a text.
+    pub image: bool,
+    /// The files of the database are written after it, even if nothing has changed.
+    pub writes: bool,
+    /// The notation of the bytes in its words and lines.
+    pub notation: NotationOptions<'a>,
+}
+
+impl<'a> Head<'a> {
+    /// The head of a subcommand that reads a database, if any, and whose words and lines have no bytes.
+    pub fn on(base: Option<&'a str>) -> Head<'a>
+        ensures { result ≡ head_on base.entry }
+    {
+        Head {
+            base,
+            file: None,
+            image: false,
+            writes: false,
+            notation: NotationOptions {
+                text: false,
+                layout: None,
+            },
+        }
+    }
+}
+
+/// How to open a database's files, from `--timeout`, `--must-exist`, `--quick`, `--verbose` and `--insist`.
+#[derive(Clone, Copy)]
+pub struct Access<'a> {
+    /// The longest wait for the lock, in seconds. Without it the wait has no limit.
+    pub timeout: Option<&'a str>,
+    /// A missing database is an error; it is not created.
+    pub must_exist: bool,
+    /// Reads only the page of the key.
+    pub quick: bool,
+    /// Reports who holds the lock if the command has to wait for it.
+    pub verbose: bool,
+    /// Opens files as wide even if their pages look small.
+    pub insist: bool,
+}
+
+/// The unit of a time of day, which counts from the beginning of 1970 in UTC.
+#[derive(Clone, Copy)]
+pub enum TimeUnit {
+    Seconds,
+    Milliseconds,
+}

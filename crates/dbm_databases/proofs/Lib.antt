@@ -1,0 +1,5 @@
+pub mod PairLines
+pub mod Streams
+pub mod BadLines
+pub mod Faults
+pub mod Played

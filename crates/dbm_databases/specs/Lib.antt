@@ -1,0 +1,11 @@
+pub mod Rows
+pub mod Listings
+pub mod List
+pub mod Keys
+pub mod Count
+pub mod Check
+pub mod Stats
+pub mod Streams
+pub mod Playing
+pub mod Script
+pub mod Widen

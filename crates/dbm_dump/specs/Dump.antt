@@ -1,0 +1,44 @@
+-- The arguments of `dump`, its results and its errors.
+use Rattle.std.specs.Prelude.{◌≡◌, List, ◌∷◌, Option, Some, None, codes, IsSomeAnd}
+use Rattle.std.specs.FinMap as map
+use Rattle.clap.specs.Words.{Shape, Row}
+use Rattle.sdbm_addr.specs.Database.{Database, map_of}
+use Rattle.dbm_args.specs.CommandLine.{required_word, valued_option, subcommand, reading_options}
+use Rattle.dbm_args.specs.Given.{IsForm, IsGiven, IsWord}
+use Rattle.dbm_dump.specs.Formats.{format_of}
+use Rattle.dbm_dump.specs.Texts.{dump_text}
+use Rattle.dbm_dump.specs.declared.format.Format.{Format}
+use Rattle.dbm_reports.specs.Causes.{opening_causes}
+use Rattle.dbm_reports.specs.Reports.{OnDatabase, Prints}
+use Rattle.dbm_reports.specs.declared.databases.Given.{Given}
+use Rattle.dbm_reports.specs.declared.report.Report.{Report}
+use Rattle.dbm_args.specs.declared.options.Form.{Form}
+use Rattle.dbm_dump.specs.Causes.{DumpCauses, DumpKnown, bad_format, no_dump}
+use Rattle.dbm_dump.specs.declared.dump.Dump.{Dump}
+use Rattle.dbm_args.specs.Heads.{head_on}
+use Rattle.dbm_args.specs.declared.options.Head.{Head}
+
+abbrev pub dump : Shape
+dump = subcommand (codes "dump") (required_word (codes "BASE") ∷ valued_option (codes "format") ∷ reading_options)
+
+abbrev pub DumpAsks : List Row → Dump → Type 0
+DumpAsks rows dump = IsWord (codes "BASE") rows dump.base × (IsForm rows dump.form × IsGiven (codes "format") rows dump.format)
+
+-- all pairs, sorted by their keys
+abbrev pub Dumps : Format → Report → Database → Type 0
+Dumps format report db = Prints (dump_text format db.kind db.size (map.entries (map_of db))) report
+
+-- the format name is checked before the files are opened
+abbrev pub dump_causes : Option Format → Form → Given → DumpCauses
+dump_causes None form given = bad_format
+dump_causes (Some format) form given = no_dump (opening_causes form given)
+
+abbrev pub dump_in : Dump → Given → DumpKnown
+dump_in dump given = record {
+  reports = λ report. IsSomeAnd (format_of dump.format) (λ format. OnDatabase dump.form given (Dumps format report));
+  causes = dump_causes (format_of dump.format) dump.form given;
+}
+
+-- what it needs beside its own words
+abbrev pub dump_head : Dump → Head
+dump_head dump = head_on (Some dump.base)

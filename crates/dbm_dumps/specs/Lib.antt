@@ -1,4 +1,0 @@
-pub mod Backup
-pub mod Causes
-pub mod Dump
-pub mod Load

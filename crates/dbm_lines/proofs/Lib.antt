@@ -1,2 +1,0 @@
-pub mod CutTexts
-pub mod LinesGiven

@@ -1,2 +1,0 @@
-pub mod PairLines
-pub mod Streams

@@ -1,0 +1,10 @@
+pub mod Commands
+pub mod Fetch
+pub mod Store
+pub mod Delete
+pub mod Rename
+pub mod Running
+pub mod Run
+pub mod Batch
+pub mod PageRequests
+pub mod PageResults

@@ -1,0 +1,26 @@
+//! The subcommands of one record: `fetch`, `store`, `delete`, `rename` and `run`, and the words of `batch`. `answer_on_page` serves them from
+//! the page of their key, so that the rest of the files stays unread.
+#![tactic(auto)]
+
+mod batch;
+mod command;
+mod delete;
+mod fetch;
+mod page_request;
+mod page_result;
+mod rename;
+mod renaming;
+mod run;
+mod running;
+mod store;
+
+pub use batch::{Batch, EACH_CORE, batch_command};
+pub use command::command_in;
+pub use delete::{Delete, delete_command};
+pub use fetch::{Fetch, fetch_command, look_as};
+pub use page_request::{PageRequest, delete_request, fetch_request, run_request, store_request};
+pub use page_result::{PageResult, answer_on_page};
+pub use rename::{Rename, rename_command};
+pub use run::{Run, run_command, run_words};
+pub use running::{database_and_image, run_image};
+pub use store::{Store, store_command, store_name, takes_input};

@@ -1,0 +1,76 @@
+//! The result of a command on the page of its key, and the plan that saves it.
+ghost use Rattle.std.specs.Prelude.{◌≡◌, ◌%◌, ℕ, List, length, IfSome};
+ghost use Rattle.sdbm_addr.specs.Pairs.{page_bytes};
+ghost use Rattle.sdbm_saves.specs.Redo.{IsPlan, Knows};
+ghost use Rattle.sdbm_saves.specs.Parts.{IsReadSo};
+ghost use Rattle.dbm_records.specs.PageRequests.{IsKeyed, key_in};
+ghost use Rattle.dbm_records.specs.PageResults.{IsPageResult};
+
+use crate::page_request::PageRequest;
+use dbm_reports::{Notes, Report};
+use dbm_script::Notation;
+use sdbm_addr::{KeyBytes, PageSize};
+use sdbm_saves::Part;
+use std::alloc::Global;
+use store_parts::{open_part, plan_after};
+
+/// The result of a command on the page of its key.
+#[derive(Drop)]
+pub struct PageResult {
+    /// The text to print.
+    pub text: Vec<u8>,
+    /// The exit status.
+    pub status: u8,
+    /// What notes say of it.
+    pub notes: Notes,
+    /// The numbers of the pages that the plan may write. In the file, all of them except the page that was read have to be zeros.
+    pub numbers: Vec<u32>,
+    /// The plan that saves it, if the files have to change.
+    pub plan: Option<Vec<u8>>,
+}
+
+/// Serves a command from the page of its key and plans its save. Returns `None` if that page is not enough: the caller then has to read the
+/// whole files. This happens if the directory or the page is invalid or not as a save leaves it, if the key leads to another page, if the
+/// last page of the file would become empty, if `.pag` would exceed `PAG_LIMIT`, or if allocation fails.
+pub fn answer_on_page(
+    alloc: Global,
+    notation: &Notation<Global>,
+    asked: PageRequest,
+    part: Part<'_>,
+    kind: KeyBytes,
+    size: PageSize,
+) -> Option<PageResult>
+    requires keyed { IsKeyed asked }
+    requires page { length part.page.now ≡ page_bytes size }
+    requires whole { part.len % page_bytes size ≡ 0 }
+    ensures same { IfSome result (IsPageResult notation.now asked part.entry kind size) }
+    ensures plan { IfSome result (λ quick. IfSome quick.plan (λ plan. IsPlan plan.items × ((pag : List ℕ) → IsReadSo part.entry quick.numbers.items size pag → Knows plan.items (pag, part.entry.directory.now)))) }
+{
+    let image = open_part(alloc, asked.key(), part, kind, size)?;
+    let Ok(report) = asked.answer(alloc, notation, image) else {
+        return None;
+    };
+    let Report {
+        text,
+        status,
+        database,
+        notes,
+    } = report;
+    let Some(after) = database else {
+        return Some(PageResult {
+            text,
+            status,
+            notes,
+            numbers: Vec::new(alloc),
+            plan: None,
+        });
+    };
+    let (numbers, plan) = plan_after(alloc, part, &after)?;
+    Some(PageResult {
+        text,
+        status,
+        notes,
+        numbers,
+        plan,
+    })
+}

@@ -1,0 +1,35 @@
+//! What a report says beside its text.
+ghost use Rattle.std.specs.Prelude.{◌≡◌, false};
+
+use dbm_script::BadLines;
+
+/// What a report says beside its text, for the notes on standard error. Whoever makes the report knows it; no clause depends on it.
+#[derive(Clone, Copy, Debug, PartialEq, Eq)]
+pub struct Notes {
+    /// The lines of a script that are not commands.
+    pub bad_lines: BadLines,
+    /// The verifier refuses the program that was to run.
+    pub refuses_program: bool,
+}
+
+impl Notes {
+    /// Nothing to note.
+    pub fn none() -> Notes
+        ensures { result ≡ record { bad_lines = record { first = 0; count = 0 }; refuses_program = false } }
+    {
+        Notes {
+            bad_lines: BadLines::none(),
+            refuses_program: false,
+        }
+    }
+
+    /// Only bad lines.
+    pub fn of_lines(bad_lines: BadLines) -> Notes
+        ensures { result ≡ record { bad_lines = bad_lines; refuses_program = false } }
+    {
+        Notes {
+            bad_lines,
+            refuses_program: false,
+        }
+    }
+}

@@ -1,0 +1,59 @@
+//! Counts the lines of a script that are not commands.
+ghost use Rattle.std.specs.Prelude.{◌≡◌, true};
+
+/// The lines of a script that are not commands, such as a misspelled one. They are answered by `bad line`.
+#[derive(Clone, Copy, Debug, PartialEq, Eq)]
+pub struct BadLines {
+    /// The number of the first, from 1 on, or 0 if there is none.
+    pub first: u64,
+    pub count: u64,
+}
+
+impl BadLines {
+    /// No bad lines.
+    pub fn none() -> BadLines
+        ensures { result ≡ record { first = 0; count = 0 } }
+    {
+        BadLines { first: 0, count: 0 }
+    }
+}
+
+/// The position in a script, and the bad lines before it.
+#[derive(Clone, Copy, Debug)]
+pub struct LineCount {
+    lines: u64,
+    bad: BadLines,
+}
+
+impl LineCount {
+    /// The beginning of a script.
+    pub fn new() -> LineCount
+        ensures { result.bad ≡ record { first = 0; count = 0 } }
+    {
+        LineCount {
+            lines: 0,
+            bad: BadLines::none(),
+        }
+    }
+
+    /// Counts the next line, which is a command or not.
+    pub fn add(&mut self, is_command: bool)
+        ensures command { is_command ≡ true → self.new.bad ≡ self.old.bad }
+    {
+        self.lines = self.lines.saturating_add(1);
+        if is_command {
+            return;
+        }
+        if self.bad.count == 0 {
+            self.bad.first = self.lines;
+        }
+        self.bad.count = self.bad.count.saturating_add(1);
+    }
+
+    /// The bad lines so far.
+    pub fn bad_lines(&self) -> BadLines
+        ensures { result ≡ self.now.bad }
+    {
+        self.bad
+    }
+}

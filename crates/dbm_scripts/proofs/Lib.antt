@@ -1,3 +1,0 @@
-pub mod BadLines
-pub mod Faults
-pub mod Played

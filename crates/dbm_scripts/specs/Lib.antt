@@ -1,3 +1,0 @@
-pub mod Playing
-pub mod Script
-pub mod Widen

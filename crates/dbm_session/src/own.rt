@@ -1,0 +1,120 @@
+//! The lines of a session that scripts do not have.
+
+ghost use Rattle.std.specs.Prelude.{◌≡◌, IfOk, IfSome, codes, nat_eq, true};
+ghost use Rattle.std.specs.List.{starts_with};
+
+use dbm_databases::{Shown, show_listing};
+use dbm_reports::{ReportFault, text_image};
+use dbm_script::Notation;
+use sdbm_files::Image;
+use std::alloc::{AllocError, Global};
+
+const HELP: &[u8] = b"\
+get KEY              put KEY VALUE       del KEY
+insert KEY VALUE     count               save
+program IMAGE        run KEY PROG ARG BLANK NOW
+.list [PREFIX]       .keys [PREFIX]      .stats
+.program FILE        .program @NAME       .help
+The end of the input, Ctrl-D at a terminal, saves and ends the session.
+";
+
+/// A line that scripts do not have.
+#[derive(Clone, Copy)]
+pub enum OwnLine<'a> {
+    /// Requests a text about the database.
+    Shows(Shown<'a>),
+    /// Requests the list of lines.
+    Help,
+    /// Requests a number for the program in the file of this name.
+    Program(&'a [u8]),
+    /// An invalid line.
+    Bad,
+}
+
+/// Reads such a line. A prefix is the word after its name.
+pub fn read_own(line: &[u8]) -> OwnLine<'_> {
+    if line == b"help".as_slice() || line == b".help".as_slice() {
+        return OwnLine::Help;
+    }
+    if line == b".stats".as_slice() {
+        return OwnLine::Shows(Shown::Stats);
+    }
+    if line == b".list".as_slice() {
+        return OwnLine::Shows(Shown::Pairs(None));
+    }
+    if line == b".keys".as_slice() {
+        return OwnLine::Shows(Shown::Keys(None));
+    }
+    if let Some(word) = line.strip_prefix(b".list ") {
+        return OwnLine::Shows(Shown::Pairs(Some(word)));
+    }
+    if let Some(word) = line.strip_prefix(b".keys ") {
+        return OwnLine::Shows(Shown::Keys(Some(word)));
+    }
+    match line.strip_prefix(b".program ") {
+        Some(name) => OwnLine::Program(name),
+        None => OwnLine::Bad,
+    }
+}
+
+/// Appends the answer to such a line to `text`. An invalid line is answered `bad line`, as in a script.
+///
+/// # Errors
+/// `AllocError` if allocation fails.
+pub fn show_own(
+    alloc: Global,
+    notation: &Notation<Global>,
+    image: &Image<Global>,
+    line: OwnLine<'_>,
+    text: &mut Vec<u8>,
+) -> Result<(), AllocError> {
+    let is_shown = match line {
+        OwnLine::Shows(shown) => show_listing(alloc, notation, image, shown, text)?,
+        OwnLine::Help => {
+            text.extend_from_slice(HELP)?;
+            true
+        }
+        OwnLine::Program(_) | OwnLine::Bad => false,
+    };
+    if !is_shown {
+        text.extend_from_slice(b"bad line\n")?;
+    }
+    Ok(())
+}
+
+/// The line of a script that submits the program in `file`. Returns `None` if the text is not a program; a line appended to `text` then
+/// names the fault. A text without instructions is an empty program, which the verifier refuses.
+///
+/// # Errors
+/// `AllocError` if allocation fails.
+pub fn program_line(
+    alloc: Global,
+    file: &[u8],
+    text: &mut Vec<u8>,
+) -> Result<Option<Vec<u8>>, AllocError>
+    ensures { IfOk result (λ line. IfSome line (λ full. starts_with nat_eq full.items (codes "program ") ≡ true)) }
+{
+    let image = match text_image(alloc, file) {
+        Ok(image) => image,
+        Err(ReportFault::NoMemory) => return Err(AllocError),
+        Err(fault) => {
+            show_fault(alloc, fault, text)?;
+            return Ok(None);
+        }
+    };
+    let mut line = Vec::new(alloc);
+    line.extend_from_slice(b"program ")?;
+    if image.is_empty() {
+        line.push(b'.')?;
+        return Ok(Some(line));
+    }
+    let digits = hex::encode(alloc, image.as_slice())?;
+    line.extend_from_slice(digits.as_bytes())?;
+    Ok(Some(line))
+}
+
+// Appends the line that says why a program's text is refused.
+fn show_fault(alloc: Global, fault: ReportFault, text: &mut Vec<u8>) -> Result<(), AllocError> {
+    let line = format!(in alloc; "refused {fault}\n")?;
+    text.extend_from_slice(line.as_bytes())
+}

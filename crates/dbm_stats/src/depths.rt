@@ -1,0 +1,62 @@
+//! The depths of pages: the number of bits of a hash that lead to each.
+ghost use Rattle.std.specs.Prelude.{◌≡◌, ◌≤◌, ◌^◌, length, map as map_list};
+ghost use Rattle.dbm_stats.specs.Depths.{depths_of};
+
+use crate::totals::PageShape;
+
+/// The number of hash bits that lead to pages: the least, the greatest, and the sum over all pages. All are 0 if there is no page.
+#[derive(Clone, Copy, Debug, PartialEq, Eq)]
+pub struct Depths {
+    pub least: u8,
+    pub greatest: u8,
+    pub sum: u64,
+}
+
+/// The depths of pages.
+pub fn depths_of(shapes: &[PageShape]) -> Depths
+    requires { length shapes.now ≤ 2 ^ 32 }
+    ensures { result ≡ depths_of (map_list (λ (s : PageShape). s.depth) shapes.now) }
+{
+    Depths {
+        least: least(shapes),
+        greatest: greatest(shapes),
+        sum: sum(shapes),
+    }
+}
+
+// The least depth, or 0 if there is no page.
+fn least(shapes: &[PageShape]) -> u8
+    ensures { result ≡ (depths_of (map_list (λ (s : PageShape). s.depth) shapes.now)).least }
+{
+    let mut least = match shapes.first() {
+        Some(shape) => shape.depth,
+        None => 0,
+    };
+    for shape in shapes {
+        least = least.min(shape.depth);
+    }
+    least
+}
+
+// The greatest depth, or 0 if there is no page.
+fn greatest(shapes: &[PageShape]) -> u8
+    ensures { result ≡ (depths_of (map_list (λ (s : PageShape). s.depth) shapes.now)).greatest }
+{
+    let mut greatest = 0u8;
+    for shape in shapes {
+        greatest = greatest.max(shape.depth);
+    }
+    greatest
+}
+
+// The sum of the depths.
+fn sum(shapes: &[PageShape]) -> u64
+    requires { length shapes.now ≤ 2 ^ 32 }
+    ensures { result ≡ (depths_of (map_list (λ (s : PageShape). s.depth) shapes.now)).sum }
+{
+    let mut sum = 0;
+    for shape in shapes {
+        sum += shape.depth as u64;
+    }
+    sum
+}

@@ -1,0 +1,29 @@
+//! Notes on how the lines of a script or a batch end.
+
+use dbm_messages::{Sentence, half_line_note, line_end_note};
+use dbm_script::LineKind;
+
+/// The note on the first line of a text that ends in CR. Returns `None` if no line does. A comment in a script may end so.
+pub fn note_of_line_end(lines: LineKind, text: &[u8]) -> Option<Sentence<'static>> {
+    for (at, line) in text.split(|byte| *byte == b'\n').enumerate() {
+        let is_comment = lines == LineKind::OfScript && line.starts_with(b"#");
+        if line.ends_with(b"\r") && !is_comment {
+            return Some(line_end_note((at as u64).saturating_add(1)));
+        }
+    }
+    None
+}
+
+/// The note on the last line of a script or a batch that was run, if it has no LF after it. A comment in a script needs none.
+pub fn note_of_half_line(lines: LineKind, text: &[u8]) -> Option<Sentence<'static>> {
+    let mut count = 0u64;
+    let mut last = text;
+    for line in text.split(|byte| *byte == b'\n') {
+        count = count.saturating_add(1);
+        last = line;
+    }
+    if last.is_empty() || (lines == LineKind::OfScript && last.starts_with(b"#")) {
+        return None;
+    }
+    Some(half_line_note(count))
+}

@@ -1,0 +1,128 @@
+//! A run that waits for the lock of its database, and reports that.
+
+use crate::progress::{Work, tell_reading, tell_work};
+use crate::terminal::is_at_terminal;
+use dbm_files::{RunFiles, take_files};
+use dbm_messages::{holder_note, wait_note};
+use dbm_places::{FilesFault, RunPlace, locker_of, names_of, resolve};
+use std::fs::{self, File};
+use std::rt::Runtime;
+use std::time::{Clock, Duration};
+
+/// Milliseconds that a run waits before it reports that it waits.
+const SILENT_WAIT: u64 = 500;
+
+/// Does the same as `take_files`. If the run is verbose, or standard error is a terminal, it reports who holds the lock after a wait of
+/// half a second; otherwise it reports that at the end of a longer wait that failed. At a terminal it also reports that a command is slow
+/// on large files.
+///
+/// # Errors
+/// Those of `take_files`.
+pub fn take_and_tell<R: Runtime<File = File> + Clock + AllocGlobal>(
+    rt: &R,
+    place: RunPlace<'_>,
+    peeks: bool,
+    patience: Option<Duration>,
+    verbose: bool,
+    work: Option<Work>,
+) -> Result<RunFiles, FilesFault> {
+    tell_reading(rt, work, place.base);
+    let taken = take_patiently(rt, place, peeks, patience, verbose)?;
+    tell_work(rt, work, taken.bytes.pages.len() as u64);
+    Ok(taken)
+}
+
+// The same, without reports on the work.
+fn take_patiently<R: Runtime<File = File> + Clock + AllocGlobal>(
+    rt: &R,
+    place: RunPlace<'_>,
+    peeks: bool,
+    patience: Option<Duration>,
+    verbose: bool,
+) -> Result<RunFiles, FilesFault> {
+    let silent = Duration::from_millis(SILENT_WAIT);
+    let rest = match patience {
+        Some(patience) if patience <= silent => return take_files(rt, place, peeks, Some(patience)),
+        Some(patience) => Some(patience.saturating_sub(silent)),
+        None => None,
+    };
+    if !verbose && !is_at_terminal(rt) {
+        let taken = take_files(rt, place, peeks, patience);
+        if let Err(FilesFault::Locked) = &taken {
+            tell_holder(rt, place);
+        }
+        return taken;
+    }
+    match take_files(rt, place, peeks, Some(silent)) {
+        Err(FilesFault::Locked) => {
+            tell_wait(rt, place);
+            take_files(rt, place, peeks, rest)
+        }
+        taken => taken,
+    }
+}
+
+// Reports who holds the lock. Errors of standard error are ignored.
+fn tell_wait<R: Runtime<File = File> + AllocGlobal>(rt: &R, place: RunPlace<'_>) {
+    let Some(base) = place.base else {
+        return;
+    };
+    let Ok(base) = resolve(rt, base) else {
+        return;
+    };
+    let holder = holder_of(rt, base.as_str(), place.writes);
+    let name = match holder {
+        Some(process) => name_of(rt, process),
+        None => None,
+    };
+    let note = wait_note(base.as_str(), holder, name.as_ref());
+    let _ = eprintln!(rt; "dbm: note: {note}");
+}
+
+// Reports who holds the lock at the end of a wait without reports.
+fn tell_holder<R: Runtime<File = File> + AllocGlobal>(rt: &R, place: RunPlace<'_>) {
+    let Some(base) = place.base else {
+        return;
+    };
+    let Ok(base) = resolve(rt, base) else {
+        return;
+    };
+    let Some(process) = holder_of(rt, base.as_str(), place.writes) else {
+        return;
+    };
+    let name = name_of(rt, process);
+    let note = holder_note(base.as_str(), process, name.as_ref());
+    let _ = eprintln!(rt; "dbm: note: {note}");
+}
+
+// The number of the process that a run waits for, if the system reports it: one that has locked the files. If the run may write, first one
+// that has the base open to change it.
+fn holder_of<R: Runtime<File = File> + AllocGlobal>(
+    rt: &R,
+    base: &str,
+    writes: bool,
+) -> Option<u64> {
+    let names = names_of(rt.alloc(), base).ok()?;
+    if writes && let Some(writer) = seen_locker_of(rt, names.writer.as_str()) {
+        return Some(writer);
+    }
+    seen_locker_of(rt, names.lock.as_str())
+}
+
+// The number of the process that holds a lock, if this process can see it.
+fn seen_locker_of<R: Runtime<File = File> + AllocGlobal>(rt: &R, name: &str) -> Option<u64> {
+    match locker_of(rt, name)? {
+        0 => None,
+        process => Some(process),
+    }
+}
+
+// The name of a process.
+fn name_of<R: Runtime<File = File> + AllocGlobal>(rt: &R, process: u64) -> Option<String> {
+    let path = format!(in rt.alloc(); "/proc/{process}/comm").ok()?;
+    let mut name = fs::read_to_string(rt, path.as_str()).ok()?;
+    if name.as_str().ends_with('\n') {
+        let _ = name.pop();
+    }
+    Some(name)
+}

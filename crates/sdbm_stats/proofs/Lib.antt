@@ -1,4 +1,0 @@
-pub mod TotalsLemmas
-pub mod UsedPages
-pub mod SplitsLemmas
-pub mod ShapesLemmas

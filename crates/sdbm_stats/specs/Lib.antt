@@ -1,5 +1,0 @@
-pub mod Totals
-pub mod Shapes
-pub mod Depths
-pub mod Fullest
-pub mod Stats

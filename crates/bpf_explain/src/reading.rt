@@ -1,5 +1,6 @@
 //! The registers that an instruction reads, and its jump target.
 
+use bpf_helpers::{Helper, helper_of};
 use bpf_insn::{Insn, Op, Operand};
 
 // The register of an operand, if it is one.
@@ -32,12 +33,18 @@ pub fn registers_read(insn: Insn) -> [Option<u8>; 3] {
             [Some(base), None, None]
         }
         Insn::Store { base, src, .. } => both(base, Some(src)),
-        Insn::Call { helper: 1 } => [Some(1), None, None],
-        Insn::Call { helper: 5 } => [Some(1), Some(2), Some(3)],
+        Insn::Call { helper } => arguments_of(helper),
         Insn::Exit => [Some(0), None, None],
-        Insn::Call { .. } | Insn::Jump { .. } | Insn::JumpFar { .. } | Insn::Wide { .. } => {
-            [None, None, None]
-        }
+        Insn::Jump { .. } | Insn::JumpFar { .. } | Insn::Wide { .. } => [None, None, None],
+    }
+}
+
+// The registers in which a helper takes its arguments.
+fn arguments_of(helper: i32) -> [Option<u8>; 3] {
+    match helper_of(helper) {
+        Some(Helper::Reply) => [Some(1), None, None],
+        Some(Helper::Copy) => [Some(1), Some(2), Some(3)],
+        _ => [None, None, None],
     }
 }
 

@@ -6,6 +6,7 @@ use crate::moves::write_move;
 use crate::needs::write_need;
 use crate::reading::registers_read;
 use crate::structure::write_structure;
+use bpf_helpers::takes_number;
 use bpf_insn::Insn;
 use bpf_range::Kind;
 use bpf_verify::{State, VerifyFault};
@@ -87,7 +88,7 @@ fn write_call<A: Allocator>(
     insn: Insn,
     state: &State,
 ) -> Result<(), AllocError> {
-    if matches!(insn, Insn::Call { helper: 1 }) {
+    if is_reply(insn) {
         out.push_str("call 1 takes a number in r1; ")?;
         return write_fact(out, 1, state);
     }
@@ -99,6 +100,13 @@ fn write_call<A: Allocator>(
     }
     out.push_str("call 5 takes a number of at most 1024 in r3; ")?;
     write_fact(out, 3, state)
+}
+
+fn is_reply(insn: Insn) -> bool {
+    match insn {
+        Insn::Call { helper } => takes_number(helper),
+        _ => false,
+    }
 }
 
 fn is_pointer(kind: Kind) -> bool {

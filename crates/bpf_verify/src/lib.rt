@@ -7,10 +7,9 @@
 
 mod examined;
 mod fault;
-mod flat;
 mod judging;
 mod kinds;
-mod noted;
+mod ghost_states;
 mod pass;
 mod refused;
 mod structure;
@@ -22,7 +21,6 @@ pub use bpf_flow::State;
 pub use bpf_range::Kind;
 pub use examined::Examined;
 pub use fault::VerifyFault;
-pub use flat::Flat;
 pub use judging::{examine, verify};
 pub use refused::Refused;
 pub use table::States;

@@ -7,7 +7,7 @@ ghost use Rattle.bpf_flow.specs.States.{Fits};
 ghost use Rattle.bpf_verify.specs.States.{state_at};
 ghost use Rattle.bpf_verify.specs.Visits.{Joins, Keeps, Ready};
 
-use crate::noted::Noted;
+use crate::ghost_states::GhostStates;
 use crate::table::States;
 use bpf_flow::{State, join_states};
 use std::alloc::{AllocError, Allocator};
@@ -15,7 +15,7 @@ use std::alloc::{AllocError, Allocator};
 /// The states of a pass: all of them for clauses, and those that are kept, which are all or those of the units ahead.
 #[derive(Drop)]
 pub(crate) struct Pass<A: Allocator> {
-    pub(crate) noted: Noted,
+    pub(crate) noted: GhostStates,
     pub(crate) kept: States<A>,
 }
 
@@ -41,7 +41,7 @@ impl<A: Allocator + Copy> Pass<A> {
     {
         let kept = States::none(alloc, units)?;
         Ok(Pass {
-            noted: Noted::none(units),
+            noted: GhostStates::none(units),
             kept,
         })
     }

@@ -15,9 +15,9 @@ ghost use Rattle.bpf_verify.specs.Verified.{IsVerified, Starts};
 ghost use Rattle.bpf_verify.specs.Visits.{AreStates, Adds, ConsistentAt, Keeps, Ready, Settles, Visited, VisitedAt};
 
 use crate::fault::VerifyFault;
-use crate::flat::{Flat, flat_of, flat_plain};
+use bpf_flat::{Flat, flat_of, flat_plain};
 use crate::kinds::Kinds;
-use crate::noted::Noted;
+use crate::ghost_states::GhostStates;
 use crate::pass::Pass;
 use crate::table::States;
 use bpf_flow::{FlowFault, State, Way, flow, flow_branch};
@@ -198,7 +198,7 @@ fn visit<A: Allocator + Copy>(
 /// unit.
 #[derive(Drop)]
 pub(crate) struct Passed<A: Allocator> {
-    pub(crate) noted: Noted,
+    pub(crate) noted: GhostStates,
     pub(crate) kept: States<A>,
     pub(crate) flats: Vec<Flat, A>,
     pub(crate) kinds: Kinds<A>,

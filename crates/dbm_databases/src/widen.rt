@@ -72,7 +72,7 @@ pub fn widen_command<'a>(alloc: Global) -> Result<Command<'a>, AllocError>
     let about = "Rewrite a database with pages of 8,192 bytes instead of 1,024";
     let notes =
         "Prints ok N for a database of N pairs. Then open it with --wide; other programs for sdbm files\n\
-         cannot read it. There is no way back.\n\n\
+         cannot read it. To go back, dump it and load the dump without --wide.\n\n\
          Example: dbm widen users";
     subcommand(alloc, "widen", about, notes, args)
 }

@@ -82,7 +82,7 @@ pub fn dump_command<'a>(alloc: Global) -> Result<Command<'a>, AllocError>
         timeout(alloc),
         verbose(alloc),
     ]?;
-    let about = "Print all pairs as one text, which load can read";
+    let about = "Print all pairs as one text, for load or for another program";
     let notes =
         "Prints a header with the number of pairs, a line for each pair in hex, sorted by the bytes of the\n\
          keys, and the line end, so that load refuses a truncated text.\n\n\

@@ -20,9 +20,9 @@ report_fault reports.NoMemory = NoMemory
 report_fault fault = Report fault
 
 -- the fault of a dump
-abbrev pub dumps_fault : CopyFault → ServeFault
-dumps_fault (dumps.Report fault) = report_fault fault
-dumps_fault (dumps.Dump fault) = Dump fault
+abbrev pub copy_fault : CopyFault → ServeFault
+copy_fault (dumps.Report fault) = report_fault fault
+copy_fault (dumps.Dump fault) = Dump fault
 
 -- the fault of the lines of a batch
 abbrev pub tasks_fault : TasksFault → ServeFault

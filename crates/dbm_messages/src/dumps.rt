@@ -12,7 +12,7 @@ pub fn dump_sentence<'a>(words: &Words<'a>, fault: DumpFault) -> Option<Sentence
             "Line 1 is not the first line of a dump in this format: our own begins with \"boddurci dump 1\", and one of gdbm in ASCII with #. Lines end in LF. Nothing was changed.",
         )),
         DumpFault::BadDump(line) => Some(with_one(
-            "Line {} of the dump is invalid there: it is not a pair, the dump has more or fewer pairs than it says, or the line ends in CR. Nothing was changed.",
+            "Line {} of the dump is invalid in its place: it is not a pair, the dump has more or fewer pairs than it says, or the line ends in CR. Nothing was changed.",
             Part::Number(line),
         )),
         DumpFault::TooLarge(line, key) => Some(large_sentence(words.wide, line, key)),

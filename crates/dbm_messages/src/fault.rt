@@ -136,9 +136,9 @@ impl From<ReportFault> for ServeFault {
 }
 
 impl From<CopyFault> for ServeFault {
-    ghost use Rattle.dbm_messages.specs.Faults.{dumps_fault};
+    ghost use Rattle.dbm_messages.specs.Faults.{copy_fault};
 
-    ghost from_gives = { λ reason fault. fault ≡ dumps_fault reason };
+    ghost from_gives = { λ reason fault. fault ≡ copy_fault reason };
 
     fn from(fault: CopyFault) -> ServeFault {
         match fault {

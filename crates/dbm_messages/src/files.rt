@@ -36,7 +36,7 @@ pub fn finding_sentence<'a>(found: Finding<'a>) -> Sentence<'a> {
             name,
         ),
         Matter::Unsafe { owner, mode } => with_three(
-            "{} belongs to user {} and has mode 0{}, so another user may have planted it. If you trust that user, let that user run a command, which recovers it, or let root give it to the owner of .pag. Otherwise remove it.",
+            "{} belongs to user {} and has mode 0{}, so another user may have planted it. If you trust that user, let that user run a command that writes, which recovers it, or let root give it to the owner of .pag. Otherwise remove it.",
             name,
             Part::Number(u64::from(owner)),
             octal(mode),
@@ -92,7 +92,7 @@ pub fn redo_sentence<'a>(base: Option<&'a str>) -> Sentence<'a> {
 pub fn untaken_sentence<'a>(base: Option<&'a str>) -> Sentence<'a> {
     let base = base_part(base);
     with_three(
-        "{}.lock, {}.writer or {}.redo might have been planted by another user, but no longer. Try again.",
+        "{}.lock, {}.writer or {}.redo looked as if another user had planted it, and no longer does. Try again.",
         base,
         base,
         base,

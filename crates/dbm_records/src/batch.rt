@@ -96,7 +96,7 @@ fn workers_word<'a>(alloc: Global) -> Arg<'a>
     ensures local { result.global ≡ false }
 {
     let help =
-        "How many workers share the tasks, each in a thread of its own where one can be made, or cores: one for each core, as where no word stands";
+        "The number of workers that share the tasks, each with a thread if one can be made; or cores, the default, for one on each core";
     Arg::new(alloc, "WORKERS").help(help)
 }
 

@@ -62,7 +62,5 @@ fn page_shape<A: Allocator + Copy>(image: &Image<A>, number: u32, page: &SharedP
 fn filled<A: Allocator>(page: &Page<A>) -> u32
     ensures { result ≡ filled page.now.pairs }
 {
-    let totals = page_totals(page);
-    let bytes = 2 + 4 * totals.count + totals.key_bytes + totals.value_bytes;
-    bytes as u32
+    (page.page_size().bytes() - page.free()) as u32
 }

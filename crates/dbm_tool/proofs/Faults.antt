@@ -6,7 +6,7 @@ use Rattle.dbm_reports.specs.Causes.{IsCaused}
 use Rattle.dbm_reports.specs.Known.{layout_causes}
 use Rattle.dbm_reports.specs.declared.fault.ReportFault.{ReportFault}
 use Rattle.dbm_reports.specs.declared.fault.ReportFault.TheVariants as reports
-use Rattle.dbm_messages.specs.Faults.{dumps_fault, report_fault}
+use Rattle.dbm_messages.specs.Faults.{copy_fault, report_fault}
 use Rattle.dbm_dump.specs.Causes.{DumpKnown, HasDumpCause}
 use Rattle.dbm_dump.specs.declared.copy_fault.CopyFault.{CopyFault}
 use Rattle.dbm_dump.specs.declared.copy_fault.CopyFault.TheVariants as dumps
@@ -29,7 +29,7 @@ raised causes reports.OutputTooLong h = h
 raised causes reports.NoMemory h = tt
 
 -- a fault of `dump` or `load`
-pub raised_dump : (known : DumpKnown) (fault : CopyFault) → HasDumpCause known.causes fault → HasCause (dumping known).causes (dumps_fault fault)
+pub raised_dump : (known : DumpKnown) (fault : CopyFault) → HasDumpCause known.causes fault → HasCause (dumping known).causes (copy_fault fault)
 raised_dump known (dumps.Report fault) h = raised (dumping known).causes fault h
 raised_dump known (dumps.Dump fault) h = h
 

@@ -12,7 +12,7 @@ use Rattle.dbm_reports.specs.declared.serving.Unserved.{Unserved}
 use Rattle.dbm_reports.specs.declared.serving.Unserved.TheVariants as unserved
 use Rattle.dbm_dump.specs.Causes.{DumpKnown, HasDumpCause}
 use Rattle.dbm_dump.specs.declared.copy_fault.CopyFault.{CopyFault}
-use Rattle.dbm_messages.specs.Faults.{dumps_fault, report_fault}
+use Rattle.dbm_messages.specs.Faults.{copy_fault, report_fault}
 use Rattle.dbm_messages.specs.declared.fault.ServeFault.{ServeFault}
 use Rattle.dbm_messages.specs.declared.fault.ServeFault.TheVariants.{FileTooLong, Write}
 use Rattle.dbm_batches.specs.Causes.{HasCause}
@@ -58,12 +58,12 @@ reported known writes reads input left old new came outcome is ok err gives unre
     (turned (reporting known) writes reads input left old new report_fault (IsCaused known.causes) came (λ fault caused. raised (reporting known).causes fault caused) ok err gives unread)
 
 -- `dump` or `load`
-pub dumped : (known : DumpKnown) (writes reads : Bool) (input left old new : Option (List ℕ)) (came : Result Outcome (Unserved CopyFault)) (outcome : Result Outcome ServeFault) → outcome ≡ outcome_by dumps_fault came
+pub dumped : (known : DumpKnown) (writes reads : Bool) (input left old new : Option (List ℕ)) (came : Result Outcome (Unserved CopyFault)) (outcome : Result Outcome ServeFault) → outcome ≡ outcome_by copy_fault came
     → IfOk came (λ (served : Outcome). IsPrinted known.reports old new served.status served.database) → IfErr came (IsUnserved known.reports (HasDumpCause known.causes) old new)
     → IfOk came (λ (served : Outcome). is_some served.database ≡ writes) → (reads ≡ false → left ≡ input) → IsOutcome (dumping known) writes reads input left old new outcome
 dumped known writes reads input left old new came outcome is ok err gives unread =
     subst (λ (o : Result Outcome ServeFault). IsOutcome (dumping known) writes reads input left old new o) (sym is)
-    (turned (dumping known) writes reads input left old new dumps_fault (HasDumpCause known.causes) came (λ fault caused. raised_dump known fault caused) ok err gives unread)
+    (turned (dumping known) writes reads input left old new copy_fault (HasDumpCause known.causes) came (λ fault caused. raised_dump known fault caused) ok err gives unread)
 
 -- a batch, which reads standard input
 pub batched : (service : Service) (writes : Bool) (input left old new : Option (List ℕ)) (came : Result Outcome (Unserved ServeFault)) (outcome : Result Outcome ServeFault) → outcome ≡ outcome_by (λ fault. fault) came

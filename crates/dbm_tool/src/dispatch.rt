@@ -88,9 +88,9 @@ impl SubcommandFault for ReportFault {
 }
 
 impl SubcommandFault for CopyFault {
-    ghost use Rattle.dbm_messages.specs.Faults.{dumps_fault};
+    ghost use Rattle.dbm_messages.specs.Faults.{copy_fault};
 
-    ghost as_fault = { dumps_fault };
+    ghost as_fault = { copy_fault };
 
     fn into_fault(self) -> ServeFault {
         ServeFault::from(self)

@@ -9,7 +9,7 @@ use Rattle.hold_modes.specs.declared.modes.Hold.{Hold}
 use Rattle.hold_modes.specs.declared.modes.Hold.TheVariants.{Exclusive}
 use Rattle.hold_modes.specs.declared.modes.Ticket.{Ticket}
 use Rattle.hold_modes.specs.Held.{is_of, held_by, without, made_exclusive}
-use Rattle.hold_modes.specs.Taken.{held_of}
+use Rattle.hold_modes.specs.HoldQueue.{held_of}
 use Rattle.hold_modes.proofs.HeldLemmas.{eq_comm, or_false_l, or_false_r}
 
 -- testing the ticket of an entry is testing the ticket of the hold

@@ -5,14 +5,14 @@ ghost use Rattle.hold_modes.specs.Held.{bars, is_of, is_shared, is_updating, hel
 
 use crate::modes::{Busy, Held, Hold, Ticket};
 use crate::pages::Pages;
-use crate::taken::Taken;
+use crate::hold_queue::HoldQueue;
 use std::alloc::{AllocError, Allocator};
 use std::marker::Model;
 
 /// The same list as `Holds`, with an index that finds holds by ticket and by page without a search through the list.
 #[derive(Drop)]
 pub struct Indexed<A: Allocator> {
-    taken: Taken<A>,
+    taken: HoldQueue<A>,
     pages: Pages<A>,
 }
 
@@ -35,7 +35,7 @@ impl<A: Allocator + Copy> Indexed<A> {
         ensures { result ≡ [] }
     {
         Indexed {
-            taken: Taken::new(alloc),
+            taken: HoldQueue::new(alloc),
             pages: Pages::new(alloc),
         }
     }

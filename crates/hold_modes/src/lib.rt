@@ -6,7 +6,7 @@ pub mod holds;
 mod indexed;
 pub mod modes;
 mod pages;
-mod taken;
+mod hold_queue;
 mod uses;
 
 pub use holds::{HoldFault, Holds};

@@ -23,7 +23,7 @@ mod parsed;
 mod parts;
 mod reading;
 mod sink;
-mod told;
+mod ghost_bytes;
 mod widening;
 mod writing;
 

@@ -4,7 +4,7 @@ ghost use Rattle.sdbm_addr.specs.Pairs.{page_bytes};
 ghost use Rattle.sdbm_addr.specs.Files.{page_at};
 
 use crate::parsed::Parsed;
-use crate::told::Told;
+use crate::ghost_bytes::GhostBytes;
 use sdbm_addr::PageSize;
 use std::alloc::{AllocError, Allocator};
 use std::marker::Model;
@@ -22,7 +22,7 @@ pub struct ReadPages<A: Allocator> {
     pub(crate) len: usize,
     pub(crate) parsed: Parsed<A>,
     rest: Vec<u8, A>,
-    pub(crate) told: Told,
+    pub(crate) told: GhostBytes,
 }
 
 impl<A: Allocator> Model for ReadPages<A> {
@@ -48,7 +48,7 @@ impl<A: Allocator + Copy> ReadPages<A> {
             len: 0,
             parsed: Parsed::new(alloc),
             rest: Vec::new(alloc),
-            told: Told::none(),
+            told: GhostBytes::none(),
         }
     }
 

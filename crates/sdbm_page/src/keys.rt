@@ -6,7 +6,7 @@ ghost use Rattle.sdbm_page.specs.Keys.{AreInside, AreApart, IsKeyBefore};
 
 use crate::fields::key_in;
 use crate::layout::Layout;
-use crate::noted::Noted;
+use crate::key_filter::KeyFilter;
 use crate::sorted::are_apart_sorted;
 use sdbm_addr::PageSize;
 
@@ -58,7 +58,7 @@ fn are_apart_by_marks(bytes: &[u8], count: usize) -> Option<bool>
     requires { AreInside bytes.now count }
     ensures { IfSome result (λ told. IsTrue told ↔ AreApart bytes.now count) }
 {
-    let mut noted = Noted::new();
+    let mut noted = KeyFilter::new();
     let mut doubted = 0usize;
     for i in 0..count {
         if noted.note(key_in(bytes, i)) {

@@ -19,7 +19,7 @@ mod fields;
 mod held;
 mod keys;
 mod layout;
-mod noted;
+mod key_filter;
 mod shared;
 mod small;
 mod sorted;
@@ -48,6 +48,12 @@ pub enum PageFault {
     /// The bytes spell a page, but allocation fails.
     NoMemory,
 }
+
+/// The length in bytes of the count of offsets at the start of a page.
+pub const COUNT_BYTES: usize = 2;
+
+/// The length in bytes of the two offsets of a pair.
+pub const PAIR_OFFSETS: usize = 4;
 
 /// Returns `true` if the bytes, those of a page of the size, spell the page without pairs, like the zeros of a hole.
 pub fn spells_empty(bytes: &[u8], size: PageSize) -> bool
@@ -180,11 +186,36 @@ impl<A: Allocator> Page<A> {
     pub fn fits(&self, need: usize) -> bool
         ensures { IsTrue result ↔ (sum_by footprint self.now.pairs + need + 4 + 2 ≤ page_bytes self.now.size) }
     {
-        let room = self.low() - (4 * self.len() + 2);
-        if room < 4 {
+        let free = self.free();
+        if free < PAIR_OFFSETS {
             return false;
         }
-        need <= room - 4
+        need <= free - PAIR_OFFSETS
+    }
+
+    /// Like `fits`, in place of pair `i`, which must be below `len`.
+    pub fn fits_instead(&self, i: usize, need: usize) -> bool
+        requires { i < length self.now.pairs }
+        ensures { IsTrue result ↔ (sum_by footprint (remove self.now.pairs i) + need + 4 + 2 ≤ page_bytes self.now.size) }
+    {
+        need <= self.free() + self.taken(i) - PAIR_OFFSETS
+    }
+
+    /// The bytes that pair `i` takes on the page: its key, its value and its two offsets. Requires `i` below `len`.
+    pub fn taken(&self, i: usize) -> usize
+        requires { i < length self.now.pairs }
+        ensures taken { result ≡ footprint (key_at self.now.pairs i, value_at self.now.pairs i) }
+        ensures few { result ≤ 8190 }
+    {
+        let _laid = self.len();
+        self.key(i).len() + self.record(i).len() + PAIR_OFFSETS
+    }
+
+    /// The free bytes of the page: all except the count, the offsets and the pairs.
+    pub fn free(&self) -> usize
+        ensures { result + sum_by footprint self.now.pairs + 2 ≡ page_bytes self.now.size }
+    {
+        self.low() - (PAIR_OFFSETS * self.len() + COUNT_BYTES)
     }
 
     /// Appends a pair. It must fit on the page and be small enough, and its key must be absent.

@@ -5,7 +5,7 @@ ghost use Rattle.sdbm_saves.specs.declared.disk.DiskError.TheVariants.{Failed};
 ghost use Rattle.sdbm_saves.specs.Disk.{Image};
 ghost use Rattle.sdbm_saves.specs.Acts.{Act, write, resize, sync, clear, Notes};
 
-use crate::noted::Noted;
+use crate::ghost_image::GhostImage;
 use crate::{Disk, DiskError, File, Part, ReadFiles};
 use sdbm_addr::PageSize;
 use std::alloc::Global;
@@ -60,7 +60,7 @@ impl Before for FoundRead<'_> {
     ghost image = { read_image };
 }
 
-impl Before for Noted {
+impl Before for GhostImage {
     ghost image = { λ noted. noted.image };
 }
 

@@ -11,7 +11,7 @@ use sdbm_page::SharedPage;
 use std::alloc::Allocator;
 
 /// Stores a pair by changing its page in place. Returns `false` and leaves the page unchanged if the key of an insert exists, if the
-/// pair does not fit on the page together with the pairs of other keys, or if the page has another owner. The old pair of the key is
+/// pair does not fit on the page together with the pairs of other keys, or if the page has another owner, which is tested first. The old pair of the key is
 /// removed, and the new pair is the last one. The pair must be small enough for the page's size, and the page's keys distinct. Does not
 /// allocate.
 pub fn store_in_place<A: Allocator>(
@@ -26,6 +26,9 @@ pub fn store_in_place<A: Allocator>(
     ensures stored { result ≡ true → page.new ≡ with_stored page.old key.now value.now }
     ensures kept { result ≡ false → page.new ≡ page.old }
 {
+    if page.is_shared() {
+        return false;
+    }
     let own = page.page().find(key);
     if refuses(mode, own) {
         return false;

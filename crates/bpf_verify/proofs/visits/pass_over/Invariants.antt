@@ -1,7 +1,7 @@
 use Rattle.std.proofs.Common.{◌≡◌, ◌<◌, ◌≤◌, ◌+◌, ◌*◌, ℕ, length}
 use Rattle.std.specs.Prelude.{slice_index_or, vec_capacity}
 use Rattle.bpf_insn.specs.Code.{unit_count}
-use Rattle.bpf_verify.specs.declared.flat.Flat.TheVariants.{Other}
+use Rattle.bpf_flat.specs.declared.form.Flat.TheVariants.{Other}
 use Rattle.bpf_verify.specs.Flats.{StandsFor}
 use Rattle.bpf_verify.specs.Kinds.{AreRowsOf}
 use Rattle.bpf_verify.specs.Verified.{Starts}

@@ -7,9 +7,9 @@
 
 mod examined;
 mod fault;
+mod ghost_states;
 mod judging;
 mod kinds;
-mod ghost_states;
 mod pass;
 mod refused;
 mod structure;

@@ -15,11 +15,11 @@ ghost use Rattle.bpf_verify.specs.Verified.{IsVerified, Starts};
 ghost use Rattle.bpf_verify.specs.Visits.{AreStates, Adds, ConsistentAt, Keeps, Ready, Settles, Visited, VisitedAt};
 
 use crate::fault::VerifyFault;
-use bpf_flat::{Flat, flat_of, flat_plain};
-use crate::kinds::Kinds;
 use crate::ghost_states::GhostStates;
+use crate::kinds::Kinds;
 use crate::pass::Pass;
 use crate::table::States;
+use bpf_flat::{Flat, flat_of, flat_plain};
 use bpf_flow::{FlowFault, State, Way, flow, flow_branch};
 use bpf_insn::{Code, Insn, Operand, Test, Width};
 use std::alloc::{AllocError, Allocator};
@@ -197,7 +197,7 @@ fn visit<A: Allocator + Copy>(
 /// The result of a pass over a program: its states for clauses, the kept states, and the executable form and kinds of registers of each
 /// unit.
 #[derive(Drop)]
-pub(crate) struct Passed<A: Allocator> {
+pub(crate) struct PassResult<A: Allocator> {
     pub(crate) noted: GhostStates,
     pub(crate) kept: States<A>,
     pub(crate) flats: Vec<Flat, A>,
@@ -223,7 +223,7 @@ pub(crate) fn pass_over<A: Allocator + Copy>(
     alloc: A,
     code: &Code<A>,
     all: bool,
-) -> Result<Passed<A>, (VerifyFault, States<A>)>
+) -> Result<PassResult<A>, (VerifyFault, States<A>)>
     requires { IsBuilt code.now }
     ensures verified { IfOk result (λ p. IsVerified code.now p.noted.states) }
     ensures flats { IfOk result (λ p. AreFlats code.now p.noted.states p.flats.items) }
@@ -251,7 +251,7 @@ pub(crate) fn pass_over<A: Allocator + Copy>(
     }
     let Pass { noted, kept } = pass;
     kinds.shrink();
-    Ok(Passed {
+    Ok(PassResult {
         noted,
         kept,
         flats,

@@ -20,6 +20,6 @@ pub use count::{Count, count_command};
 pub use keys::{Keys, keys_command};
 pub use list::{List, list_command};
 pub use script::{Script, script_command};
-pub use shown::{Shown, show_listing};
+pub use shown::{ListingRequest, show_listing};
 pub use stats::{Stats, stats_command};
 pub use widen::{Widen, widen_command};

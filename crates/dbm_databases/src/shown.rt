@@ -8,7 +8,7 @@ use std::alloc::{AllocError, Global};
 
 /// A listing. A prefix is a word in its notation.
 #[derive(Clone, Copy)]
-pub enum Shown<'a> {
+pub enum ListingRequest<'a> {
     /// The output of `list`.
     Pairs(Option<&'a [u8]>),
     /// The output of `keys`.
@@ -25,13 +25,27 @@ pub fn show_listing(
     alloc: Global,
     notation: &Notation<Global>,
     image: &Image<Global>,
-    shown: Shown<'_>,
+    shown: ListingRequest<'_>,
     text: &mut Vec<u8>,
 ) -> Result<bool, AllocError> {
     match shown {
-        Shown::Pairs(prefix) => put_rows(alloc, notation, image, prefix, Listing::Pairs, text),
-        Shown::Keys(prefix) => put_rows(alloc, notation, image, prefix, Listing::Keys, text),
-        Shown::Stats => {
+        ListingRequest::Pairs(prefix) => put_rows(
+            alloc,
+            notation,
+            image,
+            prefix,
+            Listing::Pairs,
+            text,
+        ),
+        ListingRequest::Keys(prefix) => put_rows(
+            alloc,
+            notation,
+            image,
+            prefix,
+            Listing::Keys,
+            text,
+        ),
+        ListingRequest::Stats => {
             let stats = stats_of(alloc, image)?;
             let figures = figures_text(alloc, &stats)?;
             text.extend_from_slice(figures.as_slice())?;

@@ -1,7 +1,7 @@
 -- Crashes during a save of a database.
 use Rattle.std.proofs.Common.{◌≡◌, ◌⊎◌, inl, inr, ⊎_elim, ℕ, List, sym, ◌∙◌, ap, subst}
 use Rattle.sdbm_addr.specs.Database.{Database}
-use Rattle.sdbm_saves.specs.declared.disk.File.TheVariants.{Pages, Directory}
+use Rattle.sdbm_saves.specs.declared.disk.DiskFile.TheVariants.{Pages, Directory}
 use Rattle.sdbm_saves.specs.Disk.{Image, LeavesOnly}
 use Rattle.sdbm_saves.specs.Redo.{files, renewed, renewed_files}
 use Rattle.sdbm_saves.specs.Saves.{AreFilesFor, IsSaving}

@@ -1,7 +1,7 @@
 //! Saves a database in new files, under another name until they are complete.
 
 use crate::files::{RunFiles, take_files};
-use crate::saving::Saved;
+use crate::saving::SaveOutcome;
 use crate::writing::save_held;
 use dbm_places::{FilesFault, Names, RunPlace, folder_of, has_no_files, is_absent, make, names_of};
 use sdbm_files::{Image, PAG_LIMIT};
@@ -14,7 +14,7 @@ use std::time::{Clock, Duration};
 
 /// The outcome of a copy without a fault.
 #[derive(Clone, Copy, Debug, PartialEq, Eq)]
-pub enum Copied {
+pub enum CopyOutcome {
     /// Both files are complete and durable, and so are their names.
     Done,
     /// A file of the copy exists already, or a redo file with a committed save. Nothing was changed.
@@ -32,9 +32,9 @@ pub fn save_copy<R: Files<File = File> + Clock + AllocGlobal>(
     base: &str,
     mode: u32,
     image: &Image<Global>,
-) -> Result<Copied, FilesFault> {
+) -> Result<CopyOutcome, FilesFault> {
     if !has_no_files(rt, Some(base)) {
-        return Ok(Copied::Exists);
+        return Ok(CopyOutcome::Exists);
     }
     let names = names_of(rt.alloc(), base)?;
     let early_base = early_base_of(rt, base)?;
@@ -94,9 +94,9 @@ fn save_early<R: Files<File = File> + Clock + AllocGlobal>(
         directory: bytes.directory.as_slice(),
     };
     match save_held(rt, &held, &held.seen, old, image)? {
-        Saved::Whole => Ok(()),
-        Saved::Unchanged => synced(sync_both(rt, early)),
-        Saved::Pending => Err(FilesFault::WriteFile),
+        SaveOutcome::Whole => Ok(()),
+        SaveOutcome::Unchanged => synced(sync_both(rt, early)),
+        SaveOutcome::Pending => Err(FilesFault::WriteFile),
     }
 }
 
@@ -118,22 +118,22 @@ fn publish<R: Files<File = File>>(
     rt: &R,
     early: &Names,
     names: &Names,
-) -> Result<Copied, FilesFault> {
+) -> Result<CopyOutcome, FilesFault> {
     let (pages, directory) = (names.pages.as_str(), names.directory.as_str());
     if !give_name(rt, early.pages.as_str(), pages)? {
-        return Ok(Copied::Exists);
+        return Ok(CopyOutcome::Exists);
     }
     let given = give_name(rt, early.directory.as_str(), directory);
     if given != Ok(true) {
         let _ = fs::remove_file(rt, pages);
-        return given.map(|_| Copied::Exists);
+        return given.map(|_| CopyOutcome::Exists);
     }
     let outcome = synced(sync_folder(rt, pages));
     if outcome.is_err() {
         let _ = fs::remove_file(rt, directory);
         let _ = fs::remove_file(rt, pages);
     }
-    outcome.map(|_| Copied::Done)
+    outcome.map(|_| CopyOutcome::Done)
 }
 
 // Gives a file another name. Returns `false` if that name exists. If the file system has no hard links, the file is renamed.

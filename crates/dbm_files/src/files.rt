@@ -15,7 +15,7 @@ use dbm_places::{
 use sdbm_addr::PageSize;
 use sdbm_files::ReadPages;
 use sdbm_log::{LogFault, LogFiles, make_steps, plan_of, recover_steps};
-use sdbm_saves::{CallLog, Disk, File as Part, Found, Recorded, Unknown, number, plan_in};
+use sdbm_saves::{CallLog, Disk, DiskFile, Found, Recorded, Unknown, number, plan_in};
 use std::alloc::Global;
 use std::fs::{File, OpenFile};
 use std::io::{self, ErrorKind, Read};
@@ -446,7 +446,7 @@ fn lay_over(
     let new_pages = sdbm_saves::lay_over(
         alloc,
         plan.as_slice(),
-        Part::Pages,
+        DiskFile::Pages,
         old_pages.as_slice(),
     )?;
     drop(old_pages);
@@ -455,7 +455,7 @@ fn lay_over(
     let directory = sdbm_saves::lay_over(
         alloc,
         plan.as_slice(),
-        Part::Directory,
+        DiskFile::Directory,
         old_directory.as_slice(),
     )?;
     Ok(read_over(alloc, pages, directory))

@@ -7,7 +7,7 @@ use dbm_places::{
     FileId, Names, SeenFiles, Side, folder_of, is_like_pages, make, make_directory, make_redo,
     open_beside,
 };
-use sdbm_saves::{CallLog, DiskError, File as Part, Host};
+use sdbm_saves::{CallLog, DiskError, DiskFile, Host};
 use std::fs::{self, File, OpenFile, OpenOptions};
 use std::io::{self, ErrorKind};
 use std::os::unix::fs::FileExt;
@@ -16,11 +16,11 @@ use std::rt::Files;
 // The length of the header of a log, in bytes.
 const LOG_HEADER: usize = 4096;
 
-fn name_of(names: &Names, part: Part) -> &str {
+fn name_of(names: &Names, part: DiskFile) -> &str {
     match part {
-        Part::Pages => names.pages.as_str(),
-        Part::Directory => names.directory.as_str(),
-        Part::Redo => names.redo.as_str(),
+        DiskFile::Pages => names.pages.as_str(),
+        DiskFile::Directory => names.directory.as_str(),
+        DiskFile::Redo => names.redo.as_str(),
     }
 }
 
@@ -63,16 +63,16 @@ struct OpenFiles<'a, R: Files<File = File>> {
 }
 
 impl<'a, R: Files<File = File>> OpenFiles<'a, R> {
-    fn slot(&mut self, part: Part) -> &mut SaveFile {
+    fn slot(&mut self, part: DiskFile) -> &mut SaveFile {
         match part {
-            Part::Pages => &mut self.pages,
-            Part::Directory => &mut self.directory,
-            Part::Redo => &mut self.redo,
+            DiskFile::Pages => &mut self.pages,
+            DiskFile::Directory => &mut self.directory,
+            DiskFile::Redo => &mut self.redo,
         }
     }
 
     // Opens a file for writing if it is not open, and makes it if it is missing.
-    fn open(&mut self, part: Part) -> io::Result<&mut File> {
+    fn open(&mut self, part: DiskFile) -> io::Result<&mut File> {
         if self.slot(part).file.is_none() {
             let file = match self.open_there(part) {
                 Err(error) if error.kind() == ErrorKind::NotFound => self.make(part)?,
@@ -89,12 +89,12 @@ impl<'a, R: Files<File = File>> OpenFiles<'a, R> {
     }
 
     // Opens an existing file for writing.
-    fn open_there(&mut self, part: Part) -> io::Result<File> {
+    fn open_there(&mut self, part: DiskFile) -> io::Result<File> {
         let name = name_of(self.names, part);
         match part {
-            Part::Pages => return open_seen(self.rt, name, self.seen.pages),
-            Part::Directory => return open_seen(self.rt, name, self.seen.directory),
-            Part::Redo => (),
+            DiskFile::Pages => return open_seen(self.rt, name, self.seen.pages),
+            DiskFile::Directory => return open_seen(self.rt, name, self.seen.directory),
+            DiskFile::Redo => (),
         }
         if self.is_redo_stale {
             self.remove_redo()?;
@@ -107,14 +107,14 @@ impl<'a, R: Files<File = File>> OpenFiles<'a, R> {
     }
 
     // Makes a missing file.
-    fn make(&mut self, part: Part) -> io::Result<File> {
+    fn make(&mut self, part: DiskFile) -> io::Result<File> {
         self.is_folder_kept = false;
         let name = name_of(self.names, part);
         let pages = self.names.pages.as_str();
         match part {
-            Part::Redo => make_redo(self.rt, name, pages),
-            Part::Directory => make_directory(self.rt, name, pages),
-            Part::Pages => make(self.rt, name, 0o666),
+            DiskFile::Redo => make_redo(self.rt, name, pages),
+            DiskFile::Directory => make_directory(self.rt, name, pages),
+            DiskFile::Pages => make(self.rt, name, 0o666),
         }
     }
 
@@ -128,16 +128,16 @@ impl<'a, R: Files<File = File>> OpenFiles<'a, R> {
 
     // Writes bytes, if the file may become that long. Bytes after the header of a log are a record, and its plan has the new lengths of
     // both data files. These lengths must fit before the record is committed.
-    fn write_in(&mut self, part: Part, at: usize, bytes: &[u8]) -> io::Result<()> {
+    fn write_in(&mut self, part: DiskFile, at: usize, bytes: &[u8]) -> io::Result<()> {
         self.must_fit(at.saturating_add(bytes.len()))?;
-        if part == Part::Redo && at >= LOG_HEADER {
+        if part == DiskFile::Redo && at >= LOG_HEADER {
             self.must_fit(number_at(bytes, 16))?;
             self.must_fit(number_at(bytes, 20))?;
         }
         self.open(part)?.write_all_at(bytes, at as u64)
     }
 
-    fn set_len(&mut self, part: Part, len: usize) -> io::Result<()> {
+    fn set_len(&mut self, part: DiskFile, len: usize) -> io::Result<()> {
         if self.is_long(part, len)? {
             return Ok(());
         }
@@ -146,7 +146,7 @@ impl<'a, R: Files<File = File>> OpenFiles<'a, R> {
     }
 
     // Returns whether a file is open and has this length.
-    fn is_long(&mut self, part: Part, len: usize) -> io::Result<bool> {
+    fn is_long(&mut self, part: DiskFile, len: usize) -> io::Result<bool> {
         match &self.slot(part).file {
             Some(file) => Ok(file.metadata()?.len() == len as u64),
             None => Ok(false),
@@ -155,7 +155,7 @@ impl<'a, R: Files<File = File>> OpenFiles<'a, R> {
 
     // Syncs a file, and the folder with its name. A file that this run has not written is synced too, because an earlier run may have been
     // killed after a write. A missing file needs no sync. A file that may not be written fails here instead of in the middle of a commit.
-    fn keep(&mut self, part: Part) -> io::Result<()> {
+    fn keep(&mut self, part: DiskFile) -> io::Result<()> {
         if self.slot(part).file.is_none() {
             match self.open_there(part) {
                 Ok(file) => self.slot(part).file = Some(file),
@@ -260,17 +260,17 @@ impl<'a, R: Files<File = File>> Host for RealFiles<'a, R> {
 
     ghost calls = { λ files. acts files.log };
 
-    fn write_at(&mut self, file: Part, at: usize, bytes: &[u8]) -> Result<(), DiskError> {
+    fn write_at(&mut self, file: DiskFile, at: usize, bytes: &[u8]) -> Result<(), DiskError> {
         self.log.note_write(file, at, bytes)?;
         told(self.files.write_in(file, at, bytes))
     }
 
-    fn resize(&mut self, file: Part, len: usize) -> Result<(), DiskError> {
+    fn resize(&mut self, file: DiskFile, len: usize) -> Result<(), DiskError> {
         self.log.note_resize(file, len)?;
         told(self.files.set_len(file, len))
     }
 
-    fn sync(&mut self, file: Part) -> Result<(), DiskError> {
+    fn sync(&mut self, file: DiskFile) -> Result<(), DiskError> {
         told(self.files.keep(file))?;
         Ok(self.log.note_sync(file)?)
     }

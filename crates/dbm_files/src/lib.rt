@@ -11,10 +11,10 @@ mod session_log;
 mod states;
 mod writing;
 
-pub use copying::{Copied, save_copy};
+pub use copying::{CopyOutcome, save_copy};
 pub use files::{LockedFiles, RunFiles, read_again, read_program, take_files, take_rest};
 pub use host::RealFiles;
 pub use peeking::UnreadPages;
-pub use saving::{Change, Planned, Saved, save_change, save_plan};
+pub use saving::{Change, Planned, SaveOutcome, save_change, save_plan};
 pub use session_log::{SessionSaves, close_session, save_session};
 pub use writing::{PlannedPart, save_files, save_part};

@@ -7,19 +7,19 @@ ghost use Rattle.sdbm_saves.specs.Redo.{files, renewed_files, IsPlan, Knows};
 ghost use Rattle.sdbm_log.specs.Log.{Holds, IsAtRest};
 ghost use Rattle.dbm_files.specs.Saving.{IsOldOrSaved, IsSaved, LeavesFiles};
 ghost use Rattle.dbm_places.specs.declared.fault.FilesFault.TheVariants as fault;
-ghost use Rattle.dbm_files.specs.declared.saving.Saved.TheVariants as saved;
+ghost use Rattle.dbm_files.specs.declared.saving.SaveOutcome.TheVariants as saved;
 
 use byte_text::write_all;
 use dbm_places::FilesFault;
 use sdbm_files::Image;
-use sdbm_logged::{PLAN_LIMIT, Saved as Outcome, save_once};
+use sdbm_logged::{LogSave, PLAN_LIMIT, save_once};
 use sdbm_saves::{Disk, ReadFiles, plan_read};
 use std::alloc::Global;
 use std::io::Write;
 
 /// The outcome of a save without a fault.
 #[derive(Clone, Copy, Debug, PartialEq, Eq)]
-pub enum Saved {
+pub enum SaveOutcome {
     /// The files already were those of the database, and nothing was written.
     Unchanged,
     /// The save is done in both files.
@@ -54,7 +54,7 @@ pub fn save_change<D: Disk, W: Write, L: Drop>(
     lines: &[u8],
     writer: &mut W,
     lock: &mut Option<L>,
-) -> Result<Saved, FilesFault>
+) -> Result<SaveOutcome, FilesFault>
     requires read { D.seen disk.old ≡ record { pages = change.before.pages.now.bytes; directory = change.before.directory.now; redo = change.redo.now } }
     requires unmarked { get_or change.redo.now 0 0 ≢ 1 }
 
@@ -90,7 +90,7 @@ pub fn save_change<D: Disk, W: Write, L: Drop>(
         None => {
             *lock = None;
             print(writer, lines, lock)?;
-            Ok(Saved::Unchanged)
+            Ok(SaveOutcome::Unchanged)
         }
     }
 }
@@ -125,7 +125,7 @@ pub fn save_plan<D: Disk, W: Write, L: Drop>(
     lines: &[u8],
     writer: &mut W,
     lock: &mut Option<L>,
-) -> Result<Saved, FilesFault>
+) -> Result<SaveOutcome, FilesFault>
     requires read { planned.redo.now ≡ (D.seen disk.old).redo }
     requires unmarked { get_or planned.redo.now 0 0 ≢ 1 }
     requires plan { IsPlan planned.plan.now }
@@ -154,7 +154,7 @@ fn commit_plan<D: Disk>(
     alloc: Global,
     disk: &mut D,
     planned: Planned<'_>,
-) -> Result<Saved, FilesFault>
+) -> Result<SaveOutcome, FilesFault>
     requires read { planned.redo.now ≡ (D.seen disk.old).redo }
     requires unmarked { get_or planned.redo.now 0 0 ≢ 1 }
     requires plan { IsPlan planned.plan.now }
@@ -170,7 +170,7 @@ fn commit_plan<D: Disk>(
         return Err(FilesFault::FileTooLong);
     }
     match save_once(alloc, disk, planned.redo, planned.plan)? {
-        Outcome::Done => Ok(Saved::Whole),
-        Outcome::Pending(_) => Ok(Saved::Pending),
+        LogSave::Done => Ok(SaveOutcome::Whole),
+        LogSave::Pending(_) => Ok(SaveOutcome::Pending),
     }
 }

@@ -2,19 +2,19 @@
 ghost use Rattle.std.specs.Prelude.{◌≡◌, ◌≢◌, ◌<◌, [], length, get_or, IfOk, IfSome};
 ghost use Rattle.sdbm_saves.specs.CallLog.{acts};
 ghost use Rattle.sdbm_saves.specs.Redo.{renewed, IsPlan, Knows};
-ghost use Rattle.sdbm_saves.specs.declared.disk.File.TheVariants.{Pages, Directory};
+ghost use Rattle.sdbm_saves.specs.declared.disk.DiskFile.TheVariants.{Pages, Directory};
 ghost use Rattle.sdbm_logged.specs.Keeping.{bytes_of};
 
 use crate::files::{LockedFiles, read_again};
 use crate::host::{RealFiles, forget_redo};
-use crate::saving::Saved;
+use crate::saving::SaveOutcome;
 use crate::states::DataStates;
 use crate::writing::{find_redo, must_be_unwritten, save_held};
 use dbm_places::{FileBytes, FilesFault, RunPlace, SeenFiles};
 use sdbm_files::Image;
 use sdbm_logged::{
-    DataBytes, Keeper, KeptDisk, LoggedDisk, NextSave, PLAN_LIMIT, Saved as Outcome, close_kept,
-    save_first, save_next,
+    DataBytes, Keeper, KeptDisk, LogSave, LoggedDisk, NextSave, PLAN_LIMIT, close_kept, save_first,
+    save_next,
 };
 use sdbm_saves::{
     CallLog, FoundRead, Noted, ReadFiles, Recorded, Unknown, number, plan_kept, plan_nothing,
@@ -66,7 +66,7 @@ impl<'a, R: Files<File = File> + AllocGlobal> SessionSaves<'a, R> {
     pub fn begin(rt: &'a R, place: RunPlace<'_>, held: &'a LockedFiles) -> Self {
         let mut log = SessionLog::Closed;
         match mark_log(rt, place, held, &mut log) {
-            Ok(Saved::Pending) => held.locks.leave_unfinished(),
+            Ok(SaveOutcome::Pending) => held.locks.leave_unfinished(),
             _ => held.locks.leave_files(),
         }
         SessionSaves {
@@ -82,9 +82,9 @@ fn mark_log<'a, R: Files<File = File> + AllocGlobal>(
     place: RunPlace<'_>,
     held: &'a LockedFiles,
     log: &mut SessionLog<'a, R>,
-) -> Result<Saved, FilesFault> {
+) -> Result<SaveOutcome, FilesFault> {
     if held.seen.lacks_file() {
-        return Ok(Saved::Unchanged);
+        return Ok(SaveOutcome::Unchanged);
     }
     let read = read_again(rt, place, held, &held.seen)?;
     must_be_unwritten(rt, &held.place.names, held.states)?;
@@ -106,7 +106,7 @@ pub fn save_session<'a, R: Files<File = File> + AllocGlobal>(
     seen: &SeenFiles,
     saves: &mut SessionSaves<'a, R>,
     image: &Image<Global>,
-) -> Result<Saved, FilesFault> {
+) -> Result<SaveOutcome, FilesFault> {
     held.locks.enter_files()?;
     held.place.must_be_held(rt, &held.locks, seen)?;
     let found = DataStates::look(rt, &held.place.names);
@@ -120,8 +120,8 @@ pub fn save_session<'a, R: Files<File = File> + AllocGlobal>(
     let saved = save_locked(rt, place, held, seen, &mut saves.log, image);
     saves.states = DataStates::look(rt, &held.place.names);
     match saved {
-        Ok(Saved::Whole | Saved::Unchanged) => held.locks.leave_files(),
-        Ok(Saved::Pending) => held.locks.leave_unfinished(),
+        Ok(SaveOutcome::Whole | SaveOutcome::Unchanged) => held.locks.leave_files(),
+        Ok(SaveOutcome::Pending) => held.locks.leave_unfinished(),
         Err(_) => (),
     }
     saved
@@ -135,7 +135,7 @@ fn save_locked<'a, R: Files<File = File> + AllocGlobal>(
     seen: &SeenFiles,
     log: &mut SessionLog<'a, R>,
     image: &Image<Global>,
-) -> Result<Saved, FilesFault> {
+) -> Result<SaveOutcome, FilesFault> {
     match log.take() {
         SessionLog::Kept(kept) => {
             if let Some(saved) = save_more(rt.alloc(), kept, image, log)? {
@@ -193,7 +193,7 @@ fn save_alone<R: Files<File = File> + AllocGlobal>(
     held: &LockedFiles,
     seen: &SeenFiles,
     image: &Image<Global>,
-) -> Result<Saved, FilesFault> {
+) -> Result<SaveOutcome, FilesFault> {
     let read = read_again(rt, place, held, seen)?;
     let old = ReadFiles {
         pages: &read.pages,
@@ -208,12 +208,12 @@ fn save_more<'a, R: Files<File = File>>(
     kept: KeptDisk<SessionDisk<'a, R>>,
     image: &Image<Global>,
     log: &mut SessionLog<'a, R>,
-) -> Result<Option<Saved>, FilesFault> {
+) -> Result<Option<SaveOutcome>, FilesFault> {
     match plan_kept(alloc, kept.contents(), image) {
         Ok(Some(plan)) => save_planned(alloc, kept, plan.as_slice(), log),
         Ok(None) => {
             *log = SessionLog::Kept(kept);
-            Ok(Some(Saved::Unchanged))
+            Ok(Some(SaveOutcome::Unchanged))
         }
         Err(fault) => {
             *log = SessionLog::Kept(kept);
@@ -228,7 +228,7 @@ fn save_planned<'a, R: Files<File = File>>(
     kept: KeptDisk<SessionDisk<'a, R>>,
     plan: &[u8],
     log: &mut SessionLog<'a, R>,
-) -> Result<Option<Saved>, FilesFault>
+) -> Result<Option<SaveOutcome>, FilesFault>
     requires plan { IsPlan plan.now }
     requires knows { Knows plan.now (bytes_of kept.1.files) }
 {
@@ -238,10 +238,10 @@ fn save_planned<'a, R: Files<File = File>>(
             close_kept(alloc, &mut disk, keeper.log)?;
             Ok(None)
         }
-        NextSave::Pending(_) => Ok(Some(Saved::Pending)),
+        NextSave::Pending(_) => Ok(Some(SaveOutcome::Pending)),
         NextSave::Done => {
             *log = SessionLog::Kept(KeptDisk::new(disk, keeper));
-            Ok(Some(Saved::Whole))
+            Ok(Some(SaveOutcome::Whole))
         }
     }
 }
@@ -254,7 +254,7 @@ fn save_opening<'a, R: Files<File = File> + AllocGlobal>(
     read: &FileBytes,
     image: Option<&Image<Global>>,
     log: &mut SessionLog<'a, R>,
-) -> Result<Saved, FilesFault> {
+) -> Result<SaveOutcome, FilesFault> {
     let names = &held.place.names;
     let old = ReadFiles {
         pages: &read.pages,
@@ -283,8 +283,8 @@ fn save_opening<'a, R: Files<File = File> + AllocGlobal>(
     }
     *log = saved?;
     match log {
-        SessionLog::Closed => Ok(Saved::Pending),
-        _ => Ok(Saved::Whole),
+        SessionLog::Closed => Ok(SaveOutcome::Pending),
+        _ => Ok(SaveOutcome::Whole),
     }
 }
 
@@ -347,8 +347,8 @@ fn save_found<'a, R: Files<File = File>>(
     let noted = Noted::of_read(found.files.pages, found.files.directory, found.redo);
     let mut disk = Recorded::<RealFiles<'a, R>, Unknown, Noted>::new(files, noted);
     match save_first(alloc, &mut disk, found.redo, plan, ROOM)? {
-        (Outcome::Pending(_), _) => Ok(SessionLog::Closed),
-        (Outcome::Done, log) => match new {
+        (LogSave::Pending(_), _) => Ok(SessionLog::Closed),
+        (LogSave::Done, log) => match new {
             Some(files) => Ok(SessionLog::Kept(KeptDisk::new(disk, Keeper { log, files }))),
             None => Ok(SessionLog::Marked(LoggedDisk::new(disk, log))),
         },

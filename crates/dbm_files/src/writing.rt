@@ -5,7 +5,7 @@ ghost use Rattle.sdbm_saves.specs.Recording.{part_pages};
 
 use crate::files::{LockedFiles, read_up_to};
 use crate::host::{RealFiles, forget_redo};
-use crate::saving::{Change, Planned, Saved, save_change, save_plan};
+use crate::saving::{Change, Planned, SaveOutcome, save_change, save_plan};
 use crate::states::DataStates;
 use dbm_places::{
     FilesFault, Names, SeenFiles, Side, SideFault, is_like_pages, open_beside, side_fault,
@@ -45,7 +45,7 @@ pub fn save_files<R: Files<File = File> + AllocGlobal, W: Write>(
     new: &Image<Global>,
     lines: &[u8],
     writer: &mut W,
-) -> Result<Saved, FilesFault> {
+) -> Result<SaveOutcome, FilesFault> {
     let LockedFiles {
         place,
         seen,
@@ -76,7 +76,7 @@ pub fn save_held<R: Files<File = File> + AllocGlobal>(
     seen: &SeenFiles,
     old: ReadFiles<'_, Global>,
     new: &Image<Global>,
-) -> Result<Saved, FilesFault> {
+) -> Result<SaveOutcome, FilesFault> {
     let LockedFiles { place, locks, .. } = held;
     place.must_be_held(rt, locks, seen)?;
     let redo = find_redo(rt, &place.names)?;
@@ -117,7 +117,7 @@ pub fn save_part<R: Files<File = File> + AllocGlobal, W: Write>(
     planned: PlannedPart<'_>,
     lines: &[u8],
     writer: &mut W,
-) -> Result<Saved, FilesFault>
+) -> Result<SaveOutcome, FilesFault>
     requires plan { IsPlan planned.plan.now }
     requires knows { Knows planned.plan.now (part_pages planned.part planned.size, planned.part.directory.now) }
 {
@@ -225,7 +225,11 @@ fn read_redo<R: Files<File = File> + AllocGlobal>(
 }
 
 // Removes the redo file of a save that failed before its commit. The lock is still held.
-fn forget_failed<R: Files<File = File>>(rt: &R, names: &Names, saved: &Result<Saved, FilesFault>) {
+fn forget_failed<R: Files<File = File>>(
+    rt: &R,
+    names: &Names,
+    saved: &Result<SaveOutcome, FilesFault>,
+) {
     match saved {
         Ok(_) | Err(FilesFault::Write) => (),
         Err(_) => forget_redo(rt, names),

@@ -14,5 +14,5 @@ pub use every::{Every, read_every};
 pub use fault::SessionFault;
 pub use host::{Host, Own};
 pub use own::{OwnLine, program_line, read_own, show_own};
-pub use running::{Ended, run_session};
+pub use running::{SessionEnd, run_session};
 pub use session::{Session, session_command};

@@ -3,7 +3,7 @@
 ghost use Rattle.std.specs.Prelude.{◌≡◌, IfOk, IfSome, codes, nat_eq, true};
 ghost use Rattle.std.specs.List.{starts_with};
 
-use dbm_databases::{Shown, show_listing};
+use dbm_databases::{ListingRequest, show_listing};
 use dbm_reports::{ReportFault, text_image};
 use dbm_script::Notation;
 use sdbm_files::Image;
@@ -22,7 +22,7 @@ The end of the input, Ctrl-D at a terminal, saves and ends the session.
 #[derive(Clone, Copy)]
 pub enum OwnLine<'a> {
     /// Requests a text about the database.
-    Shows(Shown<'a>),
+    Shows(ListingRequest<'a>),
     /// Requests the list of lines.
     Help,
     /// Requests a number for the program in the file of this name.
@@ -37,19 +37,19 @@ pub fn read_own(line: &[u8]) -> OwnLine<'_> {
         return OwnLine::Help;
     }
     if line == b".stats".as_slice() {
-        return OwnLine::Shows(Shown::Stats);
+        return OwnLine::Shows(ListingRequest::Stats);
     }
     if line == b".list".as_slice() {
-        return OwnLine::Shows(Shown::Pairs(None));
+        return OwnLine::Shows(ListingRequest::Pairs(None));
     }
     if line == b".keys".as_slice() {
-        return OwnLine::Shows(Shown::Keys(None));
+        return OwnLine::Shows(ListingRequest::Keys(None));
     }
     if let Some(word) = line.strip_prefix(b".list ") {
-        return OwnLine::Shows(Shown::Pairs(Some(word)));
+        return OwnLine::Shows(ListingRequest::Pairs(Some(word)));
     }
     if let Some(word) = line.strip_prefix(b".keys ") {
-        return OwnLine::Shows(Shown::Keys(Some(word)));
+        return OwnLine::Shows(ListingRequest::Keys(Some(word)));
     }
     match line.strip_prefix(b".program ") {
         Some(name) => OwnLine::Program(name),

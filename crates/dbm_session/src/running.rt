@@ -19,7 +19,7 @@ use std::io::{Read, Write};
 
 /// The result of a session: the saved database after its lines.
 #[derive(Drop)]
-pub struct Ended {
+pub struct SessionEnd {
     pub image: Image<Global>,
     /// The number, from 1 on, of an incomplete last line. It has no LF, and was not run.
     pub half_line: Option<u64>,
@@ -52,7 +52,7 @@ pub fn run_session<R: Read, W: Write, H: Host>(
     reader: &mut R,
     writer: &mut W,
     host: &mut H,
-) -> Result<Ended, SessionFault<H::Fault>>
+) -> Result<SessionEnd, SessionFault<H::Fault>>
     ensures ok { IfOk result (λ ended. IfSome (R.remaining reader.old) (λ input. Ends notation.now image (ended_lines (pieces_of 10 input)) (W.contents writer.old) (W.contents writer.new) (H.log host.old) (H.log host.new) ended.image)) }
     ensures half { IfOk result (λ ended. IfSome (R.remaining reader.old) (λ input. ended.half_line ≡ half_line (pieces_of 10 input))) }
     ensures part { IfErr result (λ _. IfSome (R.remaining reader.old) (λ input. Stops notation.now image (ended_lines (pieces_of 10 input)) (W.contents writer.old) (W.contents writer.new) (H.log host.old) (H.log host.new))) }
@@ -90,7 +90,7 @@ fn end<H: Host>(
     session: Session,
     host: &mut H,
     half_line: Option<u64>,
-) -> Result<Ended, SessionFault<H::Fault>>
+) -> Result<SessionEnd, SessionFault<H::Fault>>
     ensures ok { IfOk result (λ ended. (ended.image ≡ session.image) × Logs (H.log host.old) (H.log host.new) (DidSave session.image ∷ [])) }
     ensures half { IfOk result (λ ended. ended.half_line ≡ half_line) }
     ensures lost { OnErr result (SavesAtMostOne (H.log host.old) (H.log host.new)) }
@@ -98,7 +98,7 @@ fn end<H: Host>(
     let Session { image, .. } = session;
     host.ask(true);
     save(&image, host)?;
-    Ok(Ended { image, half_line })
+    Ok(SessionEnd { image, half_line })
 }
 
 fn save<H: Host>(image: &Image<Global>, host: &mut H) -> Result<(), SessionFault<H::Fault>>

@@ -6,7 +6,7 @@ use dbm_messages::ServeFault;
 use dbm_places::{FileBytes, FilesFault, RunPlace};
 use dbm_reports::{Given, ReportFault, notation_by, open};
 use dbm_script::Notation;
-use dbm_session::{Ended, Session, SessionFault, read_every, run_session};
+use dbm_session::{Session, SessionEnd, SessionFault, read_every, run_session};
 use sdbm_files::Image;
 use std::alloc::Global;
 use std::fs::File;
@@ -75,7 +75,7 @@ fn answer_lines<R: Runtime<File = File> + Clock + AllocGlobal, I: Read>(
     shell.end_saves();
     match ended {
         Ok(
-            Ended {
+            SessionEnd {
                 half_line: Some(line),
                 ..
             },

@@ -4,7 +4,9 @@ ghost use Rattle.std.specs.List.{starts_with};
 ghost use Rattle.dbm_session.specs.HostCalls.{DidSave};
 
 use crate::host_log::HostLog;
-use dbm_files::{LockedFiles, Saved, SessionSaves, close_session, read_program, save_session};
+use dbm_files::{
+    LockedFiles, SaveOutcome, SessionSaves, close_session, read_program, save_session,
+};
 use dbm_messages::ServeFault;
 use dbm_places::{DataFiles, FilesFault, RunPlace, SeenFiles};
 use dbm_reports::is_too_long;
@@ -102,7 +104,7 @@ impl<'a, R: Runtime<File = File> + Clock + AllocGlobal> Shell<'a, R> {
     {
         let saves = &mut self.saves;
         let saved = save_session(self.rt, self.place, self.held, &self.seen, saves, image)?;
-        if saved == Saved::Pending {
+        if saved == SaveOutcome::Pending {
             note_waiting_save(self.rt, self.place.base);
         }
         Ok(self.log.with_save(image))

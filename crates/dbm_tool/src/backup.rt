@@ -5,7 +5,7 @@ use crate::request::given_of;
 use crate::tell;
 use byte_text::write_all;
 use dbm_dump::Backup;
-use dbm_files::{Copied, save_copy};
+use dbm_files::{CopyOutcome, save_copy};
 use dbm_messages::ServeFault;
 use dbm_places::{FileBytes, RunPlace, names_of};
 use dbm_reports::{open, page_size_of, show_ok};
@@ -57,7 +57,7 @@ fn make_copy<R: Runtime<File = File> + Clock + AllocGlobal>(
     let lines = show_ok(rt.alloc(), image.count())?;
     let mode = mode_of(rt, backup.base)?;
     tell_saving(rt, Some(Work::Backup), image.pag_len());
-    if save_copy(rt, backup.to, mode, image)? == Copied::Exists {
+    if save_copy(rt, backup.to, mode, image)? == CopyOutcome::Exists {
         return Err(ServeFault::Exists);
     }
     match write_all(&mut io::writer(rt), lines.as_slice()) {

@@ -20,7 +20,7 @@ use backup::{refuse_copy, serve_backup};
 use clock::{read_clock, read_time};
 use dbm_args::Access;
 use dbm_command_line::{Ask, Request, ToolFault, Wish, read_words};
-use dbm_files::{LockedFiles, RunFiles, Saved, save_files, take_rest};
+use dbm_files::{LockedFiles, RunFiles, SaveOutcome, save_files, take_rest};
 use dbm_messages::ServeFault;
 use dbm_places::{RunPlace, has_no_files};
 use dbm_reports::{Given, NOT_RUN, ReportFault};
@@ -442,7 +442,7 @@ fn print_page<R: Runtime<File = File> + AllocGlobal>(
     if saved.is_none() && !print_unsaved(rt, reads, result.text.as_slice())? {
         return Ok(None);
     }
-    let is_pending = saved == Some(Saved::Pending);
+    let is_pending = saved == Some(SaveOutcome::Pending);
     Ok(Some(Served::on_page(&result, refusal, is_pending)))
 }
 
@@ -518,7 +518,7 @@ fn serve_change<R: Runtime<File = File> + AllocGlobal + Threads + Wait + Sync, I
         };
         tell_saving(rt, work_of(&wish), new.pag_len());
         let saved = save_files(rt, held, old, new, lines.as_slice(), &mut io::writer(rt))?;
-        is_pending = saved == Saved::Pending;
+        is_pending = saved == SaveOutcome::Pending;
     }
     Ok(Served::of(&outcome, refusal, is_pending))
 }

@@ -9,7 +9,7 @@ ghost use Rattle.dbm_tool.specs.Services.{service_in};
 
 use dbm_args::Form;
 use dbm_command_line::{Ask, Wish};
-use dbm_files::{LockedFiles, PlannedPart, Saved, UnreadPages, save_part};
+use dbm_files::{LockedFiles, PlannedPart, SaveOutcome, UnreadPages, save_part};
 use dbm_messages::ServeFault;
 use dbm_places::FileBytes;
 use dbm_programs::refusal_of;
@@ -40,7 +40,7 @@ pub fn may_be_quick(ask: &Ask<'_>) -> bool {
 pub struct PageServed {
     pub result: PageResult,
     /// How its change was saved. `None` if there was none: then its lines are not printed yet.
-    pub saved: Option<Saved>,
+    pub saved: Option<SaveOutcome>,
 }
 
 /// Serves a request from the page of its key; its files were taken except `.pag`. If there is a change it saves it, releases the lock, and
@@ -94,7 +94,7 @@ fn save_quick<R: Runtime<File = File> + AllocGlobal>(
     part: Part<'_>,
     size: PageSize,
     quick: &PageResult,
-) -> Result<Option<Saved>, ServeFault>
+) -> Result<Option<SaveOutcome>, ServeFault>
     requires { IfSome quick.now.plan (λ plan. IsPlan plan.items × Knows plan.items (part_pages part size, part.directory.now)) }
 {
     let Some(plan) = &quick.plan else {

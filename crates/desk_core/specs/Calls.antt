@@ -17,7 +17,7 @@ use Rattle.store_cmd.specs.declared.SizeFault.{SizeFault}
 use Rattle.store_cmd.specs.declared.SizeFault.TheVariants.{PairTooLarge, ArgTooLong}
 use Rattle.store_cmd.specs.Command.{FitsPair, FitsArgument, IsSmall}
 use Rattle.desk_core.specs.declared.job.Open.{Open}
-use Rattle.desk_core.specs.declared.Wanted.{Wanted}
+use Rattle.desk_core.specs.declared.PageNeed.{PageNeed}
 use Rattle.desk_core.specs.declared.Asked.{Asked}
 use Rattle.desk_core.specs.declared.Asked.TheVariants as asked
 use Rattle.desk_core.specs.declared.AskFault.{AskFault}
@@ -76,7 +76,7 @@ IsAskFault s command af.Busy = IsSmall s.database.size command × ((length s.ent
 IsAskFault s command af.NoMemory = MayAsk s command
 
 -- the place of a command's key and its page's first hold; `None` for a count
-abbrev pub IsWanted : {A : Type 0} → DeskState A → Command A → Option Wanted → Type 0
+abbrev pub IsWanted : {A : Type 0} → DeskState A → Command A → Option PageNeed → Type 0
 IsWanted s command None = command ≡ Count
 IsWanted s command (Some wanted) = (first_hold command ≡ Some wanted.mode) × IsPlaceOf s.database (key_of command) wanted.place
 

@@ -31,7 +31,7 @@ use sdbm_files::Image;
 use slab::Slab;
 use std::alloc::{AllocError, Allocator};
 use std::marker::Model;
-pub use step::Stepped;
+pub use step::ReplyPair;
 use store_cmd::{Command, KeptEntry, Opening, Reply, SharedCommand, SizeFault, Trail, check_sizes};
 use store_moves::{PageCopy, key_in, put_in};
 
@@ -118,7 +118,7 @@ pub enum Asked<A: Allocator> {
 
 /// The requirements of a command about a key: its place, and its first hold on the page there.
 #[derive(Clone, Copy)]
-pub(crate) struct Wanted {
+pub(crate) struct PageNeed {
     pub(crate) place: Place,
     pub(crate) mode: Hold,
 }
@@ -175,7 +175,7 @@ impl<A: Allocator + Copy> Desk<A> {
     }
 
     // Checks that a command may be requested, and returns its requirements. Does not check memory.
-    fn may_ask(&self, command: &SharedCommand<A>) -> Result<Option<Wanted>, AskFault>
+    fn may_ask(&self, command: &SharedCommand<A>) -> Result<Option<PageNeed>, AskFault>
         ensures ok { OnOk result (MayAsk self.now command.now) }
         ensures wanted { IfOk result (IsWanted self.now command.now) }
         ensures refused { IfErr result (λ fault. IsAskFault self.now command.now fault) }
@@ -195,7 +195,7 @@ impl<A: Allocator + Copy> Desk<A> {
         if self.holds.bars(place.page, mode) {
             return Err(AskFault::Busy);
         }
-        Ok(Some(Wanted { place, mode }))
+        Ok(Some(PageNeed { place, mode }))
     }
 
     // Requests a command that passed `may_ask`.
@@ -203,7 +203,7 @@ impl<A: Allocator + Copy> Desk<A> {
         &mut self,
         session: u64,
         command: SharedCommand<A>,
-        wanted: Option<Wanted>,
+        wanted: Option<PageNeed>,
     ) -> Result<Asked<A>, (AskFault, SharedCommand<A>)>
         requires may { MayAsk self.old command }
         requires wanted { IsWanted self.old command wanted }
@@ -226,7 +226,7 @@ impl<A: Allocator + Copy> Desk<A> {
         &mut self,
         session: u64,
         command: SharedCommand<A>,
-        wanted: Wanted,
+        wanted: PageNeed,
     ) -> Result<Asked<A>, (AskFault, SharedCommand<A>)>
         requires may { MayAsk self.old command }
         requires mode { first_hold command ≡ Some wanted.mode }

@@ -7,7 +7,7 @@ ghost use Rattle.desk_core.specs.Jobs.{worked};
 ghost use Rattle.desk_core.specs.Calls.{MayAsk, IsAsked, IsAskFault, IsStill, Steps, MayPut, IsPutFault};
 
 use crate::job::{Open, work_asked};
-use crate::step::Stepped;
+use crate::step::ReplyPair;
 use crate::{AskFault, Desk};
 use sdbm_dir::Place;
 use std::alloc::{AllocError, Allocator};
@@ -162,7 +162,7 @@ impl<A: Allocator + Copy> Desk<A> {
     /// - `Changed` if and only if the page of the key has changed, or the page size or hash kind of the database is another.
     /// - `Refused(Busy)` if and only if the command changes a page that a ticket holds.
     /// - `Refused(NoMemory)` if out of memory.
-    pub fn put(&mut self, seen: Seen<A>) -> Result<Stepped<A>, (PutFault, SharedCommand<A>)>
+    pub fn put(&mut self, seen: Seen<A>) -> Result<ReplyPair<A>, (PutFault, SharedCommand<A>)>
         ensures ok { IfOk result (λ stepped. Steps self.old seen.session seen.command stepped.reply self.new) }
         ensures reply { IfOk result (λ stepped. stepped.reply ≡ (worked seen).reply) }
         ensures copy { IfOk result (λ stepped. stepped.copy ≡ stepped.reply) }

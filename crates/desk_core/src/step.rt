@@ -14,7 +14,7 @@ ghost use Rattle.store_moves.specs.Leads.{IsPlaceOf};
 ghost use Rattle.desk_core.specs.Desk.{IsSound, first_hold};
 ghost use Rattle.desk_core.specs.Calls.{MayAsk, Steps, IsStepFault, works_there};
 
-use crate::{AskFault, Desk, Wanted};
+use crate::{AskFault, Desk, PageNeed};
 use hold_modes::Hold;
 use sdbm_dir::Place;
 use std::alloc::{AllocError, Allocator};
@@ -23,7 +23,7 @@ use store_moves::{Worked, is_run, put_in, ran, run_in_place, work_at};
 
 /// The reply of a step, twice.
 #[derive(Drop)]
-pub struct Stepped<A: Allocator> {
+pub struct ReplyPair<A: Allocator> {
     pub reply: Reply<A>,
     pub copy: Reply<A>,
 }
@@ -60,7 +60,7 @@ impl<A: Allocator + Copy> Desk<A> {
         &mut self,
         session: u64,
         command: SharedCommand<A>,
-    ) -> Result<Stepped<A>, (AskFault, SharedCommand<A>)>
+    ) -> Result<ReplyPair<A>, (AskFault, SharedCommand<A>)>
         ensures ok { IfOk result (λ stepped. Steps self.old session command stepped.reply self.new) }
         ensures copy { IfOk result (λ stepped. stepped.copy ≡ stepped.reply) }
         ensures refused { IfErr result (λ refused. IsStepFault self.old session command refused.0) }
@@ -79,7 +79,7 @@ impl<A: Allocator + Copy> Desk<A> {
         &mut self,
         session: u64,
         command: SharedCommand<A>,
-    ) -> Result<Stepped<A>, (AskFault, SharedCommand<A>)>
+    ) -> Result<ReplyPair<A>, (AskFault, SharedCommand<A>)>
         requires may { MayAsk self.old command }
         requires counts { command ≡ Count }
         ensures ok { IfOk result (λ stepped. Steps self.old session command stepped.reply self.new) }
@@ -99,8 +99,8 @@ impl<A: Allocator + Copy> Desk<A> {
         &mut self,
         session: u64,
         command: SharedCommand<A>,
-        wanted: Wanted,
-    ) -> Result<Stepped<A>, (AskFault, SharedCommand<A>)>
+        wanted: PageNeed,
+    ) -> Result<ReplyPair<A>, (AskFault, SharedCommand<A>)>
         requires may { MayAsk self.old command }
         requires mode { first_hold command ≡ Some wanted.mode }
         requires place { IsPlaceOf self.old.database (key_of command) wanted.place }
@@ -123,7 +123,7 @@ impl<A: Allocator + Copy> Desk<A> {
         session: u64,
         command: SharedCommand<A>,
         place: Place,
-    ) -> Result<Stepped<A>, SharedCommand<A>>
+    ) -> Result<ReplyPair<A>, SharedCommand<A>>
         requires may { MayAsk self.old command }
         requires place { IsPlaceOf self.old.database (key_of command) place }
         ensures ok { IfOk result (λ stepped. Steps self.old session command stepped.reply self.new) }
@@ -145,7 +145,7 @@ impl<A: Allocator + Copy> Desk<A> {
         };
         let entry = KeptEntry::new(session, command, ran(ended));
         self.trail.entries.push_reserved(entry);
-        Ok(Stepped {
+        Ok(ReplyPair {
             reply: ran(ended),
             copy: ran(ended),
         })
@@ -156,8 +156,8 @@ impl<A: Allocator + Copy> Desk<A> {
         &mut self,
         session: u64,
         command: SharedCommand<A>,
-        wanted: Wanted,
-    ) -> Result<Stepped<A>, (AskFault, SharedCommand<A>)>
+        wanted: PageNeed,
+    ) -> Result<ReplyPair<A>, (AskFault, SharedCommand<A>)>
         requires may { MayAsk self.old command }
         requires mode { first_hold command ≡ Some wanted.mode }
         requires place { IsPlaceOf self.old.database (key_of command) wanted.place }
@@ -167,7 +167,7 @@ impl<A: Allocator + Copy> Desk<A> {
         ensures returned { IfErr result (λ refused. refused.1 ≡ command) }
         ensures err { OnErr result (self.new ≡ self.old) }
     {
-        let Wanted { place, .. } = wanted;
+        let PageNeed { place, .. } = wanted;
         let Ok(worked) = self.work_there(session, &command, place) else {
             return Err((self.refusal(place.page, is_change(&command)), command));
         };
@@ -205,7 +205,7 @@ impl<A: Allocator + Copy> Desk<A> {
         command: SharedCommand<A>,
         place: Place,
         worked: Worked<A>,
-    ) -> Result<Stepped<A>, (AllocError, SharedCommand<A>)>
+    ) -> Result<ReplyPair<A>, (AllocError, SharedCommand<A>)>
         requires may { MayAsk self.old command }
         requires keyed { HasKey command }
         requires place { IsPlaceOf self.old.database (key_of command) place }
@@ -233,7 +233,7 @@ impl<A: Allocator + Copy> Desk<A> {
         };
         let entry = KeptEntry::new(session, command, entered);
         self.trail.entries.push_reserved(entry);
-        Ok(Stepped { reply, copy })
+        Ok(ReplyPair { reply, copy })
     }
 
     // The refusal of a command that ran out of memory.
@@ -258,13 +258,13 @@ impl<A: Allocator + Copy> Desk<A> {
 }
 
 // The reply to a count, twice. Allocates nothing.
-fn twice<A: Allocator>(reply: Reply<A>) -> Stepped<A>
+fn twice<A: Allocator>(reply: Reply<A>) -> ReplyPair<A>
     requires { (n : ℕ) × (reply ≡ replies.Count n) }
     ensures reply { result.reply ≡ reply }
     ensures copy { result.copy ≡ reply }
 {
     match reply {
-        Reply::Count(count) => Stepped {
+        Reply::Count(count) => ReplyPair {
             reply: Reply::Count(count),
             copy: Reply::Count(count),
         },

@@ -3,9 +3,9 @@ ghost use Rattle.std.specs.Prelude.{◌≡◌, ◌↔◌, ◌++◌, ◌∷◌, [
 ghost use Rattle.std.specs.List.{list_any};
 ghost use Rattle.hold_modes.specs.Held.{bars, is_of, is_shared, is_updating, held_by, without, made_exclusive, obeys_rule};
 
+use crate::hold_queue::HoldQueue;
 use crate::modes::{Busy, Held, Hold, Ticket};
 use crate::pages::Pages;
-use crate::hold_queue::HoldQueue;
 use std::alloc::{AllocError, Allocator};
 use std::marker::Model;
 

@@ -2,11 +2,11 @@
 #![tactic(auto)]
 
 mod few;
+mod hold_queue;
 pub mod holds;
 mod indexed;
 pub mod modes;
 mod pages;
-mod hold_queue;
 mod uses;
 
 pub use holds::{HoldFault, Holds};

@@ -16,6 +16,7 @@ ghost use Rattle.sdbm_files.specs.Installed.{installed, content_at, IsInstallabl
 ghost use Rattle.sdbm_files.specs.Opened.{IsOpenFault, SpellsNoDatabase};
 
 mod fault_text;
+mod ghost_bytes;
 mod limits;
 mod opening;
 mod pages;
@@ -23,7 +24,6 @@ mod parsed;
 mod parts;
 mod reading;
 mod sink;
-mod ghost_bytes;
 mod widening;
 mod writing;
 

@@ -1,6 +1,6 @@
 -- The calls that commit a save, and those that apply its plan.
 use Rattle.std.proofs.Common.{◌≡◌, ◌⊎◌, inl, inr, ⊎_elim, ℕ, zero, suc, ◌+◌, ◌<◌, ◌≤◌, List, [], ◌∷◌, length, drop, get_or, true, refl, sym, ◌∙◌, ap, subst, arith}
-use Rattle.sdbm_saves.specs.declared.disk.File.TheVariants.{Pages, Directory, Redo}
+use Rattle.sdbm_saves.specs.declared.disk.DiskFile.TheVariants.{Pages, Directory, Redo}
 use Rattle.sdbm_saves.specs.Disk.{Image, content, put, written, resized, Torn, Within}
 use Rattle.sdbm_saves.specs.Redo.{data_file, file_of, offset_of, data_of, rest_after, new_length, count_of, changes_of, files, replayed_image, renewed_image, renewed_files, Fits, IsPlan, Knows, AlikeFor}
 use Rattle.sdbm_saves.specs.Acts.{write, resize, acted, LeftBy}

@@ -1,7 +1,7 @@
 -- The calls that sync the files, and close, clear and start a log.
 use Rattle.std.proofs.Common.{◌≡◌, inl, ⊎_elim, ℕ, ◌+◌, ◌-◌, ◌≤◌, List, [], ◌∷◌, ◌++◌, length, drop, take, replicate, get_or, true, refl, sym, ◌∙◌, ap, subst, arith}
 use Rattle.std.proofs.lemmas.List.{append-nil, drop-append-le, drop_all, length-replicate, length-take-le}
-use Rattle.sdbm_saves.specs.declared.disk.File.TheVariants.{Pages, Directory, Redo}
+use Rattle.sdbm_saves.specs.declared.disk.DiskFile.TheVariants.{Pages, Directory, Redo}
 use Rattle.sdbm_saves.specs.Disk.{Image, content, put, written, resized, Only, IsKept, Torn, TornLength, Within}
 use Rattle.sdbm_saves.specs.Redo.{files, StaysUnmarked}
 use Rattle.sdbm_saves.specs.Acts.{LeftAfter}

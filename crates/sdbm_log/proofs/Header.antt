@@ -3,7 +3,7 @@ use Rattle.std.proofs.Common.{Bool, true, false, if◌then◌else◌, ◌==◌, 
 use Rattle.std.proofs.lemmas.Bool.Decides.{nat_tests}
 use Rattle.std.proofs.lemmas.Bool.{cases_eq}
 use Rattle.std.proofs.lemmas.List.{get_or-take, get_or-drop, drop-append-le, drop-take, drop-drop, drop_all, append-nil, length-take-le}
-use Rattle.sdbm_saves.specs.declared.disk.File.TheVariants.{Redo}
+use Rattle.sdbm_saves.specs.declared.disk.DiskFile.TheVariants.{Redo}
 use Rattle.sdbm_saves.specs.Disk.{Image, put, written, IsKept, Torn, TornLength, Within}
 use Rattle.sdbm_saves.specs.Redo.{number_at, files, mark_of, signature, stands_for, CanEnd, StaysUnmarked}
 use Rattle.sdbm_log.specs.Log.{nonzero, is_signed, is_log, empty_log, records_of, files_by, number_in, CanRecoverBy, Holds, IsKeptLog, IsAtRest, IsDurable}

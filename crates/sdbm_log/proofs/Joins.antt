@@ -2,8 +2,8 @@
 use Rattle.std.proofs.Common.{◌≡◌, ◌≢◌, ◌⊎◌, inl, inr, ⊎_elim, ℕ, zero, suc, ◌+◌, ◌-◌, ◌/◌, ◌%◌, ◌<◌, ◌≤◌, ◌^◌, List, ◌++◌, length, take, drop, get_or, refl, sym, ◌∙◌, ap, subst, arith, length-append, length-drop}
 use Rattle.std.proofs.lemmas.List.{ext_get_or, get_or-take, get_or-drop, get_or_past, take-append-le, drop-append-le, length-take-le}
 use Rattle.std.proofs.lemmas.Bool.{cases_lt}
-use Rattle.sdbm_saves.specs.declared.disk.File.{File}
-use Rattle.sdbm_saves.specs.declared.disk.File.TheVariants.{Pages, Directory, Redo}
+use Rattle.sdbm_saves.specs.declared.disk.DiskFile.{DiskFile}
+use Rattle.sdbm_saves.specs.declared.disk.DiskFile.TheVariants.{Pages, Directory, Redo}
 use Rattle.sdbm_saves.specs.Disk.{Image, content, put, written, resized, Torn, TornLength, Within}
 use Rattle.sdbm_saves.specs.Drafts.{spelled}
 use Rattle.sdbm_saves.specs.Redo.{number_at, data_file, file_of, offset_of, size_of, data_of, span_of, rest_of, rest_after, effect, replayed, replayed_image, renewed_image, new_length, old_length, count_of, changes_of, renewed, data_in, Fits, IsPlan, IsChangeOf, IsBetween, Offers, HasByte, KnowsBlock, Knows, EndsWith, AlikeFor}
@@ -48,7 +48,7 @@ after_append zero xs ys whole = refl
 after_append (suc n) xs ys whole =
     ap (λ (l : List ℕ). rest_after n l) (rest_append xs ys (whole 0 (omega arith))) ∙ after_append n (rest_of xs) ys (later n xs whole)
 
-replayed_append : (file : File) (n : ℕ) (xs ys x : List ℕ) → Whole n xs → replayed file n (xs ++ ys) x ≡ replayed file n xs x
+replayed_append : (file : DiskFile) (n : ℕ) (xs ys x : List ℕ) → Whole n xs → replayed file n (xs ++ ys) x ≡ replayed file n xs x
 replayed_append file zero xs ys x whole = refl
 replayed_append file (suc n) xs ys x whole =
     let first = whole 0 (omega arith) in
@@ -56,7 +56,7 @@ replayed_append file (suc n) xs ys x whole =
     ∙ ap (λ (l : List ℕ). replayed file n (rest_of xs ++ ys) l) (effect_append xs ys first file x)
     ∙ replayed_append file n (rest_of xs) ys (effect (file_of xs) file xs x) (later n xs whole)
 
-replayed_split : (file : File) (n m : ℕ) (xs x : List ℕ) → replayed file (n + m) xs x ≡ replayed file m (rest_after n xs) (replayed file n xs x)
+replayed_split : (file : DiskFile) (n m : ℕ) (xs x : List ℕ) → replayed file (n + m) xs x ≡ replayed file m (rest_after n xs) (replayed file n xs x)
 replayed_split file zero m xs x = let is : 0 + m ≡ m = omega arith in ap (λ k. replayed file k xs x) is
 replayed_split file (suc n) m xs x = let is : suc n + m ≡ suc (n + m) = omega arith in
     ap (λ k. replayed file k xs x) is ∙ replayed_split file n m (rest_of xs) (effect (file_of xs) file xs x)
@@ -78,7 +78,7 @@ resized_written n at bytes x inside le =
     (cases_lt i (at + length bytes)))
     (cases_lt i at))
 
-resized_effect : (plan change : List ℕ) (n : ℕ) (touched file : File) (x : List ℕ) → span_of change ≤ length change → offset_of change + size_of change ≤ new_length touched plan → length x ≡ new_length file plan → length x ≤ n
+resized_effect : (plan change : List ℕ) (n : ℕ) (touched file : DiskFile) (x : List ℕ) → span_of change ≤ length change → offset_of change + size_of change ≤ new_length touched plan → length x ≡ new_length file plan → length x ≤ n
     → resized n (effect touched file change x) ≡ effect touched file change (resized n x)
 resized_effect plan change n Pages Pages x whole inside is le = resized_written n (offset_of change) (data_of change) x (omega (arith, inside, is, length-data change whole)) le
 resized_effect plan change n Pages Directory x whole inside is le = refl
@@ -90,7 +90,7 @@ resized_effect plan change n Redo Pages x whole inside is le = refl
 resized_effect plan change n Redo Directory x whole inside is le = refl
 resized_effect plan change n Redo Redo x whole inside is le = refl
 
-resized_replayed : (plan : List ℕ) (n : ℕ) (file : File) (count : ℕ) (xs x : List ℕ) → ((k : ℕ) → k < count → Fits plan (rest_after k xs)) → length x ≡ new_length file plan → new_length file plan ≤ n
+resized_replayed : (plan : List ℕ) (n : ℕ) (file : DiskFile) (count : ℕ) (xs x : List ℕ) → ((k : ℕ) → k < count → Fits plan (rest_after k xs)) → length x ≡ new_length file plan → new_length file plan ≤ n
     → resized n (replayed file count xs x) ≡ replayed file count xs (resized n x)
 resized_replayed plan n file zero xs x fits is le = refl
 resized_replayed plan n file (suc count) xs x fits is le =
@@ -117,24 +117,24 @@ same_file (suc a) zero = inr (λ is. cc)
 same_file (suc a) (suc b) = inl refl
 
 -- one of n changes covers a place of a file
-record Covers (n : ℕ) (xs : List ℕ) (file : File) (at : ℕ) : Type 0 where
+record Covers (n : ℕ) (xs : List ℕ) (file : DiskFile) (at : ℕ) : Type 0 where
   index : ℕ
   counted : index < n
   touches : file_of (rest_after index xs) ≡ file
   from : offset_of (rest_after index xs) ≤ at
   to : at < offset_of (rest_after index xs) + size_of (rest_after index xs)
 
-abbrev NoneCovers : ℕ → List ℕ → File → ℕ → Type 0
+abbrev NoneCovers : ℕ → List ℕ → DiskFile → ℕ → Type 0
 NoneCovers n xs file at = (k : ℕ) → k < n → file_of (rest_after k xs) ≡ file → offset_of (rest_after k xs) ≤ at → at < offset_of (rest_after k xs) + size_of (rest_after k xs) → ⊥
 
-none_first : (n : ℕ) (xs : List ℕ) (file : File) (at : ℕ) → (file_of xs ≡ file → offset_of xs ≤ at → at < offset_of xs + size_of xs → ⊥) → NoneCovers n (rest_of xs) file at → NoneCovers (suc n) xs file at
+none_first : (n : ℕ) (xs : List ℕ) (file : DiskFile) (at : ℕ) → (file_of xs ≡ file → offset_of xs ≤ at → at < offset_of xs + size_of xs → ⊥) → NoneCovers n (rest_of xs) file at → NoneCovers (suc n) xs file at
 none_first n xs file at first others zero lt = first
 none_first n xs file at first others (suc k) lt = others k (omega (arith, lt))
 
-covers_later : (n : ℕ) (xs : List ℕ) (file : File) (at : ℕ) → Covers n (rest_of xs) file at → Covers (suc n) xs file at
+covers_later : (n : ℕ) (xs : List ℕ) (file : DiskFile) (at : ℕ) → Covers n (rest_of xs) file at → Covers (suc n) xs file at
 covers_later n xs file at covers = record { index = suc covers.index; counted = omega (arith, covers.counted); touches = covers.touches; from = covers.from; to = covers.to }
 
-covers_first : (n : ℕ) (xs : List ℕ) (file : File) (at : ℕ) → file_of xs ≡ file → offset_of xs ≤ at → at < offset_of xs + size_of xs → Covers (suc n) xs file at
+covers_first : (n : ℕ) (xs : List ℕ) (file : DiskFile) (at : ℕ) → file_of xs ≡ file → offset_of xs ≤ at → at < offset_of xs + size_of xs → Covers (suc n) xs file at
 covers_first n xs file at touches from to = record { index = 0; counted = omega arith; touches = touches; from = from; to = to }
 
 covers_or_not : (n : ℕ) (xs : List ℕ) (g at : ℕ) → Covers n xs (data_file g) at ⊎ NoneCovers n xs (data_file g) at
@@ -154,7 +154,7 @@ covers_or_not (suc n) xs g at = ⊎_elim
     (covers_or_not n (rest_of xs) g at)
 
 -- a byte that no change covers
-effect_outside : (plan change : List ℕ) (touched file : File) (at : ℕ) (x : List ℕ) → span_of change ≤ length change → offset_of change + size_of change ≤ new_length touched plan → length x ≡ new_length file plan
+effect_outside : (plan change : List ℕ) (touched file : DiskFile) (at : ℕ) (x : List ℕ) → span_of change ≤ length change → offset_of change + size_of change ≤ new_length touched plan → length x ≡ new_length file plan
     → (touched ≡ file → offset_of change ≤ at → at < offset_of change + size_of change → ⊥) → get_or (effect touched file change x) at 0 ≡ get_or x at 0
 effect_outside plan change Pages Pages at x whole inside is none = ⊎_elim
     (λ before. written_before (offset_of change) (data_of change) x at (omega (arith, inside, is)) before)
@@ -178,7 +178,7 @@ effect_outside plan change Redo Pages at x whole inside is none = refl
 effect_outside plan change Redo Directory at x whole inside is none = refl
 effect_outside plan change Redo Redo at x whole inside is none = refl
 
-replayed_outside : (plan : List ℕ) (n : ℕ) (xs : List ℕ) (file : File) (at : ℕ) (x : List ℕ) → ((k : ℕ) → k < n → Fits plan (rest_after k xs)) → length x ≡ new_length file plan → NoneCovers n xs file at → get_or (replayed file n xs x) at 0 ≡ get_or x at 0
+replayed_outside : (plan : List ℕ) (n : ℕ) (xs : List ℕ) (file : DiskFile) (at : ℕ) (x : List ℕ) → ((k : ℕ) → k < n → Fits plan (rest_after k xs)) → length x ≡ new_length file plan → NoneCovers n xs file at → get_or (replayed file n xs x) at 0 ≡ get_or x at 0
 replayed_outside plan zero xs file at x fits is none = refl
 replayed_outside plan (suc n) xs file at x fits is none =
     let first : Fits plan xs = fits 0 (omega arith) in
@@ -187,7 +187,7 @@ replayed_outside plan (suc n) xs file at x fits is none =
     ∙ effect_outside plan xs (file_of xs) file at x first.whole first.inside is (none 0 (omega arith))
 
 -- a change with more bytes after it has the same bytes
-offers_append : (xs ys : List ℕ) (file : File) (at byte : ℕ) → span_of xs ≤ length xs → Offers xs file at byte → Offers (xs ++ ys) file at byte
+offers_append : (xs ys : List ℕ) (file : DiskFile) (at byte : ℕ) → span_of xs ≤ length xs → Offers xs file at byte → Offers (xs ++ ys) file at byte
 offers_append xs ys file at byte whole offers = record {
   touches = file_append xs ys whole ∙ offers.touches;
   index = offers.index;
@@ -324,7 +324,7 @@ module _ (m q : List ℕ) (m_is : IsPlan m) (q_is : IsPlan q) (grows : Grows m q
   -- the plans applied one after the other, to a file that is no longer than the first plan makes it
   pub renewed_joined : (g : ℕ) (x : List ℕ) → length x ≤ new_length (data_file g) m → renewed (data_file g) (joined m q) x ≡ renewed (data_file g) q (renewed (data_file g) m x)
   renewed_joined g x le =
-      let f : File = data_file g in
+      let f : DiskFile = data_file g in
       let n = new_length f q in
       let first : List ℕ = resized (new_length f m) x in
       let done : List ℕ = replayed f (count_of m) (changes_of m) (resized n x) in
@@ -339,7 +339,7 @@ module _ (m q : List ℕ) (m_is : IsPlan m) (q_is : IsPlan q) (grows : Grows m q
       ∙ ap (λ (l : List ℕ). replayed f (count_of m) (changes_of m) l) (resized_twice (new_length f m) n x le (grows.on g))))
 
   -- the bytes that each plan has
-  has_first : (file : File) (at byte : ℕ) → HasByte m file at byte → HasByte (joined m q) file at byte
+  has_first : (file : DiskFile) (at byte : ℕ) → HasByte m file at byte → HasByte (joined m q) file at byte
   has_first file at byte has = record {
     change = has.change ++ changes_of q;
     one = record {
@@ -350,7 +350,7 @@ module _ (m q : List ℕ) (m_is : IsPlan m) (q_is : IsPlan q) (grows : Grows m q
     offers = offers_append has.change (changes_of q) file at byte (change_whole m has.change m_is has.one).whole has.offers;
   }
 
-  has_next : (file : File) (at byte : ℕ) → HasByte q file at byte → HasByte (joined m q) file at byte
+  has_next : (file : DiskFile) (at byte : ℕ) → HasByte q file at byte → HasByte (joined m q) file at byte
   has_next file at byte has = record {
     change = has.change;
     one = record {
@@ -378,7 +378,7 @@ module _ (m q : List ℕ) (m_is : IsPlan m) (q_is : IsPlan q) (grows : Grows m q
     -- a byte that the first plan does not cover is unchanged after it
     same_outside : (g at : ℕ) → NoneCovers (count_of m) (changes_of m) (data_file g) at → get_or (data_in c (data_file g)) at 0 ≡ get_or (data_in s (data_file g)) at 0
     same_outside g at none =
-        let f : File = data_file g in
+        let f : DiskFile = data_file g in
         let x : List ℕ = data_in c f in
         let n = new_length f m in
         sym (ap (λ (l : List ℕ). get_or l at 0) (sym (done g))

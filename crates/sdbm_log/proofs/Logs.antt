@@ -2,7 +2,7 @@
 use Rattle.std.proofs.Common.{Bool, true, false, ◌≡◌, ◌⊎◌, inl, inr, ⊎_elim, ℕ, zero, suc, ◌+◌, ◌-◌, ◌<◌, ◌≤◌, ◌^◌, List, [], ◌∷◌, ◌++◌, length, drop, get_or, refl, sym, ◌∙◌, ap, subst, arith, length-append, length-drop, append_assoc}
 use Rattle.std.proofs.lemmas.Bool.{cases_eq}
 use Rattle.std.proofs.lemmas.List.{get_or-append_right, get_or-drop, take-append-le, take_all}
-use Rattle.sdbm_saves.specs.declared.disk.File.TheVariants.{Pages, Directory, Redo}
+use Rattle.sdbm_saves.specs.declared.disk.DiskFile.TheVariants.{Pages, Directory, Redo}
 use Rattle.sdbm_saves.specs.Disk.{Image, put, written, resized, Only, Follows, Torn, Within}
 use Rattle.sdbm_saves.specs.Redo.{data_file, new_length, old_length, count_of, changes_of, IsBetween, renewed, data_in, files, renewed_files, IsPlan, Knows, EndsWith, AlikeFor}
 use Rattle.sdbm_log.specs.Log.{first_plan, later_records, AreRecords, ArePlans, after_records, MayBeTorn, joined, joined_all, next_plan, log_plan, record_of, nonzero, is_whole, is_log, is_signed, empty_log, records_of, number_in, number_by, number_of, plan_of, with_plan, KnownBy, CanReplay, files_by, files_of, CanRecoverBy, CanRecover, Holds, HasRecords, CanFollow, IsGrowing, MayGrow, IsKeptLog, IsDurable, IsCommitted, IsLogFile, IsReady, size_at}

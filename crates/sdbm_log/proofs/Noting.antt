@@ -2,7 +2,7 @@
 use Rattle.std.proofs.Common.{Bool, true, false, ◌≡◌, inl, inr, ⊎_elim, ℕ, ◌+◌, ◌<◌, ◌≤◌, List, length, get_or, sym, ◌∙◌, ap, subst, arith, length-drop}
 use Rattle.std.proofs.lemmas.Bool.{cases_eq}
 use Rattle.std.proofs.lemmas.List.{ext_get_or, get_or-drop}
-use Rattle.sdbm_saves.specs.declared.disk.File.TheVariants.{Redo}
+use Rattle.sdbm_saves.specs.declared.disk.DiskFile.TheVariants.{Redo}
 use Rattle.sdbm_saves.specs.Disk.{Image, put, written, Follows, Torn, Within}
 use Rattle.sdbm_saves.specs.Redo.{files}
 use Rattle.sdbm_log.specs.Log.{is_log, is_signed, records_of, number_in, number_by, number_of, log_plan, plan_of, with_plan, files_by, ArePlans, after_records, MayBeTorn, KnownBy, CanReplay, CanRecoverBy, Holds, HasRecords, MayGrow, IsKeptLog, IsReady}

@@ -2,7 +2,7 @@
 use Rattle.std.proofs.Common.{Bool, true, false, if◌then◌else◌, ◌==◌, ◌≡◌, ◌≢◌, inl, inr, ⊎_elim, ℕ, zero, suc, ◌+◌, ◌-◌, ◌≤◌, List, [], ◌∷◌, ◌++◌, length, drop, get_or, refl, sym, ◌∙◌, ap, subst, arith, length-drop}
 use Rattle.std.proofs.lemmas.Bool.{cases_eq}
 use Rattle.std.proofs.lemmas.Bool.Decides.{nat_tests}
-use Rattle.sdbm_saves.specs.declared.disk.File.TheVariants.{Redo}
+use Rattle.sdbm_saves.specs.declared.disk.DiskFile.TheVariants.{Redo}
 use Rattle.sdbm_saves.specs.Acts.{Act, seen_after}
 use Rattle.sdbm_saves.specs.Disk.{Image, put, Only, IsKept}
 use Rattle.sdbm_saves.specs.Redo.{files, renewed_files, renewed_image, CanEnd, IsPlan, Knows, Alike}

@@ -2,7 +2,7 @@
 use Rattle.std.proofs.Common.{◌≡◌, ◌||◌, true, ℕ, zero, suc, List, [], ◌∷◌, length, get_or, nat_eq, refl, sym, ap, subst, arith, eq-eqb}
 use Rattle.std.specs.HashSet.{HashSet, contains, hash_set_len}
 use Rattle.std.specs.List.{list_any}
-use Rattle.sdbm_saves.specs.declared.disk.File.TheVariants.{Pages, Directory}
+use Rattle.sdbm_saves.specs.declared.disk.DiskFile.TheVariants.{Pages, Directory}
 use Rattle.sdbm_saves.specs.Redo.{data_file, file_of, data_in, IsChangeOf, KnowsBlock, Knows}
 use Rattle.sdbm_saves.proofs.Knowing.{never}
 use Rattle.sdbm_log.specs.Places.{KnowsFile}

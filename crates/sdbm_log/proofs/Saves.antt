@@ -3,7 +3,7 @@ use Rattle.std.proofs.Common.{◌≡◌, ◌⊎◌, inl, inr, ⊎_elim, ℕ, suc
 use Rattle.std.proofs.lemmas.List.{drop-append-le, drop_all}
 use Rattle.sdbm_saves.specs.Acts.{Act, seen_after, LeftAfter}
 use Rattle.sdbm_saves.specs.Disk.{Image, put, IsKept}
-use Rattle.sdbm_saves.specs.declared.disk.File.TheVariants.{Redo}
+use Rattle.sdbm_saves.specs.declared.disk.DiskFile.TheVariants.{Redo}
 use Rattle.sdbm_saves.specs.Redo.{count_of, files, renewed_files, IsPlan, Knows}
 use Rattle.sdbm_log.specs.Log.{nonzero, is_log, is_signed, records_of, record_of, number_by, number_of, plan_of, log_plan, files_of, Holds, HasRecords, IsLogFile, IsAtRest, IsDurable, IsCommitted, CanFollow, IsGrowing, MayGrow, IsReady}
 use Rattle.sdbm_log.specs.Doing.{Does}

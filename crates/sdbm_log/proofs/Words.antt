@@ -6,7 +6,7 @@ use Rattle.std.proofs.lemmas.Nat.{from_le_bytes-to_le_bytes_8}
 use Rattle.sdbm_saves.specs.Disk.{written}
 use Rattle.sdbm_addr.specs.Hash.{hash_of}
 use Rattle.sdbm_addr.specs.declared.KeyBytes.TheVariants.{Unsigned}
-use Rattle.sdbm_log.specs.declared.header_notes.Applied.{Applied}
+use Rattle.sdbm_log.specs.declared.header_notes.AppliedHint.{AppliedHint}
 use Rattle.sdbm_log.specs.declared.header_notes.Notes.{Notes}
 use Rattle.sdbm_log.specs.Notes.{words_bytes, word_at, applied_words, notes_words, notes_bytes, AreWords}
 
@@ -54,7 +54,7 @@ spelled_more i words x old lt inside is =
 pub length-notes : (notes : Notes) → length (notes_words notes) ≡ 14
 length-notes notes = by_hint notes.applied
   where
-    by_hint : (applied : Option Applied) → length (notes.saves ∷ notes.saves ∷ applied_words applied) ≡ 14
+    by_hint : (applied : Option AppliedHint) → length (notes.saves ∷ notes.saves ∷ applied_words applied) ≡ 14
     by_hint None = refl
     by_hint (Some applied) = refl
 
@@ -94,11 +94,11 @@ note_of bytes notes are is k lt =
 pub none_noted : (notes : Notes) (saves flag : ℕ) → saves ≡ get_or (notes_words notes) 1 0 → flag ≡ get_or (notes_words notes) 2 0 → flag ≢ 1 → record { saves = saves; applied = None } ≡ notes
 none_noted notes saves flag is flagged isnt = by_hint notes.saves notes.applied is flagged
   where
-    by_hint : (n : ℕ) (applied : Option Applied) → saves ≡ n → flag ≡ get_or (applied_words applied) 0 0 → ◌≡◌ {A = Notes} (record { saves = saves; applied = None }) (record { saves = n; applied = applied })
+    by_hint : (n : ℕ) (applied : Option AppliedHint) → saves ≡ n → flag ≡ get_or (applied_words applied) 0 0 → ◌≡◌ {A = Notes} (record { saves = saves; applied = None }) (record { saves = n; applied = applied })
     by_hint n None same none = λ i. record { saves = same i; applied = None }
     by_hint n (Some applied) same some = absurd (isnt some)
 
-pub some_noted : (bytes : List ℕ) (notes : Notes) (made : Applied) (saves : ℕ) → ((k : ℕ) → k < 14 → word_at k bytes ≡ get_or (notes_words notes) k 0) → word_at 2 bytes ≡ 1
+pub some_noted : (bytes : List ℕ) (notes : Notes) (made : AppliedHint) (saves : ℕ) → ((k : ℕ) → k < 14 → word_at k bytes ≡ get_or (notes_words notes) k 0) → word_at 2 bytes ≡ 1
     → saves ≡ word_at 1 bytes → made.end ≡ word_at 3 bytes → made.boot.first ≡ word_at 4 bytes → made.boot.second ≡ word_at 5 bytes
     → made.pages.device ≡ word_at 6 bytes → made.pages.inode ≡ word_at 7 bytes → made.pages.len ≡ word_at 8 bytes → made.pages.changed ≡ word_at 9 bytes
     → made.directory.device ≡ word_at 10 bytes → made.directory.inode ≡ word_at 11 bytes → made.directory.len ≡ word_at 12 bytes → made.directory.changed ≡ word_at 13 bytes
@@ -106,7 +106,7 @@ pub some_noted : (bytes : List ℕ) (notes : Notes) (made : Applied) (saves : �
 some_noted bytes notes made saves word flag saves_is end first second device inode len changed device_2 inode_2 len_2 changed_2 =
     by_hint notes.saves notes.applied word
   where
-    by_hint : (n : ℕ) (applied : Option Applied) → ((k : ℕ) → k < 14 → word_at k bytes ≡ get_or (3563595725229155443 ∷ n ∷ applied_words applied) k 0) → ◌≡◌ {A = Notes} (record { saves = saves; applied = Some made }) (record { saves = n; applied = applied })
+    by_hint : (n : ℕ) (applied : Option AppliedHint) → ((k : ℕ) → k < 14 → word_at k bytes ≡ get_or (3563595725229155443 ∷ n ∷ applied_words applied) k 0) → ◌≡◌ {A = Notes} (record { saves = saves; applied = Some made }) (record { saves = n; applied = applied })
     by_hint n None word = absurd (omega (arith, flag, word 2 (omega arith)))
     by_hint n (Some applied) word = λ i. record {
       saves = (saves_is ∙ word 1 (omega arith)) i;

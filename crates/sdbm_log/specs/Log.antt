@@ -5,7 +5,7 @@
 -- continues with different bytes is the committed plan of a single save (specs/Redo.antt of sdbm_saves).
 use Rattle.std.specs.Prelude.{Bool, true, false, if◌then◌else◌, ◌==◌, ◌⊎◌, ◌-◌, ◌*◌, ◌/◌, ◌%◌, Option, MatchOption, ◌<◌, ◌≤◌, ◌≡◌, ◌≢◌, ◌^◌, ℕ, zero, suc, ◌+◌, List, [], ◌∷◌, ◌++◌, length, take, drop, replicate, get_or}
 use Rattle.std.specs.Borrow.{Bor}
-use Rattle.sdbm_saves.specs.declared.disk.File.TheVariants.{Pages, Directory}
+use Rattle.sdbm_saves.specs.declared.disk.DiskFile.TheVariants.{Pages, Directory}
 use Rattle.sdbm_saves.specs.Disk.{Image, written}
 use Rattle.sdbm_saves.specs.Drafts.{spelled}
 use Rattle.sdbm_saves.specs.Redo.{number_at, data_file, count_of, changes_of, new_length, old_length, files, renewed_files, stands_for, CanEnd, IsPlan, Knows, EndsWith}

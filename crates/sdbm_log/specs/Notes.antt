@@ -4,7 +4,7 @@ use Rattle.std.specs.Prelude.{◌<◌, ◌^◌, ◌*◌, ℕ, List, [], ◌∷�
 use Rattle.std.specs.Int.{w64, to_le_bytes, from_le_bytes}
 use Rattle.sdbm_addr.specs.Hash.{hash_of}
 use Rattle.sdbm_addr.specs.declared.KeyBytes.TheVariants.{Unsigned}
-use Rattle.sdbm_log.specs.declared.header_notes.Applied.{Applied}
+use Rattle.sdbm_log.specs.declared.header_notes.AppliedHint.{AppliedHint}
 use Rattle.sdbm_log.specs.declared.header_notes.Notes.{Notes}
 
 unfoldable pub words_bytes : List ℕ → List ℕ
@@ -16,7 +16,7 @@ abbrev pub word_at : ℕ → List ℕ → ℕ
 word_at index bytes = from_le_bytes w64 (take 8 (drop (8 * index) bytes))
 
 -- a hint, after a word that is 1 if there is a hint
-abbrev pub applied_words : Option Applied → List ℕ
+abbrev pub applied_words : Option AppliedHint → List ℕ
 applied_words None = replicate 12 0
 applied_words (Some applied) =
     1 ∷ applied.end ∷ applied.boot.first ∷ applied.boot.second

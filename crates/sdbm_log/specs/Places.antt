@@ -1,6 +1,6 @@
 -- The places of one data file that the changes of a plan cover, and the bytes that the plan has for them.
 use Rattle.std.specs.Prelude.{◌<◌, ◌≡◌, ◌⊎◌, ℕ, ◌+◌, List, get_or}
-use Rattle.sdbm_saves.specs.declared.disk.File.{File}
+use Rattle.sdbm_saves.specs.declared.disk.DiskFile.{DiskFile}
 use Rattle.sdbm_saves.specs.Redo.{file_of, offset_of, size_of, data_of, was_of, IsChangeOf, KnowsBlock}
 
 -- a byte is the new byte or the old byte of a change at an index
@@ -14,12 +14,12 @@ pub record IsIn (change : List ℕ) (at : ℕ) : Type 0 where
   pub place : offset_of change + index ≡ at
 
 -- some change of a plan covers a place of a file
-pub record Covers (plan : List ℕ) (file : File) (at : ℕ) : Type 0 where
+pub record Covers (plan : List ℕ) (file : DiskFile) (at : ℕ) : Type 0 where
   pub change : List ℕ
   pub one : IsChangeOf plan change
   pub touches : file_of change ≡ file
   pub inside : IsIn change at
 
 -- a plan knows one of the data files, except for its length
-abbrev pub KnowsFile : List ℕ → File → List ℕ → Type 0
+abbrev pub KnowsFile : List ℕ → DiskFile → List ℕ → Type 0
 KnowsFile plan file bytes = (change : List ℕ) → IsChangeOf plan change → file_of change ≡ file → KnowsBlock plan change bytes

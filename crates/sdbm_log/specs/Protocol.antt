@@ -1,7 +1,7 @@
 -- The calls of a save in a log, of its checkpoint, and of opening it. Each list is made in order. If one of its calls fails, the files are
 -- recovered when they are opened again.
 use Rattle.std.specs.Prelude.{ℕ, zero, suc, ◌+◌, ◌-◌, List, [], ◌∷◌, ◌++◌, replicate}
-use Rattle.sdbm_saves.specs.declared.disk.File.TheVariants.{Pages, Directory, Redo}
+use Rattle.sdbm_saves.specs.declared.disk.DiskFile.TheVariants.{Pages, Directory, Redo}
 use Rattle.sdbm_saves.specs.Acts.{Act, write, resize, sync}
 use Rattle.sdbm_saves.specs.Redo.{file_of, offset_of, data_of, rest_of, new_length, count_of, changes_of}
 

@@ -24,13 +24,13 @@ pub struct Notes {
     /// The number of saves.
     pub saves: u64,
     /// The hint that all records are applied, if they are.
-    pub applied: Option<Applied>,
+    pub applied: Option<AppliedHint>,
 }
 
 /// A hint that all records of the log are applied to both data files. It holds for one boot, because a power failure can undo changes that
 /// were not synced.
 #[derive(Clone, Copy, PartialEq, Eq)]
-pub struct Applied {
+pub struct AppliedHint {
     /// The end of the records, counted from the end of the header.
     pub end: u64,
     /// The boot for which the hint holds.
@@ -103,7 +103,7 @@ impl Notes {
 }
 
 // The words of notes that have a hint.
-fn applied_words(saves: u64, applied: &Applied) -> [u64; WORDS]
+fn applied_words(saves: u64, applied: &AppliedHint) -> [u64; WORDS]
     ensures { (notes : Notes) → notes.saves ≡ saves → notes.applied ≡ Some applied.now → result ≡ notes_words notes }
 {
     [
@@ -147,7 +147,7 @@ fn parse(bytes: &[u8]) -> Notes
             applied: None,
         };
     }
-    let applied = Applied {
+    let applied = AppliedHint {
         end: word(bytes, 3),
         boot: BootId {
             first: word(bytes, 4),
@@ -198,7 +198,7 @@ fn is_same(one: &[u8], other: &[u8]) -> bool
 /// Returns whether notes say that all records of a log are applied. `now` has the end of its records (`records_end`), the current boot, and
 /// the current states of both data files. After the next save the records have a different end, so the hint of the earlier save does not
 /// match. Write notes without a hint before the log is emptied: later records may end at the same place.
-pub fn says_applied(notes: &Notes, now: &Applied) -> bool
+pub fn says_applied(notes: &Notes, now: &AppliedHint) -> bool
     ensures { IsTrue result ↔ notes.now.applied ≡ Some now.now }
 {
     match &notes.applied {

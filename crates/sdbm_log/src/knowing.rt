@@ -4,7 +4,7 @@ ghost use Rattle.std.specs.HashSet.{contains};
 ghost use Rattle.sdbm_saves.specs.Redo.{file_of, offset_of, size_of, span_of, rest_of, IsPlan, IsChangeOf, IsBetween, Offers, HasByte, Knows};
 ghost use Rattle.sdbm_log.specs.Places.{HasOwn, IsIn, Covers, KnowsFile};
 
-use sdbm_saves::{Contents, File, byte_at, number};
+use sdbm_saves::{Contents, DiskFile, byte_at, number};
 use std::alloc::{AllocError, Global};
 use std::collections::HashSet;
 use std::hash::{BuildHasherDefault, FoldHasher};
@@ -24,10 +24,10 @@ pub(crate) fn knows(alloc: Global, plan: &[u8], both: Contents<'_>) -> Result<bo
     if !is_between(number(plan, 20), number(plan, 12), both.directory.len()) {
         return Ok(false);
     }
-    if !knows_file(alloc, plan, File::Pages, both.pages)? {
+    if !knows_file(alloc, plan, DiskFile::Pages, both.pages)? {
         return Ok(false);
     }
-    knows_file(alloc, plan, File::Directory, both.directory)
+    knows_file(alloc, plan, DiskFile::Directory, both.directory)
 }
 
 // Returns whether a length is one of two, or between them.
@@ -38,7 +38,7 @@ fn is_between(one: usize, other: usize, len: usize) -> bool
 }
 
 // Returns whether a plan knows one of the files: if a change does not have the byte at a place that it covers, another change must have it.
-fn knows_file(alloc: Global, plan: &[u8], file: File, bytes: &[u8]) -> Result<bool, AllocError>
+fn knows_file(alloc: Global, plan: &[u8], file: DiskFile, bytes: &[u8]) -> Result<bool, AllocError>
     requires { IsPlan plan.now }
     ensures { IfOk result (λ known. IsTrue known ↔ KnowsFile plan.now file bytes.now) }
 {
@@ -48,7 +48,7 @@ fn knows_file(alloc: Global, plan: &[u8], file: File, bytes: &[u8]) -> Result<bo
 }
 
 // The places of a file that some change covers without having their byte.
-fn lacking(alloc: Global, plan: &[u8], file: File, bytes: &[u8]) -> Result<Places, AllocError>
+fn lacking(alloc: Global, plan: &[u8], file: DiskFile, bytes: &[u8]) -> Result<Places, AllocError>
     requires { IsPlan plan.now }
     ensures all { IfOk result (λ places. (change : List ℕ) → IsChangeOf plan.now change → file_of change ≡ file → (i : ℕ) → i < size_of change
         → (contains nat_eq places (offset_of change + i) ≡ true) ⊎ HasOwn change i (get_or bytes.now (offset_of change + i) 0)) }
@@ -68,7 +68,7 @@ fn lacking(alloc: Global, plan: &[u8], file: File, bytes: &[u8]) -> Result<Place
 fn add_lacking(
     places: &mut Places,
     change: &[u8],
-    file: File,
+    file: DiskFile,
     bytes: &[u8],
 ) -> Result<(), AllocError>
     requires whole { span_of change.now ≤ length change.now }
@@ -111,7 +111,7 @@ fn add_place(
 }
 
 // Removes the places of a file whose byte some change has.
-fn strike(places: &mut Places, plan: &[u8], file: File, bytes: &[u8])
+fn strike(places: &mut Places, plan: &[u8], file: DiskFile, bytes: &[u8])
     requires { IsPlan plan.now }
     ensures only { (at : ℕ) → contains nat_eq places.new at ≡ true → (contains nat_eq places.old at ≡ true) × (HasByte plan.now file at (get_or bytes.now at 0) → ⊥) }
     ensures rest { (at : ℕ) → contains nat_eq places.old at ≡ true → (contains nat_eq places.new at ≡ true) ⊎ HasByte plan.now file at (get_or bytes.now at 0) }
@@ -125,7 +125,7 @@ fn strike(places: &mut Places, plan: &[u8], file: File, bytes: &[u8])
 }
 
 // Removes the places of a file whose byte a change has.
-fn strike_own(places: &mut Places, change: &[u8], file: File, bytes: &[u8])
+fn strike_own(places: &mut Places, change: &[u8], file: DiskFile, bytes: &[u8])
     requires whole { span_of change.now ≤ length change.now }
     ensures only { (at : ℕ) → contains nat_eq places.new at ≡ true → (contains nat_eq places.old at ≡ true) × (Offers change.now file at (get_or bytes.now at 0) → ⊥) }
     ensures rest { (at : ℕ) → contains nat_eq places.old at ≡ true → (contains nat_eq places.new at ≡ true) ⊎ Offers change.now file at (get_or bytes.now at 0) }
@@ -166,14 +166,14 @@ fn has(change: &[u8], index: usize, byte: u8) -> bool
 }
 
 // The file of a change.
-fn file_of(change: &[u8]) -> File
+fn file_of(change: &[u8]) -> DiskFile
     requires { 1 ≤ length change.now }
     ensures { result ≡ file_of change.now }
 {
     if change[0] == 0 {
-        File::Pages
+        DiskFile::Pages
     } else {
-        File::Directory
+        DiskFile::Directory
     }
 }
 

@@ -16,7 +16,9 @@ mod steps;
 #[cfg(test)]
 mod tests;
 
-pub use header_notes::{Applied, BootId, FileState, NOTES_LEN, NOTES_START, Notes, says_applied};
+pub use header_notes::{
+    AppliedHint, BootId, FileState, NOTES_LEN, NOTES_START, Notes, says_applied,
+};
 pub use log::Log;
 pub use making::make_steps;
 pub use opening::{OpenSteps, close_steps, open_steps, recover_steps};

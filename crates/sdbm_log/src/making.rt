@@ -6,7 +6,7 @@ ghost use Rattle.sdbm_log.specs.Doing.{CanCall, CanDo, AnyMoment};
 ghost use Rattle.sdbm_log.specs.Steps.{act_of, acts_of};
 
 use crate::steps::Step;
-use sdbm_saves::{Disk, DiskError, File};
+use sdbm_saves::{Disk, DiskError, DiskFile};
 use std::alloc::{AllocError, Global};
 
 /// Makes steps on a disk, in order. Allocates the zeros that are written.
@@ -74,7 +74,7 @@ pub(crate) fn part(bytes: &[u8], from: usize, len: usize) -> &[u8]
 }
 
 // Writes bytes at an offset.
-fn write<D: Disk>(disk: &mut D, file: File, at: usize, bytes: &[u8]) -> Result<(), DiskError>
+fn write<D: Disk>(disk: &mut D, file: DiskFile, at: usize, bytes: &[u8]) -> Result<(), DiskError>
     requires { at ≤ length (content file (D.seen disk.old)) }
     ensures written { OnOk result (D.seen disk.new ≡ put file (written at bytes.now (content file (D.seen disk.old))) (D.seen disk.old)) }
     ensures any_moment { Through D.moment D.left_since D.may_leave (Within file (Torn at bytes.now)) disk.old disk.new }
@@ -87,7 +87,7 @@ fn write<D: Disk>(disk: &mut D, file: File, at: usize, bytes: &[u8]) -> Result<(
 fn write_zeros<D: Disk>(
     alloc: Global,
     disk: &mut D,
-    file: File,
+    file: DiskFile,
     at: usize,
     len: usize,
 ) -> Result<(), DiskError>

@@ -6,7 +6,7 @@ ghost use Rattle.sdbm_log.specs.Steps.{acts_of, with_head};
 ghost use Rattle.sdbm_log.specs.Protocol.{commit_acts, change_acts, apply_acts, close_acts, clear_acts, start_acts, settle_acts};
 
 use crate::log::HEADER;
-use sdbm_saves::{File, number};
+use sdbm_saves::{DiskFile, number};
 use std::alloc::{AllocError, Global};
 
 /// A call on one of the three files. The bytes of writes are in a separate buffer.
@@ -14,25 +14,25 @@ use std::alloc::{AllocError, Global};
 pub enum Step {
     /// Writes `len` bytes of the buffer, from `from` on, at this offset.
     Write {
-        file: File,
+        file: DiskFile,
         at: usize,
         from: usize,
         len: usize,
     },
     /// Writes zeros at this offset.
     Zeros {
-        file: File,
+        file: DiskFile,
         at: usize,
         len: usize,
     },
     /// Truncates a file, or extends it with zeros.
     Resize {
-        file: File,
+        file: DiskFile,
         len: usize,
     },
     /// Syncs a file: its bytes, its length and its name.
     Sync {
-        file: File,
+        file: DiskFile,
     },
 }
 
@@ -49,10 +49,14 @@ pub(crate) fn push_settle(steps: &mut Vec<Step>) -> Result<(), AllocError>
     ensures { OnOk result ((bytes : List ℕ) → acts_of bytes steps.new.items ≡ acts_of bytes steps.old.items ++ settle_acts) }
 {
     steps.extend_from_slice(&[
-        Step::Sync { file: File::Redo },
-        Step::Sync { file: File::Pages },
         Step::Sync {
-            file: File::Directory,
+            file: DiskFile::Redo,
+        },
+        Step::Sync {
+            file: DiskFile::Pages,
+        },
+        Step::Sync {
+            file: DiskFile::Directory,
         },
     ])
 }
@@ -65,7 +69,7 @@ pub(crate) fn push_commit(steps: &mut Vec<Step>, end: usize, len: usize) -> Resu
 {
     if end == 0 {
         steps.extend_from_slice(&[Step::Write {
-            file: File::Redo,
+            file: DiskFile::Redo,
             at: 0,
             from: 0,
             len: 1,
@@ -73,12 +77,14 @@ pub(crate) fn push_commit(steps: &mut Vec<Step>, end: usize, len: usize) -> Resu
     }
     steps.extend_from_slice(&[
         Step::Write {
-            file: File::Redo,
+            file: DiskFile::Redo,
             at: HEADER + end,
             from: RECORD_AT,
             len,
         },
-        Step::Sync { file: File::Redo },
+        Step::Sync {
+            file: DiskFile::Redo,
+        },
     ])
 }
 
@@ -92,11 +98,11 @@ pub(crate) fn push_apply(steps: &mut Vec<Step>, plan: &[u8], from: usize) -> Res
 {
     steps.extend_from_slice(&[
         Step::Resize {
-            file: File::Pages,
+            file: DiskFile::Pages,
             len: number(plan, 8),
         },
         Step::Resize {
-            file: File::Directory,
+            file: DiskFile::Directory,
             len: number(plan, 12),
         },
     ])?;
@@ -159,14 +165,14 @@ fn push_change(steps: &mut Vec<Step>, change: &[u8], from: usize) -> Result<(), 
 }
 
 // The file of the first of some changes.
-fn file_of(change: &[u8]) -> File
+fn file_of(change: &[u8]) -> DiskFile
     requires { 1 ≤ length change.now }
     ensures { result ≡ file_of change.now }
 {
     if change[0] == 0 {
-        File::Pages
+        DiskFile::Pages
     } else {
-        File::Directory
+        DiskFile::Directory
     }
 }
 
@@ -175,16 +181,20 @@ pub(crate) fn push_close(steps: &mut Vec<Step>) -> Result<(), AllocError>
     ensures { OnOk result ((bytes : List ℕ) → acts_of bytes steps.new.items ≡ acts_of bytes steps.old.items ++ close_acts) }
 {
     steps.extend_from_slice(&[
-        Step::Sync { file: File::Pages },
         Step::Sync {
-            file: File::Directory,
+            file: DiskFile::Pages,
+        },
+        Step::Sync {
+            file: DiskFile::Directory,
         },
         Step::Zeros {
-            file: File::Redo,
+            file: DiskFile::Redo,
             at: 0,
             len: 1,
         },
-        Step::Sync { file: File::Redo },
+        Step::Sync {
+            file: DiskFile::Redo,
+        },
     ])
 }
 
@@ -194,11 +204,13 @@ pub(crate) fn push_clear(steps: &mut Vec<Step>, len: usize) -> Result<(), AllocE
 {
     steps.extend_from_slice(&[
         Step::Zeros {
-            file: File::Redo,
+            file: DiskFile::Redo,
             at: HEADER,
             len,
         },
-        Step::Sync { file: File::Redo },
+        Step::Sync {
+            file: DiskFile::Redo,
+        },
     ])
 }
 
@@ -209,20 +221,22 @@ pub(crate) fn push_start(steps: &mut Vec<Step>, len: usize) -> Result<(), AllocE
 {
     steps.extend_from_slice(&[
         Step::Resize {
-            file: File::Redo,
+            file: DiskFile::Redo,
             len,
         },
         Step::Zeros {
-            file: File::Redo,
+            file: DiskFile::Redo,
             at: 9,
             len: len - 9,
         },
         Step::Write {
-            file: File::Redo,
+            file: DiskFile::Redo,
             at: 0,
             from: 1,
             len: 9,
         },
-        Step::Sync { file: File::Redo },
+        Step::Sync {
+            file: DiskFile::Redo,
+        },
     ])
 }

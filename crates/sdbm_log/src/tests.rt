@@ -3,10 +3,10 @@
 use crate::making::part;
 use crate::records::push_record;
 use crate::{
-    Applied, BootId, FileState, Log, LogFault, LogFiles, NOTES_LEN, Notes, ReadSteps, Step,
+    AppliedHint, BootId, FileState, Log, LogFault, LogFiles, NOTES_LEN, Notes, ReadSteps, Step,
     close_steps, is_log, open_steps, plan_of, read_steps, records_end, save_steps, says_applied,
 };
-use sdbm_saves::{File, Found, is_plan, lay_over, spelled};
+use sdbm_saves::{DiskFile, Found, is_plan, lay_over, spelled};
 use std::alloc::{AllocError, Global};
 use std::marker::Brand;
 use std::test::Fail;
@@ -83,7 +83,12 @@ fn reads(alloc: Global, pages: &[u8], log: &[u8], meant: &[u8]) -> Result<bool, 
     if !is_plan(plan.as_slice()) {
         return Ok(false);
     }
-    let laid = lay_over(alloc, plan.as_slice(), File::Pages, found.pages.as_slice())?;
+    let laid = lay_over(
+        alloc,
+        plan.as_slice(),
+        DiskFile::Pages,
+        found.pages.as_slice(),
+    )?;
     Ok(laid.as_slice() == meant)
 }
 
@@ -172,8 +177,8 @@ fn a_byte_that_two_saves_change_may_be_that_of_each(rt: HostRuntime) -> Result<(
     Ok(())
 }
 
-fn applied(end: u64, changed: u64) -> Applied {
-    Applied {
+fn applied(end: u64, changed: u64) -> AppliedHint {
+    AppliedHint {
         end,
         boot: BootId {
             first: 3,
@@ -276,15 +281,15 @@ impl Memory {
         })
     }
 
-    fn bytes_of(&mut self, file: File) -> &mut Vec<u8> {
+    fn bytes_of(&mut self, file: DiskFile) -> &mut Vec<u8> {
         match file {
-            File::Pages => &mut self.files.pages,
-            File::Directory => &mut self.files.directory,
-            File::Redo => &mut self.files.redo,
+            DiskFile::Pages => &mut self.files.pages,
+            DiskFile::Directory => &mut self.files.directory,
+            DiskFile::Redo => &mut self.files.redo,
         }
     }
 
-    fn write(&mut self, file: File, at: usize, bytes: &[u8]) -> Result<(), AllocError> {
+    fn write(&mut self, file: DiskFile, at: usize, bytes: &[u8]) -> Result<(), AllocError> {
         let old = self.bytes_of(file);
         let end = at.saturating_add(bytes.len());
         if old.len() < end {
@@ -432,7 +437,7 @@ fn a_closed_log_is_used_again(rt: HostRuntime) -> Result<(), Fail> {
     disk.save(rt.alloc(), log, 1, 7, ALL)?;
     let steps = close_steps::<Brand>(rt.alloc())?;
     disk.make_all(rt.alloc(), &[], steps.as_slice())?;
-    disk.write(File::Pages, 1, &[8])?;
+    disk.write(DiskFile::Pages, 1, &[8])?;
     let log = disk.open(rt.alloc())?;
     assert!(rt; disk.files.pages.as_slice() == [0, 8, 0, 0].as_slice());
     assert_eq!(rt; log.room, 400);

@@ -2,18 +2,18 @@
 ghost use Rattle.std.specs.Prelude.{get_or, ◌≢◌, ◌≡◌, ◌⊎◌, ◌<◌, length, IsTrue, OnOk, IfOk};
 ghost use Rattle.sdbm_saves.specs.Disk.{Image, LeavesOnly, HasCause};
 ghost use Rattle.sdbm_saves.specs.Redo.{files, renewed, renewed_files, new_length, IsPlan, Knows};
-ghost use Rattle.sdbm_saves.specs.declared.disk.File.TheVariants.{Pages, Directory};
+ghost use Rattle.sdbm_saves.specs.declared.disk.DiskFile.TheVariants.{Pages, Directory};
 ghost use Rattle.sdbm_saves.specs.declared.disk.DiskError.TheVariants.{Failed};
 ghost use Rattle.sdbm_log.specs.Log.{Holds, IsReady};
 ghost use Rattle.sdbm_logged.specs.Keeping.{bytes_of, IsKept};
 ghost use Rattle.sdbm_logged.specs.declared.keeping.NextSave.TheVariants.{Full, Done, Pending};
-ghost use Rattle.sdbm_logged.specs.declared.saving.Saved.TheVariants as saved;
+ghost use Rattle.sdbm_logged.specs.declared.saving.LogSave.TheVariants as saved;
 
 use crate::once::open_for;
 use crate::room::wants_blocks;
-use crate::saving::{PLAN_LIMIT, Saved, save_by};
+use crate::saving::{LogSave, PLAN_LIMIT, save_by};
 use sdbm_log::Log;
-use sdbm_saves::{Contents, Disk, DiskError, File, lay_in, lay_over, number};
+use sdbm_saves::{Contents, Disk, DiskError, DiskFile, lay_in, lay_over, number};
 use std::alloc::{AllocError, Global};
 use std::marker::Model;
 
@@ -48,8 +48,8 @@ impl DataBytes {
         ensures pages { IfOk result (λ new. new.pages.items ≡ renewed Pages plan.now self.now.pages.items) }
         ensures directory { IfOk result (λ new. new.directory.items ≡ renewed Directory plan.now self.now.directory.items) }
     {
-        let pages = lay_over(alloc, plan, File::Pages, self.pages.as_slice())?;
-        let directory = lay_over(alloc, plan, File::Directory, self.directory.as_slice())?;
+        let pages = lay_over(alloc, plan, DiskFile::Pages, self.pages.as_slice())?;
+        let directory = lay_over(alloc, plan, DiskFile::Directory, self.directory.as_slice())?;
         Ok(DataBytes { pages, directory })
     }
 
@@ -61,8 +61,8 @@ impl DataBytes {
         ensures pages { self.new.pages.items ≡ renewed Pages plan.now self.old.pages.items }
         ensures directory { self.new.directory.items ≡ renewed Directory plan.now self.old.directory.items }
     {
-        lay_in(self.pages.as_mut_slice(), File::Pages, plan);
-        lay_in(self.directory.as_mut_slice(), File::Directory, plan);
+        lay_in(self.pages.as_mut_slice(), DiskFile::Pages, plan);
+        lay_in(self.directory.as_mut_slice(), DiskFile::Directory, plan);
     }
 
     // Returns whether a plan keeps the lengths of the files.
@@ -106,7 +106,7 @@ pub fn save_first<D: Disk>(
     redo: &[u8],
     plan: &[u8],
     room: usize,
-) -> Result<(Saved, Log), DiskError>
+) -> Result<(LogSave, Log), DiskError>
     requires read { redo.now ≡ (D.seen disk.old).redo }
     requires unmarked { get_or redo.now 0 0 ≢ 1 }
     requires plan { IsPlan plan.now }
@@ -167,11 +167,11 @@ pub fn save_next<D: Disk>(
         return Ok(NextSave::Full);
     }
     match save_by(alloc, disk, &mut keeper.log, plan)? {
-        Saved::Done => {
+        LogSave::Done => {
             keeper.files.renew(plan);
             Ok(NextSave::Done)
         }
-        Saved::Pending(fault) => Ok(NextSave::Pending(fault)),
+        LogSave::Pending(fault) => Ok(NextSave::Pending(fault)),
     }
 }
 

@@ -15,4 +15,4 @@ pub use fault::OpenFault;
 pub use keeping::{DataBytes, Keeper, KeptDisk, LoggedDisk, NextSave, save_first, save_next};
 pub use once::{close_kept, open_for, save_once};
 pub use opening::open_log;
-pub use saving::{PLAN_LIMIT, Saved, save_by};
+pub use saving::{LogSave, PLAN_LIMIT, save_by};

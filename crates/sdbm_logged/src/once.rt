@@ -4,16 +4,16 @@ ghost use Rattle.sdbm_saves.specs.Disk.{Image, Through, LeavesOnly, HasCause};
 ghost use Rattle.sdbm_saves.specs.Redo.{files, renewed_files, IsPlan, Knows, StaysUnmarked};
 ghost use Rattle.sdbm_saves.specs.declared.disk.DiskError.TheVariants.{Failed};
 ghost use Rattle.sdbm_log.specs.Log.{Holds, IsAtRest, IsReady};
-ghost use Rattle.sdbm_logged.specs.declared.saving.Saved.TheVariants.{Done, Pending};
+ghost use Rattle.sdbm_logged.specs.declared.saving.LogSave.TheVariants.{Done, Pending};
 
 use crate::closing::close_log;
 use crate::fault::OpenFault;
 use crate::opening::open_log;
 use crate::room::try_room;
-use crate::saving::{Saved, save_by};
+use crate::saving::{LogSave, save_by};
 use crate::settling::settle;
 use sdbm_log::{Log, LogFault, LogFiles};
-use sdbm_saves::{Disk, DiskError, File};
+use sdbm_saves::{Disk, DiskError, DiskFile};
 use std::alloc::Global;
 
 // The length of the header of a log, in bytes.
@@ -43,7 +43,7 @@ pub fn save_once<D: Disk>(
     disk: &mut D,
     redo: &[u8],
     plan: &[u8],
-) -> Result<Saved, DiskError>
+) -> Result<LogSave, DiskError>
     requires read { redo.now ≡ (D.seen disk.old).redo }
     requires unmarked { get_or redo.now 0 0 ≢ 1 }
     requires plan { IsPlan plan.now }
@@ -66,8 +66,8 @@ pub fn save_once<D: Disk>(
 {
     let mut log = open_for(alloc, disk, redo, plan, LEAST_ROOM)?;
     match save_by(alloc, disk, &mut log, plan)? {
-        Saved::Done => Ok(end_once(alloc, disk, log)),
-        Saved::Pending(fault) => Ok(Saved::Pending(fault)),
+        LogSave::Done => Ok(end_once(alloc, disk, log)),
+        LogSave::Pending(fault) => Ok(LogSave::Pending(fault)),
     }
 }
 
@@ -131,7 +131,7 @@ fn open_rest<D: Disk>(
 }
 
 // Closes the log of a single save, then clears its records or removes it.
-fn end_once<D: Disk>(alloc: Global, disk: &mut D, log: Log) -> Saved
+fn end_once<D: Disk>(alloc: Global, disk: &mut D, log: Log) -> LogSave
     requires ready { IsReady log.end log.room log.count (D.seen disk.old) (D.may_leave disk.old) }
 
     ensures rest { result ≡ Done → IsAtRest (D.seen disk.new) (D.may_leave disk.new) }
@@ -142,8 +142,8 @@ fn end_once<D: Disk>(alloc: Global, disk: &mut D, log: Log) -> Saved
     ensures pending { result ≡ Pending Failed → D.has_failed disk.new }
 {
     match close_kept(alloc, disk, log) {
-        Ok(()) => Saved::Done,
-        Err(fault) => Saved::Pending(fault),
+        Ok(()) => LogSave::Done,
+        Err(fault) => LogSave::Pending(fault),
     }
 }
 
@@ -209,6 +209,6 @@ fn write_zeros<D: Disk>(disk: &mut D, room: usize, zeros: &[u8]) -> Result<(), D
     ensures any_moment { LeavesOnly D.moment D.left_since disk.old disk.new (λ c. Holds (files (D.seen disk.old)) c) }
     ensures cause { HasCause (D.has_failed disk.old) (D.has_failed disk.new) result }
 {
-    disk.resize(File::Redo, HEADER + room)?;
-    disk.write_at(File::Redo, HEADER, zeros)
+    disk.resize(DiskFile::Redo, HEADER + room)?;
+    disk.write_at(DiskFile::Redo, HEADER, zeros)
 }

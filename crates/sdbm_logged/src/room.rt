@@ -4,7 +4,7 @@ ghost use Rattle.sdbm_saves.specs.Disk.{Through, LeavesOnly, HasCause};
 ghost use Rattle.sdbm_saves.specs.Redo.{span_of, IsPlan, files, StaysUnmarked};
 ghost use Rattle.sdbm_log.specs.Log.{Holds, IsAtRest};
 
-use sdbm_saves::{Disk, DiskError, File, file_of, number, rest_of, was_of};
+use sdbm_saves::{Disk, DiskError, DiskFile, file_of, number, rest_of, was_of};
 
 /// The allocation unit of a file system, in bytes. If the real unit differs, the room that is tried is too small or too large.
 const DISK_BLOCK: usize = 4096;
@@ -52,8 +52,8 @@ pub(crate) fn wants_blocks(plan: &[u8]) -> bool
 fn blocks_wanted(plan: &[u8]) -> usize
     requires { IsPlan plan.now }
 {
-    let pages = new_blocks(plan, File::Pages);
-    pages.saturating_add(new_blocks(plan, File::Directory))
+    let pages = new_blocks(plan, DiskFile::Pages);
+    pages.saturating_add(new_blocks(plan, DiskFile::Directory))
 }
 
 // Writes a zero into each block of a new redo file, and removes the file.
@@ -67,7 +67,7 @@ fn try_blocks<D: Disk>(disk: &mut D, blocks: usize) -> Result<(), DiskError>
 {
     let blocks = blocks.min(MOST);
     disk.clear()?;
-    disk.resize(File::Redo, blocks * DISK_BLOCK)?;
+    disk.resize(DiskFile::Redo, blocks * DISK_BLOCK)?;
     fill(disk, blocks)?;
     disk.clear()
 }
@@ -82,14 +82,14 @@ fn fill<D: Disk>(disk: &mut D, blocks: usize) -> Result<(), DiskError>
     ensures cause { HasCause (D.has_failed disk.old) (D.has_failed disk.new) result }
 {
     for index in 0..blocks {
-        disk.write_at(File::Redo, index * DISK_BLOCK, &[0])?;
+        disk.write_at(DiskFile::Redo, index * DISK_BLOCK, &[0])?;
     }
     Ok(())
 }
 
 // The number of blocks that the changes of one file may need and the file does not have. It is an estimate: a page of zeros may be a hole
 // or not. No contract specifies it or depends on it.
-fn new_blocks(plan: &[u8], file: File) -> usize
+fn new_blocks(plan: &[u8], file: DiskFile) -> usize
     requires { IsPlan plan.now }
 {
     let count = number(plan, 24);
@@ -114,8 +114,8 @@ fn wants_room(plan: &[u8], change: &[u8]) -> bool
     requires whole { span_of change.now ≤ length change.now }
 {
     let end = match file_of(change) {
-        File::Pages => number(plan, 16),
-        File::Directory | File::Redo => number(plan, 20),
+        DiskFile::Pages => number(plan, 16),
+        DiskFile::Directory | DiskFile::Redo => number(plan, 20),
     };
     number(change, 1) + number(change, 5) > end || is_zero(was_of(change))
 }

@@ -4,7 +4,7 @@ ghost use Rattle.sdbm_saves.specs.Disk.{Image, LeavesOnly, HasCause};
 ghost use Rattle.sdbm_saves.specs.Redo.{files, renewed_files, IsPlan, Knows};
 ghost use Rattle.sdbm_saves.specs.declared.disk.DiskError.TheVariants.{Failed};
 ghost use Rattle.sdbm_log.specs.Log.{Holds, IsReady};
-ghost use Rattle.sdbm_logged.specs.declared.saving.Saved.TheVariants.{Done, Pending};
+ghost use Rattle.sdbm_logged.specs.declared.saving.LogSave.TheVariants.{Done, Pending};
 
 use sdbm_log::{Log, make_steps, save_steps};
 use sdbm_saves::{Disk, DiskError};
@@ -16,7 +16,7 @@ pub const PLAN_LIMIT: usize = 3_000_000_000;
 
 /// The outcome of a save that is committed.
 #[derive(Clone, Copy, Debug, PartialEq, Eq)]
-pub enum Saved {
+pub enum LogSave {
     /// Both data files are written, and the log can take the next save.
     Done,
     /// The save is durable, but a data file or the log could not be written: open the files again.
@@ -33,7 +33,7 @@ pub fn save_by<D: Disk>(
     disk: &mut D,
     log: &mut Log,
     plan: &[u8],
-) -> Result<Saved, DiskError>
+) -> Result<LogSave, DiskError>
     requires plan { IsPlan plan.now }
     requires short { length plan.now < 3000000000 }
     requires near { log.old.end ≤ 4000000000 }
@@ -60,8 +60,8 @@ pub fn save_by<D: Disk>(
     match make_steps(alloc, disk, bytes, save.apply.as_slice()) {
         Ok(()) => {
             *log = save.log;
-            Ok(Saved::Done)
+            Ok(LogSave::Done)
         }
-        Err(fault) => Ok(Saved::Pending(fault)),
+        Err(fault) => Ok(LogSave::Pending(fault)),
     }
 }

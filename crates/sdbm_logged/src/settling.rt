@@ -3,7 +3,7 @@ ghost use Rattle.std.specs.Prelude.{◌≡◌, ◌≢◌, get_or, OnOk};
 ghost use Rattle.sdbm_saves.specs.Disk.{LeavesOnly, HasCause};
 ghost use Rattle.sdbm_log.specs.Log.{IsAtRest};
 
-use sdbm_saves::{Disk, DiskError, File};
+use sdbm_saves::{Disk, DiskError, DiskFile};
 
 // Syncs all three files. After a kill, bytes that are read may not be durable.
 pub(crate) fn settle<D: Disk>(disk: &mut D) -> Result<(), DiskError>
@@ -14,7 +14,7 @@ pub(crate) fn settle<D: Disk>(disk: &mut D) -> Result<(), DiskError>
     ensures any_moment { LeavesOnly D.moment D.left_since disk.old disk.new (D.may_leave disk.old) }
     ensures cause { HasCause (D.has_failed disk.old) (D.has_failed disk.new) result }
 {
-    disk.sync(File::Redo)?;
-    disk.sync(File::Pages)?;
-    disk.sync(File::Directory)
+    disk.sync(DiskFile::Redo)?;
+    disk.sync(DiskFile::Pages)?;
+    disk.sync(DiskFile::Directory)
 }

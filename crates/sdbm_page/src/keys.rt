@@ -5,8 +5,8 @@ ghost use Rattle.sdbm_page.specs.Faults.{IsLayout, AreKeys};
 ghost use Rattle.sdbm_page.specs.Keys.{AreInside, AreApart, IsKeyBefore};
 
 use crate::fields::key_in;
-use crate::layout::Layout;
 use crate::key_filter::KeyFilter;
+use crate::layout::Layout;
 use crate::sorted::are_apart_sorted;
 use sdbm_addr::PageSize;
 

@@ -2,8 +2,8 @@
 use Rattle.std.proofs.Common.{◌≡◌, ◌≢◌, ⊎_elim, ℕ, zero, suc, ◌+◌, ◌-◌, ◌<◌, ◌≤◌, ◌^◌, inr, min, List, ◌++◌, length, take, drop, get_or, refl, sym, ◌∙◌, ap, subst, arith, length-append, length-drop}
 use Rattle.std.proofs.lemmas.List.{get_or_append_left, get_or-take, get_or-drop, get_or_past, take_all, drop_all, drop-drop, take-append-le, drop-append-le, length-take-le, ext_get_or}
 use Rattle.std.proofs.lemmas.Bool.{cases_lt}
-use Rattle.sdbm_saves.specs.declared.disk.File.{File}
-use Rattle.sdbm_saves.specs.declared.disk.File.TheVariants.{Pages, Directory, Redo}
+use Rattle.sdbm_saves.specs.declared.disk.DiskFile.{DiskFile}
+use Rattle.sdbm_saves.specs.declared.disk.DiskFile.TheVariants.{Pages, Directory, Redo}
 use Rattle.sdbm_saves.specs.Disk.{written, resized}
 use Rattle.sdbm_saves.specs.Redo.{number_at, data_file, file_of, offset_of, size_of, data_of, was_of, span_of, rest_of, rest_after, effect, replayed, new_length, old_length, count_of, renewed, data_in, IsPlan, Knows}
 use Rattle.sdbm_saves.specs.Drafts.{change_bytes, plan_bytes, part_of, length_in, FitsIn, AreChanges}
@@ -19,7 +19,7 @@ number_append xs ys at inside =
     let fourth = get_or_append_left xs ys 0 (at + 3) (omega (arith, inside)) in
     omega (arith, first, second, third, fourth)
 
-effect_same : (touched file : File) (xs zs x : List ℕ) → offset_of zs ≡ offset_of xs → data_of zs ≡ data_of xs → effect touched file zs x ≡ effect touched file xs x
+effect_same : (touched file : DiskFile) (xs zs x : List ℕ) → offset_of zs ≡ offset_of xs → data_of zs ≡ data_of xs → effect touched file zs x ≡ effect touched file xs x
 effect_same Pages Pages xs zs x offsets datas = λ i. written (offsets i) (datas i) x
 effect_same Pages Directory xs zs x offsets datas = refl
 effect_same Pages Redo xs zs x offsets datas = refl
@@ -54,7 +54,7 @@ module _ (xs ys : List ℕ) (whole : span_of xs ≤ length xs) where
   pub rest_append : rest_of (xs ++ ys) ≡ rest_of xs ++ ys
   rest_append = ap (λ n. drop (9 + (n + n)) (xs ++ ys)) size_append ∙ drop-append-le (span_of xs) xs ys whole
 
-  pub effect_append : (file : File) (x : List ℕ) → effect (file_of (xs ++ ys)) file (xs ++ ys) x ≡ effect (file_of xs) file xs x
+  pub effect_append : (file : DiskFile) (x : List ℕ) → effect (file_of (xs ++ ys)) file (xs ++ ys) x ≡ effect (file_of xs) file xs x
   effect_append file x = ap (λ t. effect t file (xs ++ ys) x) file_append ∙ effect_same (file_of xs) file xs (xs ++ ys) x offset_append data_append
 
 module _ (pages directory : ℕ) (before : List ℕ × List ℕ) where
@@ -69,7 +69,7 @@ module _ (pages directory : ℕ) (before : List ℕ × List ℕ) where
   rest_behind (suc n) xs ys are =
       ap (λ (l : List ℕ). rest_after n l) (rest_append xs ys (first_fits n xs are).whole) ∙ rest_behind n (rest_of xs) ys (next n xs are)
 
-  replayed_behind : (file : File) (n : ℕ) (xs ys x : List ℕ) → AreChanges pages directory before n xs → replayed file n (xs ++ ys) x ≡ replayed file n xs x
+  replayed_behind : (file : DiskFile) (n : ℕ) (xs ys x : List ℕ) → AreChanges pages directory before n xs → replayed file n (xs ++ ys) x ≡ replayed file n xs x
   replayed_behind file zero xs ys x are = refl
   replayed_behind file (suc n) xs ys x are =
       let whole = (first_fits n xs are).whole in
@@ -107,14 +107,14 @@ module _ (pages directory : ℕ) (before : List ℕ × List ℕ) where
     ends = rest_next n (xs ++ ys) ∙ ap (λ (l : List ℕ). rest_of l) (rest_behind n xs ys are) ∙ drop_all (span_of ys) ys (omega (arith, long));
   }
 
-  pub replayed_one_more : (file : File) (n : ℕ) (xs ys x : List ℕ) → AreChanges pages directory before n xs → replayed file (n + 1) (xs ++ ys) x ≡ effect (file_of ys) file ys (replayed file n xs x)
+  pub replayed_one_more : (file : DiskFile) (n : ℕ) (xs ys x : List ℕ) → AreChanges pages directory before n xs → replayed file (n + 1) (xs ++ ys) x ≡ effect (file_of ys) file ys (replayed file n xs x)
   replayed_one_more file n xs ys x are =
       replayed_next file n (xs ++ ys) x
       ∙ ap (λ (l : List ℕ). effect (file_of l) file l (replayed file n (xs ++ ys) x)) (rest_behind n xs ys are)
       ∙ ap (λ (l : List ℕ). effect (file_of ys) file ys l) (replayed_behind file n xs ys x are)
 
 -- a spelled change
-module _ (file : File) (at : ℕ) (bytes was : List ℕ) (near : at < 2 ^ 32) (short : length bytes < 2 ^ 32) where
+module _ (file : DiskFile) (at : ℕ) (bytes was : List ℕ) (near : at < 2 ^ 32) (short : length bytes < 2 ^ 32) where
   pub offset_spelled : offset_of (change_bytes file at bytes was) ≡ at
   unfolding number_at
   offset_spelled = omega (arith, near)
@@ -136,18 +136,18 @@ module _ (file : File) (at : ℕ) (bytes was : List ℕ) (near : at < 2 ^ 32) (s
     pub length_spelled : length (change_bytes file at bytes was) ≡ span_of (change_bytes file at bytes was)
     length_spelled = omega (arith, size_spelled, same, length-append bytes was)
 
-pub file_spelled : (file : File) (at : ℕ) (bytes was : List ℕ) → file ≢ Redo → file_of (change_bytes file at bytes was) ≡ file
+pub file_spelled : (file : DiskFile) (at : ℕ) (bytes was : List ℕ) → file ≢ Redo → file_of (change_bytes file at bytes was) ≡ file
 file_spelled Pages at bytes was is_data = refl
 file_spelled Directory at bytes was is_data = refl
 file_spelled Redo at bytes was is_data = absurd (is_data refl)
 
 -- the effect of a spelled change on its own file and on the second file
-pub effect_own : (file : File) (at : ℕ) (bytes was x : List ℕ) → at < 2 ^ 32 → length bytes < 2 ^ 32 → file ≢ Redo → effect (file_of (change_bytes file at bytes was)) file (change_bytes file at bytes was) x ≡ written at bytes x
+pub effect_own : (file : DiskFile) (at : ℕ) (bytes was x : List ℕ) → at < 2 ^ 32 → length bytes < 2 ^ 32 → file ≢ Redo → effect (file_of (change_bytes file at bytes was)) file (change_bytes file at bytes was) x ≡ written at bytes x
 effect_own Pages at bytes was x near short is_data = λ i. written (offset_spelled Pages at bytes was near short i) (data_spelled Pages at bytes was near short i) x
 effect_own Directory at bytes was x near short is_data = λ i. written (offset_spelled Directory at bytes was near short i) (data_spelled Directory at bytes was near short i) x
 effect_own Redo at bytes was x near short is_data = absurd (is_data refl)
 
-pub effect_other : (file g : File) (at : ℕ) (bytes was x : List ℕ) → file ≢ Redo → g ≢ file → effect (file_of (change_bytes file at bytes was)) g (change_bytes file at bytes was) x ≡ x
+pub effect_other : (file g : DiskFile) (at : ℕ) (bytes was x : List ℕ) → file ≢ Redo → g ≢ file → effect (file_of (change_bytes file at bytes was)) g (change_bytes file at bytes was) x ≡ x
 effect_other Pages Pages at bytes was x is_data other = absurd (other refl)
 effect_other Pages Directory at bytes was x is_data other = refl
 effect_other Pages Redo at bytes was x is_data other = refl
@@ -215,7 +215,7 @@ module _ (pages directory : ℕ) (before : List ℕ × List ℕ) (count : ℕ) (
   unfolding number_at
   count_planned = omega (arith, count_small)
 
-  length_planned : (file : File) → length_in pages directory file ≡ new_length file (plan_bytes pages directory (length before.0) (length before.1) count changes)
+  length_planned : (file : DiskFile) → length_in pages directory file ≡ new_length file (plan_bytes pages directory (length before.0) (length before.1) count changes)
   length_planned Pages = sym pages_planned
   length_planned Directory = sym directory_planned
   length_planned Redo = refl
@@ -245,7 +245,7 @@ module _ (pages directory : ℕ) (before : List ℕ × List ℕ) (count : ℕ) (
         record { change = change; one = one; offers = record { touches = refl; index = i; covered = lt; place = refl; is = inr (sym (fit.was i lt)) } };
   }
 
-  pub renewed_planned : (file : File) (n : ℕ) (old : List ℕ) → length_in pages directory file ≡ n → renewed file (plan_bytes pages directory (length before.0) (length before.1) count changes) old ≡ replayed file count changes (resized n old)
+  pub renewed_planned : (file : DiskFile) (n : ℕ) (old : List ℕ) → length_in pages directory file ≡ n → renewed file (plan_bytes pages directory (length before.0) (length before.1) count changes) old ≡ replayed file count changes (resized n old)
   renewed_planned file n old is =
       let long : new_length file (plan_bytes pages directory (length before.0) (length before.1) count changes) ≡ n = sym (length_planned file) ∙ is in
       λ i. replayed file (count_planned i) changes (resized (long i) old)

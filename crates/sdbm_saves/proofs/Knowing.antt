@@ -1,6 +1,6 @@
 -- The bytes that a plan determines for the offsets of a file.
 use Rattle.std.proofs.Common.{true, false, ◌≡◌, ◌⊎◌, ℕ, ◌+◌, ◌<◌, ◌≤◌, List, get_or, refl, sym, subst, arith}
-use Rattle.sdbm_saves.specs.declared.disk.File.{File}
+use Rattle.sdbm_saves.specs.declared.disk.DiskFile.{DiskFile}
 use Rattle.sdbm_saves.specs.Redo.{file_of, offset_of, size_of, data_of, was_of, rest_after, changes_of, count_of, Fits, IsPlan, IsChangeOf, Offers, HasByte}
 
 pub never : false ≡ true → ⊥
@@ -17,6 +17,6 @@ pub change_whole : (plan change : List ℕ) → IsPlan plan → IsChangeOf plan 
 change_whole plan change is_plan one = subst (λ (l : List ℕ). Fits plan l) (sym one.is) (is_plan.fits one.index one.counted)
 
 -- if no change determines a byte, the plan does not
-pub none_has : (plan : List ℕ) (file : File) (at byte n : ℕ) → count_of plan ≤ n → ((k : ℕ) → k < n → Offers (rest_after k (changes_of plan)) file at byte → ⊥) → HasByte plan file at byte → ⊥
+pub none_has : (plan : List ℕ) (file : DiskFile) (at byte n : ℕ) → count_of plan ≤ n → ((k : ℕ) → k < n → Offers (rest_after k (changes_of plan)) file at byte → ⊥) → HasByte plan file at byte → ⊥
 none_has plan file at byte n all none has =
     none has.one.index (omega (arith, has.one.counted, all)) (subst (λ (l : List ℕ). Offers l file at byte) has.one.is has.offers)

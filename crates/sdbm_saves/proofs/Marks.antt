@@ -1,8 +1,8 @@
 -- The commit byte (mark) and the bytes after it, when a crash happens.
 use Rattle.std.proofs.Common.{◌≡◌, ◌≢◌, ◌⊎◌, inl, ⊎_elim, ℕ, ◌≤◌, List, [], ◌∷◌, length, drop, get_or, refl, sym, ◌∙◌, ap, subst, arith}
 use Rattle.std.proofs.lemmas.Bool.Decides.{nat_tests}
-use Rattle.sdbm_saves.specs.declared.disk.File.{File}
-use Rattle.sdbm_saves.specs.declared.disk.File.TheVariants.{Pages, Directory, Redo}
+use Rattle.sdbm_saves.specs.declared.disk.DiskFile.{DiskFile}
+use Rattle.sdbm_saves.specs.declared.disk.DiskFile.TheVariants.{Pages, Directory, Redo}
 use Rattle.sdbm_saves.specs.Disk.{Image, Torn, TornLength, Within}
 use Rattle.sdbm_saves.specs.Redo.{files, renewed_files, mark_of, stands_for, IsPlan, Knows, CanEnd, StaysUnmarked, Alike}
 use Rattle.sdbm_saves.proofs.Lists.{behind_first}
@@ -39,7 +39,7 @@ nothing_to_end c unmarked = λ marked. absurd (unmarked marked)
 pub knows_still : (plan : List ℕ) (c : Image) → IsPlan plan → drop 1 c.redo ≡ plan → Knows plan (files c) → CanEnd c
 knows_still plan c is_plan behind knows = λ marked. subst (λ (l : List ℕ). IsPlan l × Knows l (files c)) (sym behind) (is_plan, knows)
 
-pub within_self : (file : File) (step : List ℕ → List ℕ → Type 0) → ((x : List ℕ) → step x x) → (d : Image) → Within file step d d
+pub within_self : (file : DiskFile) (step : List ℕ → List ℕ → Type 0) → ((x : List ℕ) → step x x) → (d : Image) → Within file step d d
 within_self Pages step stays d = record { stepped = stays d.pages; others = refl }
 within_self Directory step stays d = record { stepped = stays d.directory; others = refl }
 within_self Redo step stays d = record { stepped = stays d.redo; others = refl }

@@ -10,7 +10,7 @@ use Rattle.sdbm_addr.specs.DirectoryFile.{AreDirectoryBytes}
 use Rattle.sdbm_addr.specs.Files.{first_pages, ArePagBytes, IsPageCount}
 use Rattle.sdbm_files.proofs.WriteLemmas.{first_pages-split, length-first_pages, long_page, SpellsDatabase-written}
 use Rattle.sdbm_saves.specs.Disk.{resized}
-use Rattle.sdbm_saves.specs.declared.disk.File.TheVariants.{Pages, Directory}
+use Rattle.sdbm_saves.specs.declared.disk.DiskFile.TheVariants.{Pages, Directory}
 use Rattle.sdbm_saves.specs.Drafts.{plan_bytes, AreChanges}
 use Rattle.sdbm_saves.specs.Saves.{AreFilesFor, ChangesNothing}
 use Rattle.sdbm_saves.proofs.Lists.{length-resized, read_resized}

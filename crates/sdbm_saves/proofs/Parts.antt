@@ -14,8 +14,8 @@ use Rattle.sdbm_addr.specs.Files.{first_pages, IsPageCount}
 use Rattle.sdbm_files.proofs.WriteLemmas.{length-first_pages, long_page}
 use Rattle.sdbm_saves.specs.declared.part.Part.{Part}
 use Rattle.sdbm_saves.specs.declared.marked.Marked.{Marked}
-use Rattle.sdbm_saves.specs.declared.disk.File.{File}
-use Rattle.sdbm_saves.specs.declared.disk.File.TheVariants.{Pages, Directory}
+use Rattle.sdbm_saves.specs.declared.disk.DiskFile.{DiskFile}
+use Rattle.sdbm_saves.specs.declared.disk.DiskFile.TheVariants.{Pages, Directory}
 use Rattle.sdbm_saves.specs.Disk.{written, resized}
 use Rattle.sdbm_saves.specs.Redo.{replayed}
 use Rattle.sdbm_saves.specs.Drafts.{AreChanges, Puts, ReadsAt, HasPut}
@@ -306,7 +306,7 @@ marked_made old db pag ok marked whole count new whole_is made = all_made db ok 
 pub record IsPutting (db : Database) (numbers : List ℕ) (index pages directory : ℕ) (both : List ℕ × List ℕ) (few : ℕ) (before : List ℕ) (many : ℕ) (after : List ℕ) : Type 0 where
   pub changes : AreChanges pages directory both many after
   pub file : IsRenewing db numbers index pages both.0 (replayed Pages many after (resized pages both.0))
-  pub others : (g : File) → g ≢ Pages → (x : List ℕ) → replayed g many after x ≡ replayed g few before x
+  pub others : (g : DiskFile) → g ≢ Pages → (x : List ℕ) → replayed g many after x ≡ replayed g few before x
 
 pub putting_none : (db : Database) (numbers : List ℕ) (pages directory : ℕ) (both : List ℕ × List ℕ) (few : ℕ) (before : List ℕ) → ((x : List ℕ) → replayed Pages few before x ≡ x)
     → AreChanges pages directory both few before → IsPutting db numbers 0 pages directory both few before few before

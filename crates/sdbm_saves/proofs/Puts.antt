@@ -3,8 +3,8 @@ use Rattle.std.proofs.Common.{◌≡◌, ◌≢◌, ⊎_elim, inl, inr, ℕ, ◌
 use Rattle.std.proofs.Math.Seq.{take-add}
 use Rattle.std.proofs.lemmas.List.{ext_get_or, get_or_append_left, get_or-append_right, get_or-take, get_or-drop, get_or_past, length-take, length-take-le, take_all, drop_all, append-nil}
 use Rattle.std.proofs.lemmas.Bool.{cases_lt}
-use Rattle.sdbm_saves.specs.declared.disk.File.{File}
-use Rattle.sdbm_saves.specs.declared.disk.File.TheVariants.{Pages, Directory, Redo}
+use Rattle.sdbm_saves.specs.declared.disk.DiskFile.{DiskFile}
+use Rattle.sdbm_saves.specs.declared.disk.DiskFile.TheVariants.{Pages, Directory, Redo}
 use Rattle.sdbm_saves.specs.Disk.{written, resized}
 use Rattle.sdbm_saves.specs.Redo.{file_of, offset_of, size_of, replayed, data_in}
 use Rattle.sdbm_saves.specs.Drafts.{change_bytes, part_of, length_in, FitsIn, AreChanges, Puts, ReadsAt, HasPut}
@@ -58,7 +58,7 @@ module _ (at : ℕ) (front back x : List ℕ) (room : at + length (front ++ back
           ∙ sym (written_after at (front ++ back) x i (omega (arith, first_room)) (omega (arith, le, both_long)))
 
 -- no bytes are put
-pub put_none : (pages directory : ℕ) (both : List ℕ × List ℕ) (file : File) (at : ℕ) (old new : List ℕ) (n : ℕ) (xs : List ℕ) → length new ≡ 0 → AreChanges pages directory both n xs → HasPut pages directory both file at old new n xs n xs
+pub put_none : (pages directory : ℕ) (both : List ℕ × List ℕ) (file : DiskFile) (at : ℕ) (old new : List ℕ) (n : ℕ) (xs : List ℕ) → length new ≡ 0 → AreChanges pages directory both n xs → HasPut pages directory both file at old new n xs n xs
 put_none pages directory both file at old new n xs none are = record {
   changes = are;
   put = λ x room each. written_same at new (replayed file n xs x) room (λ i lt. absurd (omega (arith, lt, none)));
@@ -66,7 +66,7 @@ put_none pages directory both file at old new n xs none are = record {
 }
 
 -- puts one more part
-pub put_more : (pages directory : ℕ) (both : List ℕ × List ℕ) (file : File) (at : ℕ) (old front known back : List ℕ) (n : ℕ) (xs : List ℕ) (m : ℕ) (ys : List ℕ) (p : ℕ) (zs : List ℕ)
+pub put_more : (pages directory : ℕ) (both : List ℕ × List ℕ) (file : DiskFile) (at : ℕ) (old front known back : List ℕ) (n : ℕ) (xs : List ℕ) (m : ℕ) (ys : List ℕ) (p : ℕ) (zs : List ℕ)
     → ((i : ℕ) → i < length back → get_or known i 0 ≡ get_or old (length front + i) 0)
     → HasPut pages directory both file at old front n xs m ys → HasPut pages directory both file (at + length front) known back m ys p zs
     → HasPut pages directory both file at old (front ++ back) n xs p zs
@@ -100,7 +100,7 @@ put_more pages directory both file at old front known back n xs m ys p zs known_
         ∙ written_twice at front back before room
 
 -- a spelled change with its old bytes fits
-pub change_fits : (pages directory : ℕ) (both : List ℕ × List ℕ) (file : File) (at : ℕ) (block was : List ℕ) → at < 2 ^ 32 → length block < 2 ^ 32 → length was ≡ length block → file ≢ Redo
+pub change_fits : (pages directory : ℕ) (both : List ℕ × List ℕ) (file : DiskFile) (at : ℕ) (block was : List ℕ) → at < 2 ^ 32 → length block < 2 ^ 32 → length was ≡ length block → file ≢ Redo
     → at + length block ≤ length_in pages directory file → ReadsAt at was (length block) (data_in both file) → FitsIn pages directory both (change_bytes file at block was)
 change_fits pages directory both file at block was near short same is_data inside reads =
     let change = change_bytes file at block was in
@@ -118,7 +118,7 @@ change_fits pages directory both file at block was near short same is_data insid
     }
 
 -- a change puts its bytes
-pub put_one : (pages directory : ℕ) (both : List ℕ × List ℕ) (file : File) (at : ℕ) (known block was : List ℕ) (n : ℕ) (xs : List ℕ) → at < 2 ^ 32 → length block < 2 ^ 32 → length was ≡ length block → file ≢ Redo
+pub put_one : (pages directory : ℕ) (both : List ℕ × List ℕ) (file : DiskFile) (at : ℕ) (known block was : List ℕ) (n : ℕ) (xs : List ℕ) → at < 2 ^ 32 → length block < 2 ^ 32 → length was ≡ length block → file ≢ Redo
     → at + length block ≤ length_in pages directory file → ReadsAt at was (length block) (data_in both file) → AreChanges pages directory both n xs
     → HasPut pages directory both file at known block n xs (n + 1) (xs ++ change_bytes file at block was)
 put_one pages directory both file at known block was n xs near short same is_data inside reads are =
@@ -131,7 +131,7 @@ put_one pages directory both file at known block was n xs near short same is_dat
     }
 
 -- bytes that are already in the file are put without a change
-pub put_same : (pages directory : ℕ) (both : List ℕ × List ℕ) (file : File) (at : ℕ) (known block : List ℕ) (n : ℕ) (xs : List ℕ)
+pub put_same : (pages directory : ℕ) (both : List ℕ × List ℕ) (file : DiskFile) (at : ℕ) (known block : List ℕ) (n : ℕ) (xs : List ℕ)
     → ((i : ℕ) → i < length block → get_or block i 0 ≡ get_or known i 0) → AreChanges pages directory both n xs → HasPut pages directory both file at known block n xs n xs
 put_same pages directory both file at known block n xs same are = record {
   changes = are;
@@ -140,7 +140,7 @@ put_same pages directory both file at known block n xs same are = record {
 }
 
 -- a block is put by one change of the part that differs
-module _ (pages directory : ℕ) (both : List ℕ × List ℕ) (file : File) (at : ℕ) (known block : List ℕ) (start end : ℕ) (n : ℕ) (xs : List ℕ)
+module _ (pages directory : ℕ) (both : List ℕ × List ℕ) (file : DiskFile) (at : ℕ) (known block : List ℕ) (start end : ℕ) (n : ℕ) (xs : List ℕ)
     (order : start ≤ end) (inside : end ≤ length block) (near : at + length block < 2 ^ 32) (is_data : file ≢ Redo) (fits : at + length block ≤ length_in pages directory file)
     (reads : ReadsAt at known (length block) (data_in both file))
     (before : (i : ℕ) → i < start → get_or block i 0 ≡ get_or known i 0) (after : (i : ℕ) → end ≤ i → i < length block → get_or block i 0 ≡ get_or known i 0)
@@ -215,7 +215,7 @@ part_known old at end start stop i start_is stop_is lt = ⊎_elim
     (cases_lt i (stop - start))
 
 -- a file is these bytes if all of them are put
-pub file_put : (pages directory : ℕ) (both : List ℕ × List ℕ) (file : File) (old new : List ℕ) (n : ℕ) (xs : List ℕ) (m : ℕ) (ys : List ℕ) → ((x : List ℕ) → replayed file n xs x ≡ x) → HasPut pages directory both file 0 old new n xs m ys
+pub file_put : (pages directory : ℕ) (both : List ℕ × List ℕ) (file : DiskFile) (old new : List ℕ) (n : ℕ) (xs : List ℕ) (m : ℕ) (ys : List ℕ) → ((x : List ℕ) → replayed file n xs x ≡ x) → HasPut pages directory both file 0 old new n xs m ys
     → replayed file m ys (resized (length new) old) ≡ new
 file_put pages directory both file old new n xs m ys untouched put =
     let x = resized (length new) old in

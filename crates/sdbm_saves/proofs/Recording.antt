@@ -5,7 +5,7 @@ use Rattle.std.proofs.lemmas.List.{take_all, take-append-le}
 use Rattle.std.proofs.lemmas.Bool.{cases_lt}
 use Rattle.sdbm_saves.specs.declared.disk.DiskError.{DiskError}
 use Rattle.sdbm_saves.specs.declared.disk.DiskError.TheVariants.{Memory, Failed}
-use Rattle.sdbm_saves.specs.declared.disk.File.{File}
+use Rattle.sdbm_saves.specs.declared.disk.DiskFile.{DiskFile}
 use Rattle.sdbm_saves.specs.Disk.{Image, IsKept, Elapses}
 use Rattle.sdbm_saves.specs.Acts.{Act, sync, Notes, acted, seen_after, LeftBy, LeftAfter, LeftSince}
 
@@ -57,7 +57,7 @@ same_time acts more image before is =
     (record { later = omega arith; nothing_else = λ t c le since. inl since; keeps = λ t c le since. since })
 
 -- a sync, which is recorded only after it succeeded
-module _ (acts more : List Act) (file : File) (image : Image) (before : Image → Type 0) {T E : Type 0} where
+module _ (acts more : List Act) (file : DiskFile) (image : Image) (before : Image → Type 0) {T E : Type 0} where
   pub synced_seen : (r : Result T E) → MatchResult r (λ _. more ≡ acts ++ sync file ∷ []) (λ _. more ≡ acts) → seen_after more image ≡ seen_after acts image
   synced_seen (Ok x) is = sees acts more (sync file) image before is
   synced_seen (Err e) is = ap (λ (l : List Act). seen_after l image) is

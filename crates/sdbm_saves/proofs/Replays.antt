@@ -2,8 +2,8 @@
 use Rattle.std.proofs.Common.{◌≡◌, inl, ⊎_elim, ℕ, zero, suc, ◌+◌, ◌-◌, ◌<◌, ◌≤◌, max, List, length, drop, get_or, refl, sym, ◌∙◌, ap, subst, arith, length-drop}
 use Rattle.std.proofs.lemmas.List.{length-take-le}
 use Rattle.std.proofs.lemmas.Bool.{cases_lt}
-use Rattle.sdbm_saves.specs.declared.disk.File.{File}
-use Rattle.sdbm_saves.specs.declared.disk.File.TheVariants.{Pages, Directory, Redo}
+use Rattle.sdbm_saves.specs.declared.disk.DiskFile.{DiskFile}
+use Rattle.sdbm_saves.specs.declared.disk.DiskFile.TheVariants.{Pages, Directory, Redo}
 use Rattle.sdbm_saves.specs.Disk.{Image, content, put, written, resized, Torn, TornLength, Within}
 use Rattle.sdbm_saves.specs.Redo.{data_file, file_of, offset_of, size_of, data_of, span_of, rest_of, rest_after, effect, replayed, replayed_image, new_length, old_length, count_of, changes_of, renewed, Fits, IsPlan, IsChangeOf, IsBetween, HasByte, Knows, data_in, Alike, EndsWith, AlikeFor}
 use Rattle.sdbm_saves.proofs.Lists.{Elsewhere, length-written, absorbs, written_elsewhere, length-resized, resized_elsewhere, resized_same}
@@ -15,7 +15,7 @@ data_inside : (change : List ℕ) (n : ℕ) (x : List ℕ) → span_of change �
 data_inside change n x whole inside is = omega (arith, length-data change whole, inside, is)
 
 module _ (plan change : List ℕ) (whole : span_of change ≤ length change) where
-  pub length-effect : (touched file : File) (x : List ℕ) → offset_of change + size_of change ≤ new_length touched plan → length x ≡ new_length file plan → length (effect touched file change x) ≡ length x
+  pub length-effect : (touched file : DiskFile) (x : List ℕ) → offset_of change + size_of change ≤ new_length touched plan → length x ≡ new_length file plan → length (effect touched file change x) ≡ length x
   length-effect Pages Pages x inside is = length-written (offset_of change) (data_of change) x (data_inside change (new_length Pages plan) x whole inside is)
   length-effect Pages Directory x inside is = refl
   length-effect Pages Redo x inside is = refl
@@ -26,7 +26,7 @@ module _ (plan change : List ℕ) (whole : span_of change ≤ length change) whe
   length-effect Redo Directory x inside is = refl
   length-effect Redo Redo x inside is = refl
 
-  effect_elsewhere : (touched file : File) (at n : ℕ) (x y : List ℕ) → offset_of change + size_of change ≤ new_length touched plan → length x ≡ new_length file plan → length y ≡ length x → Elsewhere at n x y → Elsewhere at n (effect touched file change x) (effect touched file change y)
+  effect_elsewhere : (touched file : DiskFile) (at n : ℕ) (x y : List ℕ) → offset_of change + size_of change ≤ new_length touched plan → length x ≡ new_length file plan → length y ≡ length x → Elsewhere at n x y → Elsewhere at n (effect touched file change x) (effect touched file change y)
   effect_elsewhere Pages Pages at n x y inside is len same = written_elsewhere at n (offset_of change) (data_of change) x y (data_inside change (new_length Pages plan) x whole inside is) len same
   effect_elsewhere Pages Directory at n x y inside is len same = same
   effect_elsewhere Pages Redo at n x y inside is len same = same
@@ -46,7 +46,7 @@ module _ (plan change : List ℕ) (whole : span_of change ≤ length change) whe
   effect_absorbs (suc g) x y inside is len same = absorbs (offset_of change) (data_of change) x y (data_inside change (new_length Directory plan) x whole inside is) len (sized (offset_of change) x y same)
 
 -- bytes that differ in the range of a change are the same after all changes
-replayed_absorbs : (file : File) (plan : List ℕ) (n : ℕ) (changes x y : List ℕ) → ((k : ℕ) → k < n → Fits plan (rest_after k changes)) → length x ≡ new_length file plan → length y ≡ length x
+replayed_absorbs : (file : DiskFile) (plan : List ℕ) (n : ℕ) (changes x y : List ℕ) → ((k : ℕ) → k < n → Fits plan (rest_after k changes)) → length x ≡ new_length file plan → length y ≡ length x
     → (i : ℕ) → i < n → file_of (rest_after i changes) ≡ file → Elsewhere (offset_of (rest_after i changes)) (size_of (rest_after i changes)) x y → replayed file n changes y ≡ replayed file n changes x
 replayed_absorbs file plan zero changes x y fits is len i lt touches same = absurd (omega (arith, lt))
 replayed_absorbs file plan (suc n) changes x y fits is len zero lt touches same =
@@ -62,14 +62,14 @@ replayed_absorbs file plan (suc n) changes x y fits is len (suc i) lt touches sa
     (λ k below. fits (suc k) (omega (arith, below))) (len_x ∙ is) (len_y ∙ len ∙ sym len_x) i (omega (arith, lt)) touches
     (effect_elsewhere plan changes first.whole (file_of changes) file (offset_of (rest_after i (rest_of changes))) (size_of (rest_after i (rest_of changes))) x y first.inside is len same)
 
-pub length-replayed : (file : File) (plan : List ℕ) (n : ℕ) (changes x : List ℕ) → ((k : ℕ) → k < n → Fits plan (rest_after k changes)) → length x ≡ new_length file plan → length (replayed file n changes x) ≡ new_length file plan
+pub length-replayed : (file : DiskFile) (plan : List ℕ) (n : ℕ) (changes x : List ℕ) → ((k : ℕ) → k < n → Fits plan (rest_after k changes)) → length x ≡ new_length file plan → length (replayed file n changes x) ≡ new_length file plan
 length-replayed file plan zero changes x fits is = is
 length-replayed file plan (suc n) changes x fits is =
     let first : Fits plan changes = fits 0 (omega arith) in
     length-replayed file plan n (rest_of changes) (effect (file_of changes) file changes x) (λ k below. fits (suc k) (omega (arith, below))) (length-effect plan changes first.whole (file_of changes) file x first.inside is ∙ is)
 
 -- one more change
-pub replayed_more : (file : File) (n : ℕ) (changes x : List ℕ) → replayed file (suc n) changes x ≡ effect (file_of (rest_after n changes)) file (rest_after n changes) (replayed file n changes x)
+pub replayed_more : (file : DiskFile) (n : ℕ) (changes x : List ℕ) → replayed file (suc n) changes x ≡ effect (file_of (rest_after n changes)) file (rest_after n changes) (replayed file n changes x)
 replayed_more file zero changes x = refl
 replayed_more file (suc n) changes x = replayed_more file n (rest_of changes) (effect (file_of changes) file changes x)
 
@@ -78,7 +78,7 @@ rest_more zero changes = refl
 rest_more (suc n) changes = rest_more n (rest_of changes)
 
 module _ (plan : List ℕ) where
-  renewed_absorbs : IsPlan plan → (file : File) (x y : List ℕ) (i : ℕ) → i < count_of plan → file_of (rest_after i (changes_of plan)) ≡ file
+  renewed_absorbs : IsPlan plan → (file : DiskFile) (x y : List ℕ) (i : ℕ) → i < count_of plan → file_of (rest_after i (changes_of plan)) ≡ file
       → Elsewhere (offset_of (rest_after i (changes_of plan))) (size_of (rest_after i (changes_of plan))) x y → renewed file plan y ≡ renewed file plan x
   renewed_absorbs is_plan file x y i lt touches same =
       replayed_absorbs file plan (count_of plan) (changes_of plan) (resized (new_length file plan) x) (resized (new_length file plan) y) is_plan.fits
@@ -208,7 +208,7 @@ module _ (plan : List ℕ) where
 pub rest_next : (n : ℕ) (changes : List ℕ) → rest_after (n + 1) changes ≡ rest_of (rest_after n changes)
 rest_next n changes = let is : n + 1 ≡ suc n = omega arith in ap (λ k. rest_after k changes) is ∙ rest_more n changes
 
-pub replayed_next : (file : File) (n : ℕ) (changes x : List ℕ) → replayed file (n + 1) changes x ≡ effect (file_of (rest_after n changes)) file (rest_after n changes) (replayed file n changes x)
+pub replayed_next : (file : DiskFile) (n : ℕ) (changes x : List ℕ) → replayed file (n + 1) changes x ≡ effect (file_of (rest_after n changes)) file (rest_after n changes) (replayed file n changes x)
 replayed_next file n changes x = let is : n + 1 ≡ suc n = omega arith in ap (λ k. replayed file k changes x) is ∙ replayed_more file n changes x
 
 image_step : (g : ℕ) (change : List ℕ) (image : Image) → put (data_file g) (written (offset_of change) (data_of change) (content (data_file g) image)) image ≡ record { pages = effect (data_file g) Pages change image.pages; directory = effect (data_file g) Directory change image.directory; redo = image.redo }

@@ -4,15 +4,15 @@ use Rattle.std.proofs.Common.{sym, subst, arith}
 use Rattle.std.proofs.lemmas.List.{take_all}
 use Rattle.sdbm_saves.specs.declared.disk.DiskError.{DiskError}
 use Rattle.sdbm_saves.specs.declared.disk.DiskError.TheVariants.{Memory, Failed}
-use Rattle.sdbm_saves.specs.declared.disk.File.{File}
-use Rattle.sdbm_saves.specs.declared.disk.File.TheVariants.{Redo}
+use Rattle.sdbm_saves.specs.declared.disk.DiskFile.{DiskFile}
+use Rattle.sdbm_saves.specs.declared.disk.DiskFile.TheVariants.{Redo}
 use Rattle.sdbm_saves.specs.Disk.{Image, content, put, written, resized, Torn, TornLength, Gone, Within}
 
 -- a call that was begun; a sync is recorded only after it succeeded
 pub data Act : Type 0 where
-  write : File → ℕ → List ℕ → Act
-  resize : File → ℕ → Act
-  sync : File → Act
+  write : DiskFile → ℕ → List ℕ → Act
+  resize : DiskFile → ℕ → Act
+  sync : DiskFile → Act
   clear : Act
 
 -- The record after a call. The call is added unless the call ran out of memory. If the disk failed, the call was begun, so it is added.

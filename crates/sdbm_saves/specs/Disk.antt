@@ -1,7 +1,7 @@
 -- The effect of disk calls on the three files, and the images that a crash may leave.
 use Rattle.std.specs.Prelude.{◌<◌, ◌≡◌, ◌⊎◌, ℕ, ◌+◌, ◌≤◌, min, max, List, [], ◌++◌, length, take, drop, replicate, get_or, Result, IsErrOf}
-use Rattle.sdbm_saves.specs.declared.disk.File.{File}
-use Rattle.sdbm_saves.specs.declared.disk.File.TheVariants.{Pages, Directory, Redo}
+use Rattle.sdbm_saves.specs.declared.disk.DiskFile.{DiskFile}
+use Rattle.sdbm_saves.specs.declared.disk.DiskFile.TheVariants.{Pages, Directory, Redo}
 use Rattle.sdbm_saves.specs.declared.disk.DiskError.{DiskError}
 use Rattle.sdbm_saves.specs.declared.disk.DiskError.TheVariants.{Failed}
 
@@ -11,13 +11,13 @@ pub record Image : Type 0 where
   pub directory : List ℕ
   pub redo : List ℕ
 
-abbrev pub content : File → Image → List ℕ
+abbrev pub content : DiskFile → Image → List ℕ
 content Pages image = image.pages
 content Directory image = image.directory
 content Redo image = image.redo
 
 -- replaces the bytes of one file
-abbrev pub put : File → List ℕ → Image → Image
+abbrev pub put : DiskFile → List ℕ → Image → Image
 put Pages bytes image = record { pages = bytes; directory = image.directory; redo = image.redo }
 put Directory bytes image = record { pages = image.pages; directory = bytes; redo = image.redo }
 put Redo bytes image = record { pages = image.pages; directory = image.directory; redo = bytes }
@@ -51,7 +51,7 @@ abbrev pub Gone : List ℕ → List ℕ → Type 0
 Gone old new = (new ≡ old) ⊎ (new ≡ [])
 
 -- a step changes one file and leaves the two other files unchanged
-pub record Within (file : File) (step : List ℕ → List ℕ → Type 0) (old new : Image) : Type 0 where
+pub record Within (file : DiskFile) (step : List ℕ → List ℕ → Type 0) (old new : Image) : Type 0 where
   pub stepped : step (content file old) (content file new)
   pub others : new ≡ put file (content file new) old
 
@@ -64,7 +64,7 @@ abbrev pub Only : Image → (Image → Type 0) → Type 0
 Only image outcomes = (c : Image) → outcomes c → c ≡ image
 
 -- in every outcome of a crash this file has its visible bytes
-abbrev pub IsKept : File → Image → (Image → Type 0) → Type 0
+abbrev pub IsKept : DiskFile → Image → (Image → Type 0) → Type 0
 IsKept file image outcomes = (c : Image) → outcomes c → content file c ≡ content file image
 
 -- Time passes: a crash since t might have left what it might have left before, or what it may leave now.

@@ -1,7 +1,7 @@
 -- The bytes of a plan built from changes. `Redo` defines what they mean.
 use Rattle.std.specs.Prelude.{◌≡◌, ◌≢◌, ◌⊎◌, ◌<◌, ◌≤◌, ℕ, ◌+◌, ◌/◌, ◌%◌, List, [], ◌∷◌, ◌++◌, length, drop, get_or, min}
-use Rattle.sdbm_saves.specs.declared.disk.File.{File}
-use Rattle.sdbm_saves.specs.declared.disk.File.TheVariants.{Pages, Directory, Redo}
+use Rattle.sdbm_saves.specs.declared.disk.DiskFile.{DiskFile}
+use Rattle.sdbm_saves.specs.declared.disk.DiskFile.TheVariants.{Pages, Directory, Redo}
 use Rattle.sdbm_saves.specs.Disk.{written, resized}
 use Rattle.sdbm_saves.specs.Redo.{file_of, offset_of, size_of, was_of, span_of, rest_after, replayed, data_in, signature}
 
@@ -9,7 +9,7 @@ use Rattle.sdbm_saves.specs.Redo.{file_of, offset_of, size_of, was_of, span_of, 
 abbrev pub spelled : ℕ → List ℕ
 spelled n = n % 256 ∷ n / 256 % 256 ∷ n / 65536 % 256 ∷ n / 16777216 % 256 ∷ []
 
-abbrev pub file_code : File → ℕ
+abbrev pub file_code : DiskFile → ℕ
 file_code Pages = 0
 file_code Directory = 1
 file_code Redo = 1
@@ -19,7 +19,7 @@ abbrev pub part_of : List ℕ → ℕ → ℕ → List ℕ
 part_of old at n = resized n (drop (min at (length old)) old)
 
 -- a change of a file: the offset, the new bytes, and the old bytes
-abbrev pub change_bytes : File → ℕ → List ℕ → List ℕ → List ℕ
+abbrev pub change_bytes : DiskFile → ℕ → List ℕ → List ℕ → List ℕ
 change_bytes file at bytes was = file_code file ∷ (spelled at ++ (spelled (length bytes) ++ (bytes ++ was)))
 
 -- a plan: the new lengths of the pages and the directory, their old lengths, the number of changes, and the changes
@@ -27,7 +27,7 @@ abbrev pub plan_bytes : ℕ → ℕ → ℕ → ℕ → ℕ → List ℕ → Lis
 plan_bytes pages directory old_pages old_directory count changes =
     signature ++ (spelled pages ++ (spelled directory ++ (spelled old_pages ++ (spelled old_directory ++ (spelled count ++ changes)))))
 
-abbrev pub length_in : ℕ → ℕ → File → ℕ
+abbrev pub length_in : ℕ → ℕ → DiskFile → ℕ
 length_in pages directory Pages = pages
 length_in pages directory Directory = directory
 length_in pages directory Redo = 0
@@ -55,10 +55,10 @@ abbrev pub ReadsAt : ℕ → List ℕ → ℕ → List ℕ → Type 0
 ReadsAt at old size file = (i : ℕ) → i < size → get_or old i 0 ≡ get_or file (at + i) 0
 
 -- more changes, which replace the old bytes at an offset of a file by the new ones, and know the old ones
-pub record HasPut (pages directory : ℕ) (both : List ℕ × List ℕ) (file : File) (at : ℕ) (old new : List ℕ) (few : ℕ) (before : List ℕ) (many : ℕ) (after : List ℕ) : Type 0 where
+pub record HasPut (pages directory : ℕ) (both : List ℕ × List ℕ) (file : DiskFile) (at : ℕ) (old new : List ℕ) (few : ℕ) (before : List ℕ) (many : ℕ) (after : List ℕ) : Type 0 where
   pub changes : AreChanges pages directory both many after
   pub put : (x : List ℕ) → Puts at old new (replayed file few before x) (replayed file many after x)
-  pub others : (g : File) → g ≢ file → (x : List ℕ) → replayed g many after x ≡ replayed g few before x
+  pub others : (g : DiskFile) → g ≢ file → (x : List ℕ) → replayed g many after x ≡ replayed g few before x
 
 -- the first `upto` bytes of a block are unchanged outside a part of it
 pub record AreOutside (known block : List ℕ) (start end upto : ℕ) : Type 0 where

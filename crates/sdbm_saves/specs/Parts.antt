@@ -6,8 +6,8 @@ use Rattle.sdbm_addr.specs.Layout.{bytes_of_page}
 use Rattle.sdbm_addr.specs.Database.{Database, IsDatabase, pairs_at}
 use Rattle.sdbm_saves.specs.declared.part.Part.{Part}
 use Rattle.sdbm_saves.specs.declared.marked.Marked.{Marked}
-use Rattle.sdbm_saves.specs.declared.disk.File.{File}
-use Rattle.sdbm_saves.specs.declared.disk.File.TheVariants.{Pages}
+use Rattle.sdbm_saves.specs.declared.disk.DiskFile.{DiskFile}
+use Rattle.sdbm_saves.specs.declared.disk.DiskFile.TheVariants.{Pages}
 use Rattle.sdbm_saves.specs.Disk.{resized}
 use Rattle.sdbm_saves.specs.Redo.{replayed}
 use Rattle.sdbm_saves.specs.Drafts.{AreChanges}
@@ -56,7 +56,7 @@ ReadPages size numbers pages pag = (j i : ℕ) → j < length numbers → i < pa
 pub record HasPutPages (db : Database) (numbers : List ℕ) (pages directory : ℕ) (both : List ℕ × List ℕ) (few : ℕ) (before : List ℕ) (many : ℕ) (after : List ℕ) : Type 0 where
   pub changes : AreChanges pages directory both many after
   pub file : HasPages db numbers pages both.0 (replayed Pages many after (resized pages both.0))
-  pub others : (g : File) → g ≢ Pages → (x : List ℕ) → replayed g many after x ≡ replayed g few before x
+  pub others : (g : DiskFile) → g ≢ Pages → (x : List ℕ) → replayed g many after x ≡ replayed g few before x
 
 -- A file of this length was read: the pages with these numbers have the bytes that were read, and all remaining pages are as written for
 -- the database.

@@ -5,20 +5,20 @@
 -- write and may be replayed any number of times, with each block before and after: Gray and Reuter, Transaction Processing (1993), chapters
 -- 9 and 10.
 use Rattle.std.specs.Prelude.{◌<◌, ◌≡◌, ◌≢◌, ◌⊎◌, ℕ, zero, suc, ◌+◌, ◌*◌, ◌≤◌, List, [], ◌∷◌, length, take, drop, get_or, if◌then◌else◌, ◌==◌, min, max}
-use Rattle.sdbm_saves.specs.declared.disk.File.{File}
-use Rattle.sdbm_saves.specs.declared.disk.File.TheVariants.{Pages, Directory, Redo}
+use Rattle.sdbm_saves.specs.declared.disk.DiskFile.{DiskFile}
+use Rattle.sdbm_saves.specs.declared.disk.DiskFile.TheVariants.{Pages, Directory, Redo}
 use Rattle.sdbm_saves.specs.Disk.{Image, written, resized}
 
 unfoldable pub number_at : List ℕ → ℕ → ℕ
 number_at bytes at = get_or bytes at 0 + 256 * get_or bytes (at + 1) 0 + 65536 * get_or bytes (at + 2) 0 + 16777216 * get_or bytes (at + 3) 0
 
 -- the file with this code
-abbrev pub data_file : ℕ → File
+abbrev pub data_file : ℕ → DiskFile
 data_file zero = Pages
 data_file (suc n) = Directory
 
 -- the parts of the first change in these bytes
-abbrev pub file_of : List ℕ → File
+abbrev pub file_of : List ℕ → DiskFile
 file_of change = data_file (get_or change 0 0)
 
 abbrev pub offset_of : List ℕ → ℕ
@@ -47,22 +47,22 @@ rest_after zero changes = changes
 rest_after (suc n) changes = rest_after n (rest_of changes)
 
 -- applies a change of one file to the bytes of a file
-abbrev pub effect : File → File → List ℕ → List ℕ → List ℕ
+abbrev pub effect : DiskFile → DiskFile → List ℕ → List ℕ → List ℕ
 effect Pages Pages change old = written (offset_of change) (data_of change) old
 effect Directory Directory change old = written (offset_of change) (data_of change) old
 effect touched file change old = old
 
 -- the bytes of a file after the first n changes
-abbrev pub replayed : File → ℕ → List ℕ → List ℕ → List ℕ
+abbrev pub replayed : DiskFile → ℕ → List ℕ → List ℕ → List ℕ
 replayed file zero changes old = old
 replayed file (suc n) changes old = replayed file n (rest_of changes) (effect (file_of changes) file changes old)
 
-abbrev pub new_length : File → List ℕ → ℕ
+abbrev pub new_length : DiskFile → List ℕ → ℕ
 new_length Pages plan = number_at plan 8
 new_length Directory plan = number_at plan 12
 new_length Redo plan = 0
 
-abbrev pub old_length : File → List ℕ → ℕ
+abbrev pub old_length : DiskFile → List ℕ → ℕ
 old_length Pages plan = number_at plan 16
 old_length Directory plan = number_at plan 20
 old_length Redo plan = 0
@@ -74,7 +74,7 @@ abbrev pub changes_of : List ℕ → List ℕ
 changes_of plan = drop 28 plan
 
 -- the bytes of a file after the whole plan
-abbrev pub renewed : File → List ℕ → List ℕ → List ℕ
+abbrev pub renewed : DiskFile → List ℕ → List ℕ → List ℕ
 renewed file plan old = replayed file (count_of plan) (changes_of plan) (resized (new_length file plan) old)
 
 -- the image after the first n changes, and after the whole plan
@@ -120,7 +120,7 @@ pub record IsChangeOf (plan change : List ℕ) : Type 0 where
   pub is : change ≡ rest_after index (changes_of plan)
 
 -- A change determines this byte for an offset of a file: it covers the offset, and the byte is its new byte or its old byte there.
-pub record Offers (change : List ℕ) (file : File) (at byte : ℕ) : Type 0 where
+pub record Offers (change : List ℕ) (file : DiskFile) (at byte : ℕ) : Type 0 where
   pub touches : file_of change ≡ file
   pub index : ℕ
   pub covered : index < size_of change
@@ -128,7 +128,7 @@ pub record Offers (change : List ℕ) (file : File) (at byte : ℕ) : Type 0 whe
   pub is : (byte ≡ get_or (data_of change) index 0) ⊎ (byte ≡ get_or (was_of change) index 0)
 
 -- some change of a plan determines this byte for an offset of a file
-pub record HasByte (plan : List ℕ) (file : File) (at byte : ℕ) : Type 0 where
+pub record HasByte (plan : List ℕ) (file : DiskFile) (at byte : ℕ) : Type 0 where
   pub change : List ℕ
   pub one : IsChangeOf plan change
   pub offers : Offers change file at byte
@@ -138,7 +138,7 @@ pub record IsBetween (one other len : ℕ) : Type 0 where
   pub no_shorter : min one other ≤ len
   pub no_longer : len ≤ max one other
 
-abbrev pub data_in : List ℕ × List ℕ → File → List ℕ
+abbrev pub data_in : List ℕ × List ℕ → DiskFile → List ℕ
 data_in both Pages = both.0
 data_in both Directory = both.1
 data_in both Redo = []

@@ -1,10 +1,10 @@
 // Compares the old and new bytes of a file block by block and drafts the changes.
 ghost use Rattle.std.specs.Prelude.{◌≡◌, ◌≢◌, ◌<◌, ◌≤◌, ◌^◌, ◌+◌, ◌/◌, ◌↔◌, ℕ, List, length, get_or, IsTrue, OnOk};
-ghost use Rattle.sdbm_saves.specs.declared.disk.File.TheVariants.{Redo};
+ghost use Rattle.sdbm_saves.specs.declared.disk.DiskFile.TheVariants.{Redo};
 ghost use Rattle.sdbm_saves.specs.Redo.{data_in};
 ghost use Rattle.sdbm_saves.specs.Drafts.{AreChanges, HasPut, ReadsAt, length_in};
 
-use crate::File;
+use crate::DiskFile;
 use crate::drafting::{Draft, part_of, push};
 use crate::spans::changed_span;
 use sdbm_files::BLOCK;
@@ -15,7 +15,7 @@ use std::alloc::{AllocError, Allocator};
 pub(crate) fn draft_bytes<A: Allocator + Copy>(
     alloc: A,
     draft: &mut Draft<A>,
-    file: File,
+    file: DiskFile,
     from: usize,
     old: &[u8],
     new: &[u8],
@@ -53,7 +53,7 @@ pub(crate) fn draft_bytes<A: Allocator + Copy>(
 pub(crate) fn draft_block<A: Allocator>(
     alloc: A,
     draft: &mut Draft<A>,
-    file: File,
+    file: DiskFile,
     at: usize,
     known: &[u8],
     block: &[u8],

@@ -2,7 +2,7 @@
 ghost use Rattle.std.specs.Prelude.{◌≡◌, ◌++◌, ◌∷◌, [], length, OnOk, IfOk, OnErr};
 ghost use Rattle.sdbm_saves.specs.Acts.{write, resize, sync, clear};
 
-use crate::File;
+use crate::DiskFile;
 use std::alloc::{AllocError, Global};
 use std::mem;
 
@@ -13,16 +13,16 @@ const FIRST_CALLS: usize = 16;
 #[derive(Drop)]
 pub enum Call {
     Write {
-        file: File,
+        file: DiskFile,
         at: usize,
         bytes: Vec<u8>,
     },
     Resize {
-        file: File,
+        file: DiskFile,
         len: usize,
     },
     Sync {
-        file: File,
+        file: DiskFile,
     },
     Clear,
 }
@@ -59,7 +59,7 @@ impl CallLog {
     /// # Errors
     ///
     /// `AllocError` if allocation fails. The log is unchanged.
-    pub fn note_write(&mut self, file: File, at: usize, bytes: &[u8]) -> Result<(), AllocError>
+    pub fn note_write(&mut self, file: DiskFile, at: usize, bytes: &[u8]) -> Result<(), AllocError>
         ensures ok { OnOk result (acts self.new ≡ acts self.old ++ write file at bytes.now ∷ []) }
         ensures err { OnErr result (acts self.new ≡ acts self.old) }
     {
@@ -72,7 +72,7 @@ impl CallLog {
     /// # Errors
     ///
     /// `AllocError` if allocation fails. The log is unchanged.
-    pub fn note_resize(&mut self, file: File, len: usize) -> Result<(), AllocError>
+    pub fn note_resize(&mut self, file: DiskFile, len: usize) -> Result<(), AllocError>
         ensures ok { OnOk result (acts self.new ≡ acts self.old ++ resize file len ∷ []) }
         ensures err { OnErr result (acts self.new ≡ acts self.old) }
     {
@@ -84,7 +84,7 @@ impl CallLog {
     /// # Errors
     ///
     /// `AllocError` if allocation fails. The log is unchanged.
-    pub fn note_sync(&mut self, file: File) -> Result<(), AllocError>
+    pub fn note_sync(&mut self, file: DiskFile) -> Result<(), AllocError>
         ensures ok { OnOk result (acts self.new ≡ acts self.old ++ sync file ∷ []) }
         ensures err { OnErr result (acts self.new ≡ acts self.old) }
     {

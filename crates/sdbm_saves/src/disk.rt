@@ -1,14 +1,14 @@
 // The three files of a database as a save sees them: what a read returns and what a crash may leave.
 ghost use Rattle.std.specs.Prelude.{◌≡◌, ◌≤◌, ℕ, length, [], OnOk};
 ghost use Rattle.sdbm_saves.specs.declared.disk.DiskError.TheVariants.{Memory};
-ghost use Rattle.sdbm_saves.specs.declared.disk.File.TheVariants.{Redo};
+ghost use Rattle.sdbm_saves.specs.declared.disk.DiskFile.TheVariants.{Redo};
 ghost use Rattle.sdbm_saves.specs.Disk.{Image, content, put, written, resized, IsKept, Follows, Torn, TornLength, Gone, Within, Elapses, HasCause};
 
 use std::alloc::AllocError;
 
 /// A file of a database.
 #[derive(Clone, Copy, Debug, PartialEq, Eq)]
-pub enum File {
+pub enum DiskFile {
     /// `.pag`, the pages.
     Pages,
     /// `.dir`, the directory.
@@ -57,7 +57,7 @@ pub trait Disk {
 
     /// Overwrites bytes and may write past the end. Until this file is synced, a crash may leave the old or the new value of each byte in
     /// the range.
-    fn write_at(&mut self, file: File, at: usize, bytes: &[u8]) -> Result<(), DiskError>
+    fn write_at(&mut self, file: DiskFile, at: usize, bytes: &[u8]) -> Result<(), DiskError>
         requires { at ≤ length (content file (seen self.old)) }
         ensures written { OnOk result (seen self.new ≡ put file (written at bytes.now (content file (seen self.old))) (seen self.old)) }
         ensures crash { Follows (Within file (Torn at bytes.now)) (may_leave self.old) (may_leave self.new) }
@@ -66,14 +66,14 @@ pub trait Disk {
 
     /// Truncates the file, or extends it with zeros. Until this file is synced, a crash may leave a length between the old and the new one,
     /// and any bytes past the new one.
-    fn resize(&mut self, file: File, len: usize) -> Result<(), DiskError>
+    fn resize(&mut self, file: DiskFile, len: usize) -> Result<(), DiskError>
         ensures resized { OnOk result (seen self.new ≡ put file (resized len (content file (seen self.old))) (seen self.old)) }
         ensures crash { Follows (Within file (TornLength len)) (may_leave self.old) (may_leave self.new) }
         ensures time { Elapses (moment self.old) (moment self.new) (left_since self.old) (left_since self.new) (may_leave self.new) }
         ensures cause { HasCause (has_failed self.old) (has_failed self.new) result };
 
     /// Syncs this file: from now on a crash leaves what a read returns. The call says nothing about the two other files.
-    fn sync(&mut self, file: File) -> Result<(), DiskError>
+    fn sync(&mut self, file: DiskFile) -> Result<(), DiskError>
         ensures durable { OnOk result (IsKept file (seen self.old) (may_leave self.new)) }
         ensures seen { seen self.new ≡ seen self.old }
         ensures crash { (c : Image) → may_leave self.new c → may_leave self.old c }

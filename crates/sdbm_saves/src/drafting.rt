@@ -2,7 +2,7 @@
 ghost use Rattle.std.specs.Prelude.{◌≡◌, ◌<◌, ◌≤◌, ◌^◌, ◌+◌, ◌++◌, length, IfOk, OnOk};
 ghost use Rattle.sdbm_saves.specs.Drafts.{spelled, part_of, change_bytes, plan_bytes};
 
-use crate::File;
+use crate::DiskFile;
 use crate::plan::{SIGNATURE, resized};
 use std::alloc::{AllocError, Allocator};
 
@@ -42,7 +42,7 @@ pub(crate) fn part_of<A: Allocator>(
 // Appends a change with the bytes it overwrites. On error, discard the draft: it may contain a part of the change.
 pub(crate) fn push<A: Allocator>(
     draft: &mut Draft<A>,
-    file: File,
+    file: DiskFile,
     at: usize,
     bytes: &[u8],
     was: &[u8],
@@ -57,8 +57,8 @@ pub(crate) fn push<A: Allocator>(
     ensures directory { draft.new.directory ≡ draft.old.directory }
 {
     let code = match file {
-        File::Pages => 0,
-        File::Directory | File::Redo => 1,
+        DiskFile::Pages => 0,
+        DiskFile::Directory | DiskFile::Redo => 1,
     };
     draft.changes.extend_from_slice(&[code])?;
     draft.changes.extend_from_slice(&spelled(at))?;

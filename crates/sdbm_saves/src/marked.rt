@@ -9,7 +9,7 @@ use crate::blocks::draft_bytes;
 use crate::drafting::{Draft, assemble};
 use crate::part::{MOST, draft_parts};
 use crate::planning::LIMIT;
-use crate::{File, SavePlanFault};
+use crate::{DiskFile, SavePlanFault};
 use sdbm_files::Image;
 use std::alloc::Allocator;
 
@@ -66,7 +66,7 @@ pub fn plan_marked<A: Allocator + Copy>(
     draft_bytes(
         alloc,
         &mut draft,
-        File::Directory,
+        DiskFile::Directory,
         0,
         old.directory,
         directory,

@@ -2,9 +2,9 @@
 ghost use Rattle.std.specs.Prelude.{◌≡◌, ◌≢◌, ◌≤◌, ◌+◌, length, IfOk};
 ghost use Rattle.sdbm_saves.specs.Disk.{resized, written};
 ghost use Rattle.sdbm_saves.specs.Redo.{file_of, offset_of, size_of, span_of, effect, new_length, renewed, IsPlan};
-ghost use Rattle.sdbm_saves.specs.declared.disk.File.TheVariants.{Redo};
+ghost use Rattle.sdbm_saves.specs.declared.disk.DiskFile.TheVariants.{Redo};
 
-use crate::File;
+use crate::DiskFile;
 use crate::plan::{file_of, number, resized, rest_of};
 use std::alloc::{AllocError, Allocator};
 
@@ -16,7 +16,7 @@ use std::alloc::{AllocError, Allocator};
 pub fn lay_over<A: Allocator>(
     alloc: A,
     plan: &[u8],
-    file: File,
+    file: DiskFile,
     old: &[u8],
 ) -> Result<Vec<u8, A>, AllocError>
     requires plan { IsPlan plan.now }
@@ -24,8 +24,8 @@ pub fn lay_over<A: Allocator>(
     ensures { IfOk result (λ laid. laid.items ≡ renewed file plan.now old.now) }
 {
     let len = match file {
-        File::Pages => number(plan, 8),
-        File::Directory | File::Redo => number(plan, 12),
+        DiskFile::Pages => number(plan, 8),
+        DiskFile::Directory | DiskFile::Redo => number(plan, 12),
     };
     let mut laid = resized(alloc, old, len)?;
     lay_in(laid.as_mut_slice(), file, plan);
@@ -33,7 +33,7 @@ pub fn lay_over<A: Allocator>(
 }
 
 /// Applies the plan to the bytes of a data file. `laid` must already have the length that the plan gives the file.
-pub fn lay_in(laid: &mut [u8], file: File, plan: &[u8])
+pub fn lay_in(laid: &mut [u8], file: DiskFile, plan: &[u8])
     requires plan { IsPlan plan.now }
     requires data { file ≢ Redo }
     requires long { length laid.old ≡ new_length file plan.now }
@@ -48,7 +48,7 @@ pub fn lay_in(laid: &mut [u8], file: File, plan: &[u8])
 }
 
 // Applies a change if it is for this file.
-fn lay_change(laid: &mut [u8], file: File, change: &[u8])
+fn lay_change(laid: &mut [u8], file: DiskFile, change: &[u8])
     requires data { file ≢ Redo }
     requires whole { span_of change.now ≤ length change.now }
     requires inside { file_of change.now ≡ file → offset_of change.now + size_of change.now ≤ length laid.old }

@@ -1,6 +1,6 @@
 // Plans a save from one page that was read.
 ghost use Rattle.std.specs.Prelude.{◌≡◌, ◌≢◌, ◌<◌, ◌≤◌, ◌^◌, ◌+◌, ◌*◌, ◌%◌, ◌↔◌, ◌⊎◌, ℕ, List, [], length, get_or, Contains, IsTrue, IfOk, IfErr, IfSome, IsNone, OnOk};
-ghost use Rattle.sdbm_saves.specs.declared.disk.File.TheVariants.{Pages};
+ghost use Rattle.sdbm_saves.specs.declared.disk.DiskFile.TheVariants.{Pages};
 ghost use Rattle.sdbm_saves.specs.declared.planning.SavePlanFault.TheVariants.{TooLong};
 ghost use Rattle.sdbm_saves.specs.Redo.{replayed, IsPlan, Knows};
 ghost use Rattle.sdbm_saves.specs.Drafts.{AreChanges};
@@ -13,7 +13,7 @@ use crate::blocks::draft_bytes;
 use crate::drafting::{Draft, assemble};
 use crate::plan::resized;
 use crate::planning::LIMIT;
-use crate::{File, SavePlanFault};
+use crate::{DiskFile, SavePlanFault};
 use sdbm_files::Image;
 use std::alloc::{AllocError, Allocator};
 
@@ -74,7 +74,7 @@ pub fn plan_part<A: Allocator + Copy>(
     draft_bytes(
         alloc,
         &mut draft,
-        File::Directory,
+        DiskFile::Directory,
         0,
         old.directory,
         directory,
@@ -155,7 +155,7 @@ pub(crate) fn draft_parts<A: Allocator + Copy>(
             draft_bytes(
                 alloc,
                 draft,
-                File::Pages,
+                DiskFile::Pages,
                 at,
                 &pages[start..start + size],
                 page,

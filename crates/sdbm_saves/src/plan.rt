@@ -3,7 +3,7 @@ ghost use Rattle.std.specs.Prelude.{◌≡◌, ◌≢◌, ◌*◌, ◌<◌, ◌�
 ghost use Rattle.sdbm_saves.specs.Disk.{resized};
 ghost use Rattle.sdbm_saves.specs.Redo.{number_at, file_of, span_of, rest_of, signature, Fits, IsPlan};
 
-use crate::File;
+use crate::DiskFile;
 use std::alloc::{AllocError, Allocator};
 
 pub(crate) const MARKED: u8 = 1;
@@ -25,14 +25,14 @@ pub fn number(bytes: &[u8], at: usize) -> usize
 }
 
 /// The file of the first change in `change`.
-pub fn file_of(change: &[u8]) -> File
+pub fn file_of(change: &[u8]) -> DiskFile
     requires { 1 ≤ length change.now }
     ensures { result ≡ file_of change.now }
 {
     if change[0] == 0 {
-        File::Pages
+        DiskFile::Pages
     } else {
-        File::Directory
+        DiskFile::Directory
     }
 }
 
@@ -55,9 +55,9 @@ fn fits(plan: &[u8], change: &[u8]) -> bool
     }
     let size = number(change, 5);
     let limit = match file_of(change) {
-        File::Pages => number(plan, 8),
-        File::Directory => number(plan, 12),
-        File::Redo => 0,
+        DiskFile::Pages => number(plan, 8),
+        DiskFile::Directory => number(plan, 12),
+        DiskFile::Redo => 0,
     };
     9 + (size + size) <= change.len() && number(change, 1) + size <= limit
 }

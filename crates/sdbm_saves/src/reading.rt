@@ -1,6 +1,6 @@
 // Plans a save from files that were read completely.
 ghost use Rattle.std.specs.Prelude.{◌≡◌, ◌<◌, ◌≤◌, ◌^◌, ◌+◌, ◌*◌, ◌↔◌, ◌⊎◌, ℕ, List, length, IsTrue, IfOk, IfErr, IfSome, IsNone, OnOk};
-ghost use Rattle.sdbm_saves.specs.declared.disk.File.TheVariants.{Pages};
+ghost use Rattle.sdbm_saves.specs.declared.disk.DiskFile.TheVariants.{Pages};
 ghost use Rattle.sdbm_saves.specs.declared.planning.SavePlanFault.TheVariants.{TooLong};
 ghost use Rattle.sdbm_saves.specs.Drafts.{AreChanges, HasPut};
 ghost use Rattle.sdbm_saves.specs.Saves.{AreFilesFor, ChangesNothing, IsSaving, IsTooLong};
@@ -13,7 +13,7 @@ ghost use Rattle.sdbm_saves.specs.OldPages.{bytes_in};
 use crate::blocks::{draft_block, draft_bytes};
 use crate::drafting::{Draft, assemble};
 use crate::planning::LIMIT;
-use crate::{Contents, File, SavePlanFault};
+use crate::{Contents, DiskFile, SavePlanFault};
 use sdbm_files::{BLOCK, Image, ReadPages};
 use std::alloc::{AllocError, Allocator};
 
@@ -155,7 +155,7 @@ fn plan_pages<A: Allocator + Copy>(
     draft_bytes(
         alloc,
         &mut draft,
-        File::Directory,
+        DiskFile::Directory,
         0,
         old_directory,
         directory,
@@ -206,7 +206,7 @@ fn draft_pages<A: Allocator + Copy>(
         draft_block(
             alloc,
             draft,
-            File::Pages,
+            DiskFile::Pages,
             index * BLOCK,
             old.block(index),
             block,

@@ -6,7 +6,7 @@ ghost use Rattle.sdbm_saves.specs.Disk.{Image};
 ghost use Rattle.sdbm_saves.specs.Acts.{Act, write, resize, sync, clear, Notes};
 
 use crate::ghost_image::GhostImage;
-use crate::{Disk, DiskError, File, Part, ReadFiles};
+use crate::{Disk, DiskError, DiskFile, Part, ReadFiles};
 use sdbm_addr::PageSize;
 use std::alloc::Global;
 use std::marker::PhantomData;
@@ -78,15 +78,15 @@ pub trait Host {
     ghost calls: { Self → List Act };
 
     /// Writes the bytes at an offset.
-    fn write_at(&mut self, file: File, at: usize, bytes: &[u8]) -> Result<(), DiskError>
+    fn write_at(&mut self, file: DiskFile, at: usize, bytes: &[u8]) -> Result<(), DiskError>
         ensures { Notes (write file at bytes.now) (calls self.old) (calls self.new) result };
 
     /// Truncates the file, or extends it with zeros.
-    fn resize(&mut self, file: File, len: usize) -> Result<(), DiskError>
+    fn resize(&mut self, file: DiskFile, len: usize) -> Result<(), DiskError>
         ensures { Notes (resize file len) (calls self.old) (calls self.new) result };
 
     /// Makes the file's contents and its name durable.
-    fn sync(&mut self, file: File) -> Result<(), DiskError>
+    fn sync(&mut self, file: DiskFile) -> Result<(), DiskError>
         ensures { MatchResult result (λ _. calls self.new ≡ calls self.old ++ sync file ∷ []) (λ _. calls self.new ≡ calls self.old) };
 
     /// Removes the redo file.
@@ -160,7 +160,7 @@ impl<H: Host, P: Past, F: Before> Disk for Recorded<H, P, F> {
 
     ghost only_now = { λ disk c left. only_the_last (H.calls disk.host) (F.image disk.found) P.may_leave c left };
 
-    fn write_at(&mut self, file: File, at: usize, bytes: &[u8]) -> Result<(), DiskError> {
+    fn write_at(&mut self, file: DiskFile, at: usize, bytes: &[u8]) -> Result<(), DiskError> {
         if self.failed {
             return Err(DiskError::Failed);
         }
@@ -169,7 +169,7 @@ impl<H: Host, P: Past, F: Before> Disk for Recorded<H, P, F> {
         outcome
     }
 
-    fn resize(&mut self, file: File, len: usize) -> Result<(), DiskError> {
+    fn resize(&mut self, file: DiskFile, len: usize) -> Result<(), DiskError> {
         if self.failed {
             return Err(DiskError::Failed);
         }
@@ -178,7 +178,7 @@ impl<H: Host, P: Past, F: Before> Disk for Recorded<H, P, F> {
         outcome
     }
 
-    fn sync(&mut self, file: File) -> Result<(), DiskError> {
+    fn sync(&mut self, file: DiskFile) -> Result<(), DiskError> {
         if self.failed {
             return Err(DiskError::Failed);
         }

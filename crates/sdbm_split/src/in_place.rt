@@ -14,7 +14,7 @@ use std::alloc::Allocator;
 /// pair does not fit on the page together with the pairs of other keys, or if the page has another owner, which is tested first. The old pair of the key is
 /// removed, and the new pair is the last one. The pair must be small enough for the page's size, and the page's keys distinct. Does not
 /// allocate.
-pub fn store_in_place<A: Allocator>(
+pub fn store_on_page<A: Allocator>(
     page: &mut SharedPage<A>,
     key: &[u8],
     value: &[u8],

@@ -20,7 +20,7 @@ use Rattle.store_cmd.specs.Command.{IsSmall}
 use Rattle.store_cmd.specs.Answers.{env_of, saves, removes}
 use Rattle.store_moves.specs.declared.worked.Site.{Site}
 use Rattle.store_moves.specs.declared.runs.RunInput.{RunInput}
-use Rattle.store_moves.specs.declared.in_place.Copied.{Copied}
+use Rattle.store_moves.specs.declared.in_place.RunOnCopy.{RunOnCopy}
 use Rattle.store_moves.specs.Works.{PageResult, works, key_of, HasKey, HasEnd, EndsOn, leaf_alone}
 use Rattle.store_moves.specs.Worked.{page_on, left_at}
 use Rattle.store_moves.specs.Leads.{IsPlaceOf, MayChange, changed_by}
@@ -30,7 +30,7 @@ use Rattle.store_moves.proofs.RunLemmas.{Ends-told, ran_there}
 use Rattle.store_moves.proofs.Lifting.{works_lead}
 
 -- a program was run on a copy
-pub copied_so : {A : Type 0} (pairs : List Pair) (input : RunInput A) (copied : Copied) (bytes rest : List ℕ) (env : Env) (o : Outcome) → IsPlace pairs input.key.now copied.i → copied.len ≡ length (value_at pairs copied.i) → copied.ended.code ≡ o.code → copied.ended.word ≡ o.word
+pub copied_so : {A : Type 0} (pairs : List Pair) (input : RunInput A) (copied : RunOnCopy) (bytes rest : List ℕ) (env : Env) (o : Outcome) → IsPlace pairs input.key.now copied.i → copied.len ≡ length (value_at pairs copied.i) → copied.ended.code ≡ o.code → copied.ended.word ≡ o.word
     → bytes ≡ value_at pairs copied.i → env ≡ env_of input.time true input.session → Ends input.program.now.code bytes input.arg.now env o → o.steps ≤ length input.program.now.code → IsRunCopied pairs input copied (o.bytes ++ rest)
 copied_so pairs input copied bytes rest env o place long code word same told ends short =
     let there : Ends input.program.now.code (value_at pairs copied.i) input.arg.now (env_of input.time true input.session) o = Ends-told input true bytes (value_at pairs copied.i) env o same told ends in
@@ -47,7 +47,7 @@ copied_so pairs input copied bytes rest env o place long code word same told end
       long = omega arith;
     }
 
-module _ {A : Type 0} (db : Database) (ok : IsDatabase db) (place : Place) (command : Command A) (input : RunInput A) (copied : Copied) (bytes : List ℕ) (is_run : command ≡ Run input.key.now input.program.now.code input.arg.now input.blank input.time) (small : IsSmall db.size command) (leads : IsPlaceOf db (key_of command) place) (ran : IsRunCopied (pairs_at db place.page) input copied bytes) where
+module _ {A : Type 0} (db : Database) (ok : IsDatabase db) (place : Place) (command : Command A) (input : RunInput A) (copied : RunOnCopy) (bytes : List ℕ) (is_run : command ≡ Run input.key.now input.program.now.code input.arg.now input.blank input.time) (small : IsSmall db.size command) (leads : IsPlaceOf db (key_of command) place) (ran : IsRunCopied (pairs_at db place.page) input copied bytes) where
   abbrev site : Site
   site = record { place = place; kind = db.kind; size = db.size }
 

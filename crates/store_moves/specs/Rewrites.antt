@@ -5,11 +5,11 @@ use Rattle.bpf_helpers.specs.Runs.{Outcome}
 use Rattle.store_cmd.specs.declared.Command.{Command}
 use Rattle.store_cmd.specs.declared.Command.TheVariants.{Run}
 use Rattle.store_moves.specs.declared.runs.RunInput.{RunInput}
-use Rattle.store_moves.specs.declared.in_place.Copied.{Copied}
+use Rattle.store_moves.specs.declared.in_place.RunOnCopy.{RunOnCopy}
 use Rattle.store_moves.specs.Worked.{outcome_on}
 
 -- a program was run on a copy of the value of its key, and its record is in the first of these bytes
-pub record IsRunCopied {A : Type 0} (pairs : List Pair) (input : RunInput A) (copied : Copied) (bytes : List ℕ) : Type 0 where
+pub record IsRunCopied {A : Type 0} (pairs : List Pair) (input : RunInput A) (copied : RunOnCopy) (bytes : List ℕ) : Type 0 where
   pub outcome : Outcome
   pub place : IsPlace pairs input.key.now copied.i
   pub is : outcome_on input (value_at pairs copied.i) ≡ Some outcome

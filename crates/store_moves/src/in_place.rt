@@ -28,7 +28,7 @@ const SHORT: usize = 256;
 
 /// A run on a copy of a pair's value: the index of the pair, the length of its value, and how the run ended.
 #[derive(Clone, Copy)]
-struct Copied {
+struct RunOnCopy {
     i: usize,
     len: usize,
     ended: Ended,
@@ -144,7 +144,7 @@ fn run_copied<A: Allocator + Copy>(
     number: u32,
     input: &RunInput<'_, A>,
     bytes: &mut [u8],
-) -> Option<Copied>
+) -> Option<RunOnCopy>
     requires long { length bytes.old ≤ 256 }
     requires argument_fits { length input.now.arg.now ≤ argument_limit }
     ensures { IfSome result (λ copied. IsRunCopied (pairs_at image.now number) input.now copied bytes.new) }
@@ -160,5 +160,5 @@ fn run_copied<A: Allocator + Copy>(
     bytes[..len].copy_from_slice(value);
     let env = env_of(input, true);
     let ended = run(input.program, &env, &mut bytes[..len], input.arg);
-    Some(Copied { i, len, ended })
+    Some(RunOnCopy { i, len, ended })
 }

@@ -10,7 +10,7 @@ use Rattle.store_cmd.specs.declared.Command.{Command}
 use Rattle.store_cmd.specs.declared.Reply.{Reply}
 use Rattle.store_cmd.specs.declared.Refusal.{Refusal}
 use Rattle.store_cmd.specs.Command.{IsSmall}
-use Rattle.store_shared.specs.declared.serving.Committed.{Committed}
+use Rattle.store_shared.specs.declared.serving.AnsweredCall.{AnsweredCall}
 use Rattle.store_shared.specs.Shared.{SessionState, session_of, with_call, entry_of, IsReplyTo, IsRefusal}
 use Rattle.store_shared.specs.Groups.{IsCall, AreCalls, AreAnswered, IsNoted}
 
@@ -50,8 +50,8 @@ so_far_all {A} s s' commands left old new h none = record {
 }
 
 -- one more call, whose entry and outcome were recorded
-pub so_far_noted : {A : Type 0} (number : ℕ) (size : PageSize) (first entries entries' : List (Entry A)) (commands left rest : List (Command A)) (old new new' : List (Result (Reply A) Refusal)) (command : Command A) (ended : Result (Committed A) Refusal)
-    → OnOk ended (IsSmall size command) → IfOk ended (λ (served : Committed A). IsReplyTo number command served.reply) → IfOk ended (λ (served : Committed A). served.entry ≡ entry_of number command served.reply) → IfErr ended (IsRefusal size command)
+pub so_far_noted : {A : Type 0} (number : ℕ) (size : PageSize) (first entries entries' : List (Entry A)) (commands left rest : List (Command A)) (old new new' : List (Result (Reply A) Refusal)) (command : Command A) (ended : Result (AnsweredCall A) Refusal)
+    → OnOk ended (IsSmall size command) → IfOk ended (λ (served : AnsweredCall A). IsReplyTo number command served.reply) → IfOk ended (λ (served : AnsweredCall A). served.entry ≡ entry_of number command served.reply) → IfErr ended (IsRefusal size command)
     → left ≡ command ∷ rest → IsNoted ended entries entries' new new'
     → SoFar (session_of number size first) commands left old (session_of number size entries) new → SoFar (session_of number size first) commands rest old (session_of number size entries') new'
 so_far_noted {A} number size first entries entries' commands left rest old new new' command (Ok served) small reply entry refused step noted h =

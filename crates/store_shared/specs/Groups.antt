@@ -4,7 +4,7 @@ use Rattle.store_cmd.specs.declared.Command.{Command}
 use Rattle.store_cmd.specs.declared.Reply.{Reply}
 use Rattle.store_cmd.specs.declared.Refusal.{Refusal}
 use Rattle.store_cmd.specs.declared.Entry.{Entry}
-use Rattle.store_shared.specs.declared.serving.Committed.{Committed}
+use Rattle.store_shared.specs.declared.serving.AnsweredCall.{AnsweredCall}
 use Rattle.store_cmd.specs.Command.{IsSmall}
 use Rattle.store_shared.specs.Shared.{SessionState, with_call, IsReplyTo, IsRefusal}
 
@@ -27,6 +27,6 @@ pub record AreAnswered {A : Type 0} (s : SessionState A) (commands : List (Comma
   pub calls : AreCalls s commands outcomes s'
 
 -- the entry of an answered call is added to the entries, and every outcome to the outcomes
-abbrev pub IsNoted : {A : Type 0} → Result (Committed A) Refusal → List (Entry A) → List (Entry A) → List (Result (Reply A) Refusal) → List (Result (Reply A) Refusal) → Type 0
+abbrev pub IsNoted : {A : Type 0} → Result (AnsweredCall A) Refusal → List (Entry A) → List (Entry A) → List (Result (Reply A) Refusal) → List (Result (Reply A) Refusal) → Type 0
 IsNoted (Ok served) entries entries' outcomes outcomes' = (entries' ≡ entries ++ served.entry ∷ []) × (outcomes' ≡ outcomes ++ Ok served.reply ∷ [])
 IsNoted (Err refusal) entries entries' outcomes outcomes' = (entries' ≡ entries) × (outcomes' ≡ outcomes ++ Err refusal ∷ [])

@@ -3,7 +3,7 @@ use Rattle.std.specs.Prelude.{◌≡◌, ◌<◌, ℕ, Ok, Err}
 use Rattle.bpf_insn.specs.Code.{unit_count}
 use Rattle.store_cmd.specs.declared.Command.{Command}
 use Rattle.store_cmd.specs.declared.Command.TheVariants.{Fetch, Store, Delete, Run, Count}
-use Rattle.desk_core.specs.declared.step.Stepped.{Stepped}
+use Rattle.desk_core.specs.declared.step.ReplyPair.{ReplyPair}
 use Rattle.store_shared.specs.declared.passing.TriedStep.{TriedStep}
 use Rattle.store_shared.specs.declared.passing.TriedStep.TheVariants.{Ended, Busy}
 use Rattle.store_shared.specs.declared.passing.Looking.{Looking}
@@ -25,7 +25,7 @@ IsLong (Run key program argument blank now) = short_limit < unit_count program
 IsLong Count = ⊥
 
 -- a reply to this command of this session, twice
-pub record IsStepped {A : Type 0} (session : ℕ) (command : Command A) (stepped : Stepped A) : Type 0 where
+pub record IsStepped {A : Type 0} (session : ℕ) (command : Command A) (stepped : ReplyPair A) : Type 0 where
   pub reply : IsReplyTo session command stepped.reply
   pub copy : stepped.copy ≡ stepped.reply
 

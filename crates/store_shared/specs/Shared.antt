@@ -18,8 +18,8 @@ use Rattle.desk_core.specs.declared.Asked.TheVariants as asked
 use Rattle.desk_core.specs.declared.job.Open.{Open}
 use Rattle.store_shared.specs.declared.serving.Closing.{Closing}
 use Rattle.store_shared.specs.declared.serving.Closing.TheVariants.{Commit, GiveUp}
-use Rattle.store_shared.specs.declared.serving.Tried.{Tried}
-use Rattle.store_shared.specs.declared.serving.Tried.TheVariants.{Ended, Busy}
+use Rattle.store_shared.specs.declared.serving.Attempt.{Attempt}
+use Rattle.store_shared.specs.declared.serving.Attempt.TheVariants.{Ended, Busy}
 use Rattle.store_moves.specs.Works.{HasKey, HasEnd}
 use Rattle.desk_core.specs.Jobs.{worked}
 use Rattle.desk_core.specs.Desk.{DeskState, ticket_of}
@@ -93,7 +93,7 @@ IsNotForSize NoMemory = Unit {0}
 IsNotForSize Strayed = Unit {0}
 
 -- The outcome of a request: this command of this session is requested, or refused for a reason other than size, or returned.
-abbrev pub IsTried : {A : Type 0} → ℕ → Command A → Tried A → Type 0
+abbrev pub IsTried : {A : Type 0} → ℕ → Command A → Attempt A → Type 0
 IsTried session command (Ended (Ok asked)) = IsAskedFor session command asked
 IsTried session command (Ended (Err refusal)) = IsNotForSize refusal
 IsTried session command (Busy refused) = refused ≡ command

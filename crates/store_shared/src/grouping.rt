@@ -6,7 +6,7 @@ ghost use Rattle.store_shared.specs.Shared.{entry_of, session_of, IsReplyTo, IsN
 ghost use Rattle.store_shared.specs.Groups.{AreAnswered, IsNoted};
 
 use crate::passing::{Stepping, answer, is_long, kept, step_in};
-use crate::serving::{Committed, another_owner};
+use crate::serving::{AnsweredCall, another_owner};
 use crate::store::{Core, Gate, Store};
 use sdbm_addr::PageSize;
 use std::alloc::Allocator;
@@ -26,7 +26,7 @@ pub(crate) struct Maker<A> {
 #[derive(Drop)]
 struct Made<'s, A: Allocator> {
     held: Option<MutexGuard<'s, Core<A>>>,
-    ended: Result<Committed<A>, Refusal>,
+    ended: Result<AnsweredCall<A>, Refusal>,
 }
 
 /// Makes the calls of a session in order, adds an entry for each answered call, and records the outcome of each.
@@ -133,7 +133,7 @@ fn hold<'s, R: Wait, A: Allocator + Copy, G: Gate>(
 
 // Adds the entry of an answered call, and the call's outcome. Both lists have capacity for it.
 fn note<A: Allocator>(
-    ended: Result<Committed<A>, Refusal>,
+    ended: Result<AnsweredCall<A>, Refusal>,
     entries: &mut Vec<KeptEntry<A>, A>,
     outcomes: &mut Vec<Result<Reply<A>, Refusal>, A>,
 )
@@ -146,7 +146,7 @@ fn note<A: Allocator>(
     ensures outcomes_room { vec_capacity outcomes.new ≡ vec_capacity outcomes.old }
 {
     match ended {
-        Ok(Committed { reply, entry }) => {
+        Ok(AnsweredCall { reply, entry }) => {
             entries.push_reserved(entry);
             outcomes.push_reserved(Ok(reply));
         }

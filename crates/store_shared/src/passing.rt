@@ -6,9 +6,9 @@ ghost use Rattle.store_moves.specs.Works.{HasKey};
 ghost use Rattle.store_shared.specs.Shared.{entry_of, IsReplyTo, IsNotForSize};
 ghost use Rattle.store_shared.specs.Passing.{IsLong, IsStepped, IsPassed, IsLooked, IsTriedStep};
 
-use crate::serving::{Committed, another_owner, by_ticket, refusal_of, wait};
+use crate::serving::{AnsweredCall, another_owner, by_ticket, refusal_of, wait};
 use crate::store::{Core, Gate, Store};
-use desk_core::{AskFault, Desk, Look, PutFault, Seen, Stepped};
+use desk_core::{AskFault, Desk, Look, PutFault, ReplyPair, Seen};
 use std::alloc::Allocator;
 use std::sync::{MutexGuard, Wait};
 use store_cmd::{Command, KeptEntry, Refusal, SharedCommand};
@@ -20,13 +20,13 @@ const SHORT_PROGRAM: usize = 256;
 #[derive(Drop)]
 pub(crate) struct Stepping<'s, A: Allocator> {
     pub(crate) core: MutexGuard<'s, Core<A>>,
-    pub(crate) ended: Result<Stepped<A>, Refusal>,
+    pub(crate) ended: Result<ReplyPair<A>, Refusal>,
 }
 
 // The outcome of a tried step: it ended, or the desk is busy and the command is returned.
 #[derive(Drop)]
 enum TriedStep<A: Allocator> {
-    Ended(Result<Stepped<A>, Refusal>),
+    Ended(Result<ReplyPair<A>, Refusal>),
     Busy(SharedCommand<A>),
 }
 
@@ -41,7 +41,7 @@ enum Looking<A: Allocator> {
 // The outcome of a call without a ticket: its reply, or the command itself if it needs one.
 #[derive(Drop)]
 enum Passing<A: Allocator> {
-    Passed(Stepped<A>),
+    Passed(ReplyPair<A>),
     Barred(SharedCommand<A>),
 }
 
@@ -53,7 +53,7 @@ pub(crate) fn answer<R: Wait, A: Allocator + Copy, G: Gate>(
     session: u64,
     jobs: bool,
     command: SharedCommand<A>,
-) -> Result<Committed<A>, Refusal>
+) -> Result<AnsweredCall<A>, Refusal>
     ensures reply { IfOk result (λ served. IsReplyTo session command served.reply) }
     ensures entry { IfOk result (λ served. served.entry ≡ entry_of session command served.reply) }
     ensures refused { IfErr result IsNotForSize }
@@ -83,7 +83,7 @@ fn by_step<R: Wait, A: Allocator + Copy, G: Gate>(
     store: &Store<A, G>,
     session: u64,
     command: SharedCommand<A>,
-) -> Result<Committed<A>, Refusal>
+) -> Result<AnsweredCall<A>, Refusal>
     ensures reply { IfOk result (λ served. IsReplyTo session command served.reply) }
     ensures entry { IfOk result (λ served. served.entry ≡ entry_of session command served.reply) }
     ensures refused { IfErr result IsNotForSize }
@@ -97,8 +97,8 @@ fn by_step<R: Wait, A: Allocator + Copy, G: Gate>(
 pub(crate) fn kept<A: Allocator>(
     session: u64,
     command: SharedCommand<A>,
-    ended: Result<Stepped<A>, Refusal>,
-) -> Result<Committed<A>, Refusal>
+    ended: Result<ReplyPair<A>, Refusal>,
+) -> Result<AnsweredCall<A>, Refusal>
     requires stepped { IfOk ended (IsStepped session command) }
     requires refused { IfErr ended IsNotForSize }
     ensures reply { IfOk result (λ served. IsReplyTo session command served.reply) }
@@ -115,14 +115,14 @@ pub(crate) fn kept<A: Allocator>(
 fn served<A: Allocator>(
     session: u64,
     command: SharedCommand<A>,
-    stepped: Stepped<A>,
-) -> Committed<A>
+    stepped: ReplyPair<A>,
+) -> AnsweredCall<A>
     requires { stepped.copy ≡ stepped.reply }
     ensures reply { result.reply ≡ stepped.reply }
     ensures entry { result.entry ≡ entry_of session command stepped.reply }
 {
-    let Stepped { reply, copy } = stepped;
-    Committed {
+    let ReplyPair { reply, copy } = stepped;
+    AnsweredCall {
         reply,
         entry: KeptEntry::new(session, command, copy),
     }
@@ -174,7 +174,7 @@ fn by_look<R: Wait, A: Allocator + Copy, G: Gate>(
     alloc: A,
     session: u64,
     command: SharedCommand<A>,
-) -> Result<Committed<A>, Refusal>
+) -> Result<AnsweredCall<A>, Refusal>
     requires keyed { HasKey command }
     ensures reply { IfOk result (λ served. IsReplyTo session command served.reply) }
     ensures entry { IfOk result (λ served. served.entry ≡ entry_of session command served.reply) }

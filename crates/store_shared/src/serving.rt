@@ -17,7 +17,7 @@ use store_cmd::{KeptEntry, Refusal, Reply, SharedCommand};
 
 /// An answered call: its reply, and its entry with a copy of the reply.
 #[derive(Drop)]
-pub(crate) struct Committed<A: Allocator> {
+pub(crate) struct AnsweredCall<A: Allocator> {
     pub(crate) reply: Reply<A>,
     pub(crate) entry: KeptEntry<A>,
 }
@@ -31,7 +31,7 @@ pub(crate) enum Closing<A: Allocator> {
 
 // The outcome of a request: it ended, or the desk is busy and the command is returned.
 #[derive(Drop)]
-enum Tried<A: Allocator> {
+enum Attempt<A: Allocator> {
     Ended(Result<Asked<A>, Refusal>),
     Busy(SharedCommand<A>),
 }
@@ -43,7 +43,7 @@ pub(crate) fn by_ticket<R: Wait, A: Allocator + Copy, G: Gate>(
     alloc: A,
     session: u64,
     command: SharedCommand<A>,
-) -> Result<Committed<A>, Refusal>
+) -> Result<AnsweredCall<A>, Refusal>
     ensures reply { IfOk result (λ served. IsReplyTo session command served.reply) }
     ensures entry { IfOk result (λ served. served.entry ≡ entry_of session command served.reply) }
     ensures refused { IfErr result IsNotForSize }
@@ -69,13 +69,17 @@ pub(crate) fn another_owner<A: Allocator>(
 }
 
 // An answered count. Allocates nothing.
-fn counted<A: Allocator>(session: u64, command: SharedCommand<A>, reply: Reply<A>) -> Committed<A>
+fn counted<A: Allocator>(
+    session: u64,
+    command: SharedCommand<A>,
+    reply: Reply<A>,
+) -> AnsweredCall<A>
     requires { (n : ℕ) × (reply ≡ replies.Count n) }
     ensures reply { result.reply ≡ reply }
     ensures entry { result.entry ≡ entry_of session command reply }
 {
     match reply {
-        Reply::Count(count) => Committed {
+        Reply::Count(count) => AnsweredCall {
             reply: Reply::Count(count),
             entry: KeptEntry::new(session, command, Reply::Count(count)),
         },
@@ -97,8 +101,8 @@ fn ask<R: Wait, A: Allocator + Copy, G: Gate>(
     let mut core = store.core.lock(rt);
     for _ in rt.forever() {
         match ask_on(&mut core.desk, session, command) {
-            Tried::Ended(ended) => return ended,
-            Tried::Busy(refused) => command = refused,
+            Attempt::Ended(ended) => return ended,
+            Attempt::Busy(refused) => command = refused,
         }
         core = wait(rt, store, core);
     }
@@ -110,13 +114,13 @@ fn ask_on<A: Allocator + Copy>(
     desk: &mut Desk<A>,
     session: u64,
     command: SharedCommand<A>,
-) -> Tried<A>
+) -> Attempt<A>
     ensures { IsTried session command result }
 {
     match desk.ask(session, command) {
-        Ok(asked) => Tried::Ended(Ok(asked)),
-        Err((AskFault::Busy, refused)) => Tried::Busy(refused),
-        Err((fault, _)) => Tried::Ended(Err(refusal_of(fault))),
+        Ok(asked) => Attempt::Ended(Ok(asked)),
+        Err((AskFault::Busy, refused)) => Attempt::Busy(refused),
+        Err((fault, _)) => Attempt::Ended(Err(refusal_of(fault))),
     }
 }
 
@@ -139,7 +143,7 @@ fn serve<R: Wait, A: Allocator + Copy, G: Gate>(
     session: u64,
     command: SharedCommand<A>,
     job: Job<A>,
-) -> Result<Committed<A>, Refusal>
+) -> Result<AnsweredCall<A>, Refusal>
     ensures reply { IfOk result (λ served. served.reply ≡ (worked job.asked).reply) }
     ensures entry { IfOk result (λ served. served.entry ≡ entry_of session command served.reply) }
     ensures ends { OnOk result (HasEnd job.asked.page.pairs job.asked.session job.asked.command) }
@@ -155,7 +159,7 @@ fn serve<R: Wait, A: Allocator + Copy, G: Gate>(
     let reply = finish(rt, store, done)?;
     store.gate.after(session);
     let entry = KeptEntry::new(session, command, copy);
-    Ok(Committed { reply, entry })
+    Ok(AnsweredCall { reply, entry })
 }
 
 // Waits until a ticket may have been closed. Notes under the lock that somebody waits.

@@ -9,7 +9,7 @@ ghost use Rattle.store_shared.specs.Groups.{AreAnswered};
 
 use crate::grouping::{Maker, make_all};
 use crate::passing::answer;
-use crate::serving::Committed;
+use crate::serving::AnsweredCall;
 use crate::store::{Gate, Store};
 use sdbm_addr::{Bytes, Mode, PageSize};
 use std::alloc::{AllocError, Allocator};
@@ -277,7 +277,14 @@ impl<'a, A: Allocator + Copy, G: Gate> Session<'a, A, G> {
         };
         let store = self.store;
         let jobs = store.gate.wants_jobs();
-        let Committed { reply, entry } = answer(rt, store, self.alloc, self.number, jobs, command)?;
+        let AnsweredCall { reply, entry } = answer(
+            rt,
+            store,
+            self.alloc,
+            self.number,
+            jobs,
+            command,
+        )?;
         self.calls.push_reserved(entry);
         Ok(reply)
     }

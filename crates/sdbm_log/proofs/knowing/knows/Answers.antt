@@ -1,5 +1,5 @@
 use Rattle.std.proofs.Common.{◌↔◌, ℕ, List, length, refl, sym, ◌∙◌, subst, IsTrue}
-use Rattle.sdbm_saves.specs.declared.disk.File.TheVariants.{Pages, Directory}
+use Rattle.sdbm_saves.specs.declared.disk.DiskFile.TheVariants.{Pages, Directory}
 use Rattle.sdbm_saves.specs.Redo.{new_length, IsBetween, Knows}
 use Rattle.sdbm_saves.proofs.Knowing.{never}
 use Rattle.sdbm_log.specs.Places.{KnowsFile}

@@ -5,7 +5,7 @@ use Rattle.sdbm_log.specs.Doing.{CanCall, CanDo, AnyMoment}
 use Rattle.sdbm_log.specs.Steps.{act_of, acts_of}
 use Rattle.sdbm_log.specs.declared.steps.Step.{Step}
 use Rattle.sdbm_log.specs.declared.steps.Step.TheVariants.{Write}
-use Rattle.sdbm_saves.specs.declared.disk.File.TheVariants.{Pages}
+use Rattle.sdbm_saves.specs.declared.disk.DiskFile.TheVariants.{Pages}
 use Rattle.sdbm_saves.proofs.Moments.{weaker}
 use Rattle.sdbm_log.proofs.Makes.{acts_split, acts_next, can_mid, left_next, moment_front, one_more, seen_snoc}
 use Rattle.sdbm_log.proofs.making.make_steps.Goals as goal

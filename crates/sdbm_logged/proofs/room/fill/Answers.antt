@@ -1,6 +1,6 @@
 use Rattle.std.proofs.Common.{◌≡◌, ◌⊎◌, inl, ℕ, zero, suc, ◌+◌, ◌*◌, ◌<◌, ◌≤◌, List, [], ◌∷◌, length, get_or, refl, ◌∙◌, ap, arith}
 use Rattle.sdbm_saves.specs.Disk.{Image, Torn, put, written}
-use Rattle.sdbm_saves.specs.declared.disk.File.TheVariants.{Redo}
+use Rattle.sdbm_saves.specs.declared.disk.DiskFile.TheVariants.{Redo}
 use Rattle.sdbm_saves.specs.Redo.{files, StaysUnmarked}
 use Rattle.sdbm_saves.proofs.Lists.{length-written}
 use Rattle.sdbm_saves.proofs.Moments.{nothing_yet, one_call, joined}

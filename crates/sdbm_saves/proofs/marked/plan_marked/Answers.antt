@@ -1,5 +1,5 @@
 use Rattle.std.proofs.Common.{◌≡◌, ◌<◌, ◌^◌, ◌*◌, ℕ, List, length, inl, inr, refl, sym, ◌∙◌, ap, subst, arith}
-use Rattle.sdbm_saves.specs.declared.disk.File.TheVariants.{Pages, Directory}
+use Rattle.sdbm_saves.specs.declared.disk.DiskFile.TheVariants.{Pages, Directory}
 use Rattle.sdbm_saves.specs.Disk.{resized}
 use Rattle.sdbm_saves.specs.Redo.{replayed, renewed, IsPlan, Knows}
 use Rattle.sdbm_saves.specs.Drafts.{plan_bytes}

@@ -5,7 +5,7 @@ use Rattle.sdbm_addr.specs.Pairs.{page_bytes}
 use Rattle.sdbm_files.proofs.WriteLemmas.{long_page}
 use Rattle.sdbm_saves.specs.Drafts.{AreChanges, HasPut}
 use Rattle.sdbm_saves.specs.Parts.{ReadPages}
-use Rattle.sdbm_saves.specs.declared.disk.File.TheVariants.{Pages}
+use Rattle.sdbm_saves.specs.declared.disk.DiskFile.TheVariants.{Pages}
 use Rattle.sdbm_saves.proofs.Drafts.{length_part, part_reads}
 use Rattle.sdbm_saves.proofs.PageDrafts.{page_inside, next_page}
 use Rattle.sdbm_saves.proofs.Parts.{IsPutting, putting_none, putting_past, putting_more, putting_all}

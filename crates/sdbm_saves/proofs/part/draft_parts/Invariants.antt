@@ -1,5 +1,5 @@
 use Rattle.std.proofs.Common.{◌≡◌, ◌≤◌, ℕ, ◌+◌, ◌*◌, List}
-use Rattle.sdbm_saves.specs.declared.disk.File.TheVariants.{Pages}
+use Rattle.sdbm_saves.specs.declared.disk.DiskFile.TheVariants.{Pages}
 use Rattle.sdbm_saves.specs.Redo.{replayed}
 use Rattle.sdbm_saves.specs.Drafts.{AreChanges}
 use Rattle.sdbm_saves.specs.Parts.{ReadPages}

@@ -6,7 +6,7 @@ use Rattle.sdbm_addr.specs.declared.PageSize.TheVariants.{Small, Wide}
 use Rattle.sdbm_addr.specs.Pairs.{page_bytes}
 use Rattle.sdbm_addr.specs.Files.{first_pages}
 use Rattle.sdbm_files.proofs.WriteLemmas.{length-first_pages}
-use Rattle.sdbm_saves.specs.declared.disk.File.TheVariants.{Pages}
+use Rattle.sdbm_saves.specs.declared.disk.DiskFile.TheVariants.{Pages}
 use Rattle.sdbm_saves.specs.OldPages.{bytes_in}
 use Rattle.sdbm_saves.specs.Drafts.{AreChanges, HasPut}
 use Rattle.sdbm_saves.proofs.Drafts.{block_read}

@@ -1,6 +1,6 @@
 use Rattle.std.proofs.Common.{◌≡◌, ◌≤◌, ℕ, ◌+◌, ◌*◌, List, take}
 use Rattle.sdbm_addr.specs.Files.{first_pages}
-use Rattle.sdbm_saves.specs.declared.disk.File.TheVariants.{Pages}
+use Rattle.sdbm_saves.specs.declared.disk.DiskFile.TheVariants.{Pages}
 use Rattle.sdbm_saves.specs.OldPages.{bytes_in}
 use Rattle.sdbm_saves.specs.Drafts.{AreChanges, HasPut}
 use Rattle.sdbm_saves.proofs.reading.draft_pages.Given as goal

@@ -1,5 +1,5 @@
 use Rattle.std.proofs.Common.{inl, refl}
-use Rattle.sdbm_saves.specs.declared.disk.File.TheVariants.{Redo}
+use Rattle.sdbm_saves.specs.declared.disk.DiskFile.TheVariants.{Redo}
 use Rattle.sdbm_saves.proofs.Marks.{within_self}
 use Rattle.sdbm_saves.proofs.Recording.{noted_seen, noted_left, noted_time}
 use Rattle.sdbm_saves.proofs.recorded.RecordedDisk.clear.Goals as goal

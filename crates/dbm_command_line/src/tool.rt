@@ -65,7 +65,7 @@ fn titled_command<'a>(alloc: Global) -> Command<'a>
         .version("2.0.0")
         .about("A key-value store in the files of an sdbm database")
         .after_help(
-            "Bytes are in hex, two digits a byte, and . is no bytes; with --text they are text.\n\
+            "Bytes are in hex, two digits a byte, and . is no bytes; with --text, or DBM_TEXT=1, they are text.\n\
              The status is 0; 1 if fetch, store, delete, rename or run answers missing, exists, crowded or refused,\n\
              if verify answers refused, or if run --expect gets another code; 2 for a fault, which is printed on\n\
              standard error; and 3 if run --expect does not run the program.\n\n\

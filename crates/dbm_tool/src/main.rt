@@ -82,12 +82,9 @@ fn run<R: Runtime<File = File> + AllocGlobal + Threads + Wait + Sync>(
     args: &[String],
 ) -> Ending {
     let alloc = rt.alloc();
-    let mut words: Vec<&str> = Vec::new(alloc);
-    for arg in args.iter().skip(1) {
-        if words.push(arg.as_str()).is_err() {
-            return tell(rt, None, Ending::Failed(ServeFault::NoMemory));
-        }
-    }
+    let Ok(words) = words_meant(rt, args) else {
+        return tell(rt, None, Ending::Failed(ServeFault::NoMemory));
+    };
     match read_words(alloc, words.as_slice()) {
         Ok(request) => serve_and_tell(rt, request),
         Err(ToolFault::NoMemory) => tell(rt, None, Ending::Failed(ServeFault::NoMemory)),
@@ -96,6 +93,39 @@ fn run<R: Runtime<File = File> + AllocGlobal + Threads + Wait + Sync>(
             tell(rt, None, Ending::Refused(fault))
         }
     }
+}
+
+// The words after the program's name. If DBM_TEXT is 1 and the subcommand knows `--text`, they have it.
+fn words_meant<'a, R: Runtime + AllocGlobal>(
+    rt: &R,
+    args: &'a [String],
+) -> Result<Vec<&'a str>, AllocError> {
+    let alloc = rt.alloc();
+    let words = words_after_name(alloc, args, false)?;
+    if !is_on(rt, "DBM_TEXT") {
+        return Ok(words);
+    }
+    let with_text = words_after_name(alloc, args, true)?;
+    if read_words(alloc, with_text.as_slice()).is_ok() {
+        return Ok(with_text);
+    }
+    Ok(words)
+}
+
+// The words after the program's name, with `--text` after the name of the subcommand if `is_text`.
+fn words_after_name(
+    alloc: Global,
+    args: &[String],
+    is_text: bool,
+) -> Result<Vec<&str>, AllocError> {
+    let mut words: Vec<&str> = Vec::new(alloc);
+    for arg in args.iter().skip(1) {
+        words.push(arg.as_str())?;
+        if is_text && words.len() == 1 {
+            words.push("--text")?;
+        }
+    }
+    Ok(words)
 }
 
 // Serves a request, and reports its notes or its fault.
@@ -280,7 +310,7 @@ fn take_asked<R: Runtime<File = File> + AllocGlobal>(
     access: Access<'_>,
     taking: Taking<'_>,
 ) -> Result<RunFiles, ServeFault> {
-    let peeks = may_be_quick(ask) && (access.quick || is_quick(rt));
+    let peeks = may_be_quick(ask) && (access.quick || is_on(rt, "DBM_QUICK"));
     let Taking { place, patience } = taking;
     let work = work_asked(ask);
     Ok(take_and_tell(rt, place, peeks, patience, access.verbose, work)?)
@@ -293,9 +323,9 @@ struct Taking<'a> {
     patience: Option<Duration>,
 }
 
-// Returns `true` if the environment requests the same as the option `--quick`.
-fn is_quick<R: Runtime + AllocGlobal>(rt: &R) -> bool {
-    match env::var(rt, "DBM_QUICK") {
+// Returns `true` if a variable of the environment is `1`.
+fn is_on<R: Runtime + AllocGlobal>(rt: &R, name: &str) -> bool {
+    match env::var(rt, name) {
         Ok(word) => word.as_str() == "1",
         Err(_) => false,
     }

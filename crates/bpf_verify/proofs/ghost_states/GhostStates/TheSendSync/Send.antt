@@ -1,5 +1,5 @@
 use denote.Param.Send.{IsSend, owning_send}
-use Rattle.bpf_verify.specs.contracts.noted.GhostStates.{the_row, the_type}
+use Rattle.bpf_verify.specs.contracts.ghost_states.GhostStates.{the_row, the_type}
 
 pub send : IsSend the_row
 send = owning_send the_type tt (λ d. tt) (λ k x w. tt)

@@ -18,7 +18,7 @@ use denote.Steps.{nothing}
 use denote.Triple.Entry.{Res, alive}
 use denote.Triple.Walked.{says, Stays, stay_dropped, walk_of, Goes-dropped, ends_at}
 use Rattle.std.proofs.raw_atomic.Walks.{proved}
-use Rattle.bpf_verify.specs.contracts.noted.GhostStates.none as f
+use Rattle.bpf_verify.specs.contracts.ghost_states.GhostStates.none as f
 use Rattle.bpf_verify.proofs.ghost_states.GhostStates.none.Statement.{statement}
 use Rattle.bpf_verify.proofs.ghost_states.GhostStates.none.Code as code
 

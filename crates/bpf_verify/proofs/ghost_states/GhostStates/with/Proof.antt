@@ -21,8 +21,8 @@ use denote.Triple.Entry.{Res, alive}
 use denote.Triple.Walked.{says, Stays, stay_dropped, walk_of, Goes-dropped, ends_at}
 use Rattle.std.proofs.raw_atomic.Walks.{proved}
 use Rattle.bpf_flow.specs.contracts.state.State.{the_row as State}
-use Rattle.bpf_verify.specs.contracts.noted.GhostStates.{the_row}
-use Rattle.bpf_verify.specs.contracts.noted.GhostStates.with as f
+use Rattle.bpf_verify.specs.contracts.ghost_states.GhostStates.{the_row}
+use Rattle.bpf_verify.specs.contracts.ghost_states.GhostStates.with as f
 use Rattle.bpf_verify.proofs.ghost_states.GhostStates.with.Statement.{statement}
 use Rattle.bpf_verify.proofs.ghost_states.GhostStates.with.Code as code
 

@@ -19,8 +19,8 @@ use mir.Syntax.{named}
 use denote.Triple.Entry.{Res, alive}
 use denote.Triple.Walked.{says, Stays, stay_dropped, walk_of, Goes-dropped, ends_at}
 use Rattle.std.proofs.raw_atomic.Walks.{proved}
-use Rattle.sdbm_files.specs.contracts.told.GhostBytes.{the_row}
-use Rattle.sdbm_files.specs.contracts.told.GhostBytes.more as f
+use Rattle.sdbm_files.specs.contracts.ghost_bytes.GhostBytes.{the_row}
+use Rattle.sdbm_files.specs.contracts.ghost_bytes.GhostBytes.more as f
 use Rattle.sdbm_files.proofs.ghost_bytes.GhostBytes.more.Statement.{statement}
 use Rattle.sdbm_files.proofs.ghost_bytes.GhostBytes.more.Code as code
 

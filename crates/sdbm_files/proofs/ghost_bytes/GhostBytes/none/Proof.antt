@@ -13,7 +13,7 @@ use denote.Steps.{nothing}
 use denote.Triple.Entry.{Res, on_entry}
 use denote.Triple.Walked.{says, Stays, walk_of, ends_at}
 use Rattle.std.proofs.raw_atomic.Walks.{proved}
-use Rattle.sdbm_files.specs.contracts.told.GhostBytes.none as f
+use Rattle.sdbm_files.specs.contracts.ghost_bytes.GhostBytes.none as f
 use Rattle.sdbm_files.proofs.ghost_bytes.GhostBytes.none.Statement.{statement}
 use Rattle.sdbm_files.proofs.ghost_bytes.GhostBytes.none.Code as code
 

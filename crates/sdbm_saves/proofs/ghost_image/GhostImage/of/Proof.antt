@@ -20,7 +20,7 @@ use denote.Triple.Walked.{says, Stays, stay_dropped, walk_of, Goes-dropped, ends
 use Rattle.std.proofs.raw_atomic.Walks.{proved}
 use Rattle.sdbm_saves.specs.Recording.{image_of}
 use Rattle.sdbm_saves.specs.contracts.recorded.Found as found
-use Rattle.sdbm_saves.specs.contracts.noted.GhostImage.of as f
+use Rattle.sdbm_saves.specs.contracts.ghost_image.GhostImage.of as f
 use Rattle.sdbm_saves.proofs.ghost_image.GhostImage.of.Statement.{statement}
 use Rattle.sdbm_saves.proofs.ghost_image.GhostImage.of.Code as code
 

@@ -22,7 +22,7 @@ use Rattle.std.proofs.raw_atomic.Walks.{proved}
 use Rattle.std.specs.contracts.alloc.Global as heap
 use Rattle.std.specs.contracts.impls.GlobalAllocator.TheImpl.{ghosts}
 use Rattle.sdbm_files.specs.contracts.reading.ReadPages as pages
-use Rattle.sdbm_saves.specs.contracts.noted.GhostImage.of_read as f
+use Rattle.sdbm_saves.specs.contracts.ghost_image.GhostImage.of_read as f
 use Rattle.sdbm_saves.proofs.ghost_image.GhostImage.of_read.Statement.{statement}
 use Rattle.sdbm_saves.proofs.ghost_image.GhostImage.of_read.Code as code
 

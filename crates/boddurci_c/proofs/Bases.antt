@@ -22,7 +22,7 @@ use Rattle.store_cmd.specs.declared.Reply.{Reply}
 use Rattle.boddurci_handles.specs.declared.status.Status.{Status}
 use Rattle.boddurci_c.specs.Calls.{Does, RunsBy, ReadsUnmarked}
 use Rattle.boddurci_handles.specs.declared.opened.Db.{Db}
-use Rattle.boddurci_marks.specs.Marks.{DifferOn, DifferOn-prop}
+use Rattle.boddurci_handles.specs.Marks.{DifferOn, DifferOn-prop}
 
 abbrev with : (d : Db) (image : Database) (marks : List ℕ) → DifferOn marks d.base.database image → Db
 with d image marks differ = record { image = image; registry = d.registry; marks = marks; limit = d.limit; base = d.base; differ = differ }

@@ -37,8 +37,8 @@ use Rattle.boddurci_handles.specs.declared.status.Status.{Status}
 use Rattle.boddurci_handles.specs.declared.status.Status.TheVariants.{Done, Missing, Exists, Crowded, ShortRoom, Refused, BadText, BadFiles, Changed, Stale, Closed, Open, PairTooLarge, ArgTooLong, NoProgram, NoMemory, TooLong, NoTicket, NoStock}
 use Rattle.boddurci_handles.specs.Statuses.{code_of, status_of}
 use Rattle.boddurci_c.specs.Units.{unit_in, nowhere}
-use Rattle.boddurci_marks.specs.Growth.{FitsWithin, Outgrows}
-use Rattle.boddurci_marks.specs.Marks.{HasMore}
+use Rattle.boddurci_handles.specs.Growth.{FitsWithin, Outgrows}
+use Rattle.boddurci_handles.specs.Marks.{HasMore}
 
 -- ---- a handle before a call and after it
 

@@ -13,7 +13,7 @@ use Rattle.boddurci_handles.specs.declared.status.Status.{Status}
 use Rattle.boddurci_handles.specs.declared.status.Status.TheVariants.{Done, ShortRoom, Stale, TooLong, NoMemory}
 use Rattle.boddurci_handles.specs.Statuses.{code_of}
 use Rattle.boddurci_c.specs.Calls.{At, IsCopied}
-use Rattle.boddurci_marks.specs.Marks.{AreAmong}
+use Rattle.boddurci_handles.specs.Marks.{AreAmong}
 
 -- the `.pag` after a plan; unchanged if the plan is empty
 abbrev pub pages_left : List ℕ → List ℕ → List ℕ

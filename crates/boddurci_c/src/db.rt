@@ -6,13 +6,14 @@ ghost use Rattle.std.specs.FinMap as map;
 ghost use Rattle.store_cmd.specs.Command.{IsSmall};
 ghost use Rattle.store_cmd.specs.declared.Command.TheVariants.{Store, Delete, Run};
 ghost use Rattle.store_moves.specs.Works.{HasKey};
-ghost use Rattle.boddurci_marks.specs.Growth.{Outgrows};
+ghost use Rattle.boddurci_handles.specs.Growth.{Outgrows};
 ghost use Rattle.boddurci_c.specs.Calls.{Does, DeniesBy, RunsBy, DeniesRun, DeniesAsk, IsEnd, FetchesIn, HasFiles};
 ghost use Rattle.boddurci_c.specs.Tickets.{IsRunAsked};
 
 use crate::rooms::copy_out;
-use boddurci_handles::{Db, Job, Status};
-use boddurci_marks::{has_pairs, may_grow, most_pages, put_marked, run_there, store_there};
+use boddurci_handles::{
+    Db, Job, Status, has_pairs, may_grow, most_pages, put_marked, run_there, store_there,
+};
 use bpf_verify::Verified;
 use prog_registry::ProgId;
 use sdbm_addr::{Bytes, Mode};

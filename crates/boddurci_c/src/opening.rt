@@ -8,8 +8,7 @@ ghost use Rattle.sdbm_saves.specs.Parts.{ReadsPage};
 ghost use Rattle.boddurci_handles.specs.Pieces.{bytes_read};
 ghost use Rattle.boddurci_c.specs.Calls.{IsOpened, ReadsUnmarked, empty_registry};
 
-use boddurci_handles::{Base, Db, Reading};
-use boddurci_marks::Marks;
+use boddurci_handles::{Base, Db, Marks, Reading};
 use prog_registry::Registry;
 use sdbm_addr::{KeyBytes, PageSize};
 use sdbm_files::{BLOCK, Image, OpenFault, ReadPages};

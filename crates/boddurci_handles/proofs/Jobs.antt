@@ -14,7 +14,7 @@ use Rattle.store_moves.specs.Worked.{IsWorked}
 use Rattle.store_moves.specs.Works.{PageResult, works, change_of, HasEnd, IsWorkable}
 use Rattle.boddurci_handles.specs.Asked.{Asked, result_of, IsWorkedOut}
 use Rattle.sdbm_files.specs.Limits.{FitsFiles}
-use Rattle.boddurci_marks.specs.Growth.{FitsWithin, has_pairs, may_grow, most_in, Outgrows}
+use Rattle.boddurci_handles.specs.Growth.{FitsWithin, has_pairs, may_grow, most_in, Outgrows}
 use Rattle.boddurci_handles.specs.Asked.{IsCurrent}
 use Rattle.boddurci_handles.proofs.Fitting.{may_put_worked, put_worked, fits_worked, within_worked}
 

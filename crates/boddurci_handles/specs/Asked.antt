@@ -10,7 +10,7 @@ use Rattle.store_moves.specs.declared.worked.Worked.{Worked}
 use Rattle.store_moves.specs.Leads.{IsPlaceOf}
 use Rattle.store_moves.specs.Works.{PageResult, works, key_of, HasEnd, IsWorkable}
 use Rattle.store_moves.specs.Worked.{IsWorked}
-use Rattle.boddurci_marks.specs.Growth.{Outgrows}
+use Rattle.boddurci_handles.specs.Growth.{Outgrows}
 use Rattle.boddurci_handles.specs.declared.status.Status.{Status}
 use Rattle.boddurci_handles.specs.declared.status.Status.TheVariants.{Changed, NoMemory, NoTicket, TooLong}
 

@@ -7,12 +7,14 @@ ghost use Rattle.store_moves.specs.Acts.{Acts};
 ghost use Rattle.store_moves.specs.Works.{HasKey};
 ghost use Rattle.sdbm_files.specs.Limits.{FitsFiles};
 ghost use Rattle.boddurci_handles.specs.Asked.{result_of};
-ghost use Rattle.boddurci_marks.specs.Growth.{FitsWithin, has_pairs, may_grow, most_in};
-ghost use Rattle.boddurci_marks.specs.Marks.{HasMore, DifferOn};
+ghost use Rattle.boddurci_handles.specs.Growth.{FitsWithin, has_pairs, may_grow, most_in};
+ghost use Rattle.boddurci_handles.specs.Marks.{HasMore, DifferOn};
 ghost use Rattle.boddurci_handles.specs.Asked.{IsAskedOf, IsCurrent, DeniesFinish, worked_out};
 
+use crate::changes::put_marked;
+use crate::growth::{lends_pairs, may_grow, most_pages};
+use crate::marks::Marks;
 use crate::status::Status;
-use boddurci_marks::{Marks, lends_pairs, may_grow, most_pages, put_marked};
 use sdbm_addr::KeyBytes;
 use sdbm_dir::Place;
 use sdbm_files::Image;

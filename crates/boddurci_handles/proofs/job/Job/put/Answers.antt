@@ -3,7 +3,7 @@ use Rattle.std.specs.declared.alloc.Global.{Global}
 use Rattle.store_moves.specs.declared.worked.Worked.{Worked}
 use Rattle.store_moves.specs.Acts.{Acts}
 use Rattle.boddurci_handles.specs.Asked.{Asked, IsWorkedOut, result_of}
-use Rattle.boddurci_marks.specs.Growth.{has_pairs, may_grow, most_in}
+use Rattle.boddurci_handles.specs.Growth.{has_pairs, may_grow, most_in}
 use Rattle.boddurci_handles.specs.Asked.{IsCurrent}
 use Rattle.boddurci_handles.proofs.Jobs.{may_put, put_acts, put_fits, put_within}
 use Rattle.boddurci_handles.proofs.job.Job.put.Goals as goal

@@ -11,7 +11,7 @@ ghost use Rattle.store_cmd.specs.declared.Reply.TheVariants.{Stored};
 ghost use Rattle.store_moves.specs.Acts.{Acts};
 ghost use Rattle.store_moves.specs.Leads.{FillsNone, MayChange, changed_by};
 ghost use Rattle.store_moves.specs.Works.{change_of};
-ghost use Rattle.boddurci_marks.specs.Marks.{HasMore, DifferOn, Covers};
+ghost use Rattle.boddurci_handles.specs.Marks.{HasMore, DifferOn, Covers};
 
 use crate::growth::has_pairs;
 use crate::marks::Marks;

@@ -2,8 +2,8 @@ use Rattle.std.proofs.Common.{◌≡◌, ◌⊎◌, ◌<◌, ℕ, get_or}
 use Rattle.std.specs.List.{Contains}
 use Rattle.sdbm_addr.specs.Pairs.{Content}
 use Rattle.sdbm_addr.specs.Database.{pairs_at}
-use Rattle.boddurci_marks.specs.Marks.{HasMore}
-use Rattle.boddurci_marks.proofs.changes.mark_change.Given as goal
+use Rattle.boddurci_handles.specs.Marks.{HasMore}
+use Rattle.boddurci_handles.proofs.changes.mark_change.Given as goal
 
 abbrev pub invariant-loop-twin : goal.invariant-loop-twin
 invariant-loop-twin l = record {

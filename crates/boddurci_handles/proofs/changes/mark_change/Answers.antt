@@ -7,9 +7,9 @@ use Rattle.sdbm_addr.specs.Pairs.{Content}
 use Rattle.sdbm_addr.specs.Database.{pairs_at}
 use Rattle.sdbm_split.specs.declared.Plan.{Plan}
 use Rattle.store_moves.specs.Works.{change_of}
-use Rattle.boddurci_marks.specs.Marks.{Covers, CoversTwins}
-use Rattle.boddurci_marks.proofs.Marked.{more_still, still}
-use Rattle.boddurci_marks.proofs.changes.mark_change.Goals as goal
+use Rattle.boddurci_handles.specs.Marks.{Covers, CoversTwins}
+use Rattle.boddurci_handles.proofs.Marked.{more_still, still}
+use Rattle.boddurci_handles.proofs.changes.mark_change.Goals as goal
 
 pub loop-twin-preserved : goal.loop-twin-preserved
 loop-twin-preserved c =

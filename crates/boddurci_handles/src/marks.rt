@@ -1,6 +1,6 @@
 //! The set of pages that may differ from the saved database.
 ghost use Rattle.std.specs.Prelude.{◌≡◌, ◌↔◌, ◌⊎◌, ◌<◌, ℕ, false, List, [], length, take, get_or, IsTrue, OnOk, OnErr, Contains};
-ghost use Rattle.boddurci_marks.specs.Marks.{HasMore};
+ghost use Rattle.boddurci_handles.specs.Marks.{HasMore};
 
 use std::alloc::{AllocError, Global};
 use std::marker::Model;
@@ -14,7 +14,7 @@ pub struct Marks {
 
 impl Model for Marks {
     ghost use Rattle.std.specs.Prelude.{ℕ, List};
-    ghost use Rattle.boddurci_marks.specs.Marks.{AreMarked};
+    ghost use Rattle.boddurci_handles.specs.Marks.{AreMarked};
 
     ghost Value = { List ℕ };
 

@@ -18,7 +18,7 @@ use Rattle.store_moves.specs.Acts.{Acts}
 use Rattle.store_moves.specs.Leads.{IsPlaceOf, FillsNone, changed_by}
 use Rattle.store_moves.specs.Works.{key_of, HasKey}
 use Rattle.store_moves.proofs.Parts.{IsAlikeAt, acts_alike, pairs_beside}
-use Rattle.boddurci_marks.specs.Marks.{HasMore, DifferOn, Covers}
+use Rattle.boddurci_handles.specs.Marks.{HasMore, DifferOn, Covers}
 
 pub still : (old new : List ℕ) → HasMore old new → (n : ℕ) → Contains old n → Contains new n
 still old new more n there = subst (λ (l : List ℕ). Contains l n) (sym more.is) (Contains-append_left old more.more n there)

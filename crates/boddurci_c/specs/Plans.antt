@@ -38,7 +38,7 @@ abbrev pub PlansFor : List ℕ → ℕ → List ℕ → List ℕ → Db → List
 PlansFor dir pag_length numbers pages d plan = (pag : List ℕ) → IsReadBeside d.base.database pag_length numbers pages pag → IsPlanFor d.image plan dir pag
 
 -- the database is its own base, and everything else stays
-pub record IsPlanned (d d' : Db) : Type 0 where
+pub record IsOwnBase (d d' : Db) : Type 0 where
   pub image : d'.image ≡ d.image
   pub registry : d'.registry ≡ d.registry
   pub limit : d'.limit ≡ d.limit
@@ -55,7 +55,7 @@ pub record PlansOn (dir : List ℕ) (pag_length : ℕ) (numbers pages : List ℕ
   pub read : HasRead d numbers pages
   pub is : PlansFor dir pag_length numbers pages d plan
   pub copied : IsCopied plan room_old room_new len status
-  pub planned : status ≡ Done → IsPlanned d d'
+  pub planned : status ≡ Done → IsOwnBase d d'
   pub stays : status ≡ ShortRoom → d' ≡ d
 
 -- Why there is no plan: a marked page is not among the numbers, or the number of bytes does not match them; or a file is or

@@ -8,7 +8,7 @@ use Rattle.boddurci_handles.specs.declared.opened.Db.{Db}
 use Rattle.boddurci_handles.specs.declared.status.Status.{Status}
 use Rattle.boddurci_handles.specs.declared.status.Status.TheVariants.{NoMemory, NoStock}
 use Rattle.boddurci_handles.specs.Statuses.{code_of}
-use Rattle.boddurci_c.specs.Calls.{At, Denies, Numbers, Submits, status_of_fault}
+use Rattle.boddurci_c.specs.Calls.{At, CallDenies, NumbersProgram, Submits, status_of_fault}
 
 -- the image is that of the proved code of the stock program with a name
 pub record IsStockImage (name image : List ℕ) : Type 0 where
@@ -24,7 +24,7 @@ DeniesStock name status = ((status ≡ NoStock) × (stock_named name ≡ None)) 
 pub record NumbersStock (name : List ℕ) (old : Option Db) (code : ℕ) (new : Option Db) (id : ℕ) : Type 0 where
   pub image : List ℕ
   pub stock : IsStockImage name image
-  pub numbers : Numbers image old code new id
+  pub numbers : NumbersProgram image old code new id
 
 -- the program is refused as `boddurci_submit` refuses its image
 pub record RejectsStock (name : List ℕ) (old : Option Db) (code : ℕ) (new : Option Db) : Type 0 where
@@ -36,4 +36,4 @@ pub record RejectsStock (name : List ℕ) (old : Option Db) (code : ℕ) (new : 
 
 abbrev pub Stocks : List ℕ → Option Db → ℕ → Option Db → ℕ → ℕ → Type 0
 Stocks name old code new id_old id =
-    NumbersStock name old code new id ⊎ ((RejectsStock name old code new × (id ≡ id_old)) ⊎ (Denies (λ _. DeniesStock name) old code new × (id ≡ id_old)))
+    NumbersStock name old code new id ⊎ ((RejectsStock name old code new × (id ≡ id_old)) ⊎ (CallDenies (λ _. DeniesStock name) old code new × (id ≡ id_old)))

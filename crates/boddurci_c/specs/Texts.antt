@@ -15,7 +15,7 @@ use Rattle.boddurci_handles.specs.declared.status.Status.{Status}
 use Rattle.boddurci_handles.specs.declared.status.Status.TheVariants.{BadText, NoMemory}
 
 -- the program image of the unique code that the text denotes
-pub record IsTextImage (text image : List ℕ) : Type 0 where
+pub record IsTextAssembled (text image : List ℕ) : Type 0 where
   pub code : List Insn
   pub denotes : Denotes text code
   pub only : IsOnlyCode text code
@@ -59,7 +59,7 @@ pub record Garbles (text : List ℕ) (code : ℕ) (line : ℕ) (room_old room_ne
 -- the program image of a text is written to a buffer, or the buffer is too short
 pub record Assembles (text : List ℕ) (code : ℕ) (room_old room_new : List ℕ) (len : ℕ) : Type 0 where
   pub image : List ℕ
-  pub is : IsTextImage text image
+  pub is : IsTextAssembled text image
   pub status : Status
   pub code_is : code ≡ code_of status
   pub copied : IsCopied image room_old room_new len status

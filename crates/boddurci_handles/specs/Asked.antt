@@ -32,7 +32,7 @@ pub record IsWorkedOut (a : Asked) (w : Worked Global) : Type 0 where
   pub ends : HasEnd a.page.pairs 0 a.command
 
 -- it can be computed, and its result, if any, is that
-pub record IsJob (a : Asked) (worked : Option (Worked Global)) : Type 0 where
+pub record IsAskedJob (a : Asked) (worked : Option (Worked Global)) : Type 0 where
   pub workable : IsWorkable a.place a.kind a.page.size a.page.pairs a.command
   pub done : IfSome worked (IsWorkedOut a)
 

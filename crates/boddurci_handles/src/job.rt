@@ -8,7 +8,7 @@ ghost use Rattle.store_moves.specs.Works.{HasKey};
 ghost use Rattle.sdbm_files.specs.Limits.{FitsFiles};
 ghost use Rattle.boddurci_handles.specs.Asked.{result_of};
 ghost use Rattle.boddurci_handles.specs.Growth.{FitsWithin, has_pairs, may_grow, most_in};
-ghost use Rattle.boddurci_handles.specs.Marks.{HasMore, DifferOn};
+ghost use Rattle.boddurci_handles.specs.Marks.{HasMoreMarks, DifferOn};
 ghost use Rattle.boddurci_handles.specs.Asked.{IsAskedOf, IsCurrent, DeniesFinish, worked_out};
 
 use crate::changes::put_marked;
@@ -36,13 +36,13 @@ pub struct Job {
 
 impl Model for Job {
     ghost use Rattle.std.specs.Prelude.{is_some};
-    ghost use Rattle.boddurci_handles.specs.Asked.{Asked, IsJob};
+    ghost use Rattle.boddurci_handles.specs.Asked.{Asked, IsAskedJob};
 
     ghost Value = { Asked };
 
     ghost view = { λ a. record { command = a.command; place = a.place; kind = a.kind; page = a.page; is_worked = is_some a.worked } };
 
-    ghost invariant = { λ a. IsJob (record { command = a.command; place = a.place; kind = a.kind; page = a.page; is_worked = is_some a.worked }) a.worked };
+    ghost invariant = { λ a. IsAskedJob (record { command = a.command; place = a.place; kind = a.kind; page = a.page; is_worked = is_some a.worked }) a.worked };
 }
 
 impl Job {
@@ -120,7 +120,7 @@ impl Job {
         ensures fits { OnOk result (FitsFiles image.old → FitsFiles image.new) }
         ensures within { OnOk result (FitsWithin limit image.old → FitsWithin limit image.new) }
         ensures differ { OnOk result ((base : Database) → DifferOn marks.old base image.old → DifferOn marks.new base image.new) }
-        ensures more { OnOk result (HasMore marks.old marks.new) }
+        ensures more { OnOk result (HasMoreMarks marks.old marks.new) }
         ensures unmarked { OnErr result (marks.new ≡ marks.old) }
         ensures worked { OnOk result (self.old.is_worked ≡ true) }
         ensures why { IfErr result (DeniesFinish limit image.old self.old) }
@@ -171,7 +171,7 @@ impl Job {
         ensures fits { OnOk result (FitsFiles image.old → FitsFiles image.new) }
         ensures within { OnOk result (FitsWithin limit image.old → FitsWithin limit image.new) }
         ensures differ { OnOk result ((base : Database) → DifferOn marks.old base image.old → DifferOn marks.new base image.new) }
-        ensures more { OnOk result (HasMore marks.old marks.new) }
+        ensures more { OnOk result (HasMoreMarks marks.old marks.new) }
         ensures unmarked { OnErr result (marks.new ≡ marks.old) }
         ensures err { OnErr result (image.new ≡ image.old) }
         ensures kept { OnErr result (self.new ≡ self.old) }

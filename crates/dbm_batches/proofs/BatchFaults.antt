@@ -25,13 +25,13 @@ use Rattle.dbm_script.specs.declared.shorthand.TimeOfDay.{TimeOfDay}
 use Rattle.dbm_script.proofs.Runs.{known_read}
 use Rattle.dbm_args.specs.declared.options.Form.{Form}
 use Rattle.dbm_reports.specs.declared.databases.Given.{Given}
-use Rattle.dbm_batches.specs.Batches.{AreLeft, AreShortTasks, HasBadLine, IsReady, OnTasks, batch_causes, doing_causes, ready_causes, submit_causes, task_causes, task_for, workers_of}
+use Rattle.dbm_batches.specs.Batches.{AreLeft, AreShortTasks, HasBadLine, IsBatchReady, OnTasks, batch_causes, doing_causes, ready_causes, submit_causes, task_causes, task_for, workers_of}
 use Rattle.dbm_reports.specs.declared.fault.ReportFault.{ReportFault}
 use Rattle.dbm_reports.specs.declared.fault.ReportFault.TheVariants as reports
 use Rattle.dbm_reports.specs.Causes.{Causes, IsCaused, input_causes, no_causes}
 use Rattle.dbm_records.specs.Running.{program_causes}
 use Rattle.dbm_messages.specs.Faults.{pool_fault, report_fault}
-use Rattle.dbm_batches.specs.Causes.{HasCause, IsReported}
+use Rattle.dbm_batches.specs.Causes.{HasCause, HasReportCause}
 use Rattle.dbm_reports.specs.Databases.{Opens}
 use Rattle.dbm_reports.specs.Reports.{IsFileImage}
 
@@ -71,7 +71,7 @@ undone_fault batch tasks store calls fault result is h cases =
     ]
 
 -- no cause at all
-no_report : (causes : Causes) (fault : ReportFault) → IsReported no_causes fault → IsReported causes fault
+no_report : (causes : Causes) (fault : ReportFault) → HasReportCause no_causes fault → HasReportCause causes fault
 no_report causes reports.BadHex h = absurd h
 no_report causes reports.BadText h = absurd h
 no_report causes reports.BadLayout h = absurd h
@@ -204,7 +204,7 @@ doing_fault n time batch input words tasks fault are is h = go fault (subst (λ 
 
 -- standard input is read once a batch is ready
 pub unread_fault : (n : Notation Global) (form : Form) (given : Given) (workers : Bor (List ℕ)) (is_image : Bool) (time : Option TimeOfDay) (input : Option (List ℕ)) (batch : Batch) (fault : ReportFault)
-    → IsReady form given workers is_image batch → IsCaused (input_causes input) fault → HasCause (batch_causes n form given workers is_image time input) (report_fault fault)
+    → IsBatchReady form given workers is_image batch → IsCaused (input_causes input) fault → HasCause (batch_causes n form given workers is_image time input) (report_fault fault)
 unread_fault n form given workers is_image time input batch reports.BadHex ready h = absurd h
 unread_fault n form given workers is_image time input batch reports.BadText ready h = absurd h
 unread_fault n form given workers is_image time input batch reports.BadLayout ready h = absurd h
@@ -225,7 +225,7 @@ known_tasks n time batch known read P is on = (on.0, (known_read known read (λ 
 
 -- the lines and the tasks, once a batch is ready
 pub ran_fault : (n : Notation Global) (form : Form) (given : Given) (workers : Bor (List ℕ)) (is_image : Bool) (time : Option TimeOfDay) (known : Option (List ℕ)) (read : List ℕ) (batch : Batch) (fault : ServeFault)
-    → IfSome known (λ input. read ≡ input) → IsReady form given workers is_image batch → HasCause (task_causes n time batch (Some read)) fault
+    → IfSome known (λ input. read ≡ input) → IsBatchReady form given workers is_image batch → HasCause (task_causes n time batch (Some read)) fault
     → HasCause (batch_causes n form given workers is_image time known) fault
 ran_fault n form given workers is_image time known read batch NotText is ready h = absurd h
 ran_fault n form given workers is_image time known read batch ReadFile is ready h = absurd h

@@ -49,7 +49,7 @@ pub record IsSubmitted (image : List ℕ) (programs : List Accepted) (id : ProgI
   pub first : id.0 ≡ 0
 
 -- A batch is ready: the words have a number of workers, the files spell its database, and the program of the file's image is registered.
-pub record IsReady (form : Form) (given : Given) (workers : Bor (List ℕ)) (is_image : Bool) (batch : Batch) : Type 0 where
+pub record IsBatchReady (form : Form) (given : Given) (workers : Bor (List ℕ)) (is_image : Bool) (batch : Batch) : Type 0 where
   pub number : workers_of workers.now ≡ Some batch.workers
   pub opened : IsOpened form given batch.database
   pub image : List ℕ
@@ -89,7 +89,7 @@ pub record IsClosedAfter (before : Database) (calls : List (CallsState Global)) 
   pub size : after.size ≡ before.size
 
 -- All tasks are done on a database, each with its reply, and the calls of their workers lead to a new database.
-pub record LeadTo (batch : Batch) (tasks : List (Task Global)) (replies : List (Reply Global)) (after : Database) : Type 0 where
+pub record TasksLeadTo (batch : Batch) (tasks : List (Task Global)) (replies : List (Reply Global)) (after : Database) : Type 0 where
   pub calls : List (CallsState Global)
   pub done : AreDone batch.database.size batch.registry.programs tasks batch.workers replies calls
   pub closed : IsClosedAfter batch.database calls after
@@ -102,14 +102,14 @@ reply_line notation reply = reply_text notation reply ++ 10 ∷ []
 pub record DoesTasks (notation : Notation Global) (batch : Batch) (tasks : List (Task Global)) (report : Report) : Type 0 where
   pub replies : List (Reply Global)
   pub after : Database
-  pub leads : LeadTo batch tasks replies after
+  pub leads : TasksLeadTo batch tasks replies after
   pub text_is : report.text.items ≡ flat_map (reply_line notation) replies
   pub status_is : report.status ≡ 0
   pub written : report.database ≡ Some after
 
 -- P holds of a batch that is ready
 abbrev pub OnReady : Form → Given → Bor (List ℕ) → Bool → (Batch → Type 0) → Type 0
-OnReady form given workers is_image P = (batch : Batch) × (IsReady form given workers is_image batch × P batch)
+OnReady form given workers is_image P = (batch : Batch) × (IsBatchReady form given workers is_image batch × P batch)
 
 -- the result of a batch for its words, its files and standard input
 abbrev pub OnBatch : Notation Global → Form → Given → Bor (List ℕ) → Bool → Option TimeOfDay → Option (List ℕ) → Report → Type 0

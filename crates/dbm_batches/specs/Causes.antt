@@ -38,9 +38,9 @@ abbrev pub no_wish_causes : WishCauses
 no_wish_causes = only_report no_causes
 
 -- The fault of a report has its cause. A failed allocation is a separate fault.
-abbrev pub IsReported : Causes → ReportFault → Type 0
-IsReported causes reports.NoMemory = ⊥
-IsReported causes fault = IsCaused causes fault
+abbrev pub HasReportCause : Causes → ReportFault → Type 0
+HasReportCause causes reports.NoMemory = ⊥
+HasReportCause causes fault = IsCaused causes fault
 
 -- A fault occurs only for its cause. An allocation may fail at any time; these steps have no other faults.
 abbrev pub HasCause : WishCauses → ServeFault → Type 0
@@ -59,7 +59,7 @@ HasCause causes NoStock = ⊥
 HasCause causes Locked = ⊥
 HasCause causes (Moved file) = ⊥
 HasCause causes Changed = ⊥
-HasCause causes (Report fault) = IsReported causes.report fault
+HasCause causes (Report fault) = HasReportCause causes.report fault
 HasCause causes (Dump fault) = causes.dump fault
 HasCause causes (Submit fault) = causes.submitting fault
 HasCause causes (BadLine number) = causes.bad_line number

@@ -8,7 +8,7 @@ ghost use Rattle.store_shared.specs.Shared.{opened_by};
 ghost use Rattle.dbm_script.specs.Shorthand.{spelled};
 ghost use Rattle.dbm_script.specs.Tasks.{AreTasksOf, IsTasksFault};
 ghost use Rattle.dbm_script.specs.declared.shorthand.LineKind.TheVariants.{OfBatch};
-ghost use Rattle.dbm_batches.specs.Batches.{DoesTasks, IsClosedAfter, IsReady, IsSubmitted, LeadTo, OnBatch, OnTasks, batch_causes, doing_causes, ready_causes, reply_line, submit_causes, task_causes, task_for};
+ghost use Rattle.dbm_batches.specs.Batches.{DoesTasks, IsClosedAfter, IsBatchReady, IsSubmitted, TasksLeadTo, OnBatch, OnTasks, batch_causes, doing_causes, ready_causes, reply_line, submit_causes, task_causes, task_for};
 ghost use Rattle.dbm_messages.specs.declared.fault.ServeFault.TheVariants.{Close};
 ghost use Rattle.dbm_messages.specs.Faults.{pool_fault};
 ghost use Rattle.dbm_batches.specs.Causes.{HasCause};
@@ -105,7 +105,7 @@ fn ready_batch(
     workers: &str,
     is_image: bool,
 ) -> Result<Batch, ServeFault>
-    ensures ok { IfOk result (IsReady form given.now workers.entry is_image) }
+    ensures ok { IfOk result (IsBatchReady form given.now workers.entry is_image) }
     ensures fault { IfErr result (HasCause (ready_causes form given.now workers.entry is_image)) }
 {
     let Some(workers) = read_number(workers.as_bytes(), WORKERS_MOST) else {
@@ -204,7 +204,7 @@ fn do_tasks<T: Threads + Wait + Sync>(
     batch: Batch,
     tasks: &[Task<Global>],
 ) -> Result<Done, ServeFault>
-    ensures ok { IfOk result (λ done. LeadTo batch tasks.now done.replies.items done.database) }
+    ensures ok { IfOk result (λ done. TasksLeadTo batch tasks.now done.replies.items done.database) }
     ensures fault { IfErr result (HasCause (doing_causes batch tasks.now)) }
 {
     let Batch {

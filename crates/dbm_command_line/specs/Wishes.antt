@@ -7,7 +7,7 @@ use Rattle.clap.specs.Words.{IsAmong, Kinds, Row, Text, kind_of}
 use Rattle.clap.specs.declared.error.kind.ErrorKind.TheVariants.{DisplayHelp, DisplayVersion, OutOfMemory}
 use Rattle.clap.specs.declared.error.Error.{Error}
 use Rattle.dbm_command_line.specs.Tool.{tool}
-use Rattle.dbm_args.specs.Given.{IsAccess, has_words}
+use Rattle.dbm_args.specs.Given.{IsAccessOf, has_words}
 use Rattle.dbm_dump.specs.Backup.{BackupAsks}
 use Rattle.dbm_dump.specs.Dump.{DumpAsks, dump_head}
 use Rattle.dbm_dump.specs.Load.{LoadAsks, load_head}
@@ -146,7 +146,7 @@ IsAsked (Some matches) asked = SubcommandAsks matches.0 matches.1 asked
 -- the matches name a subcommand, and these are its options for access to a database
 abbrev pub IsAccessGiven : Option (Text × List Row) → Access → Type 0
 IsAccessGiven None access = ⊥
-IsAccessGiven (Some matches) access = IsAccess matches.1 access
+IsAccessGiven (Some matches) access = IsAccessOf matches.1 access
 
 -- the matches name no subcommand of the program, or a required word is missing
 abbrev pub lacks_word : Option (Text × List Row) → Bool

@@ -11,14 +11,14 @@ use Rattle.dbm_script.specs.declared.shorthand.TimeOfDay.{TimeOfDay}
 use Rattle.dbm_reports.specs.declared.report.Report.{Report}
 use Rattle.dbm_databases.specs.declared.script.Script.{Script}
 use Rattle.dbm_reports.specs.declared.databases.Given.{Given}
-use Rattle.dbm_databases.specs.Playing.{output_limit, IsOverlong, Plays, PlaysAlone, PlaysOn, PlaysAs, has_bad_line, spelled_input}
+use Rattle.dbm_databases.specs.Playing.{output_limit, IsOverlong, PlaysScript, PlaysAlone, PlaysOn, PlaysAs, has_bad_line, spelled_input}
 use Rattle.dbm_reports.specs.Reports.{OnDatabase}
 use Rattle.dbm_databases.specs.Script.{script_in}
 use Rattle.dbm_reports.proofs.Asked.{within}
 
 -- from the bytes that were read to the known bytes
 pub plays_known : (n : Notation Global) (before : Database) (known : Option (List ℕ)) (read : List ℕ) (most : ℕ) (after : Database) (report : Report)
-    → IfSome known (λ input. read ≡ input) → Plays n before (Some read) most after report → Plays n before known most after report
+    → IfSome known (λ input. read ≡ input) → PlaysScript n before (Some read) most after report → PlaysScript n before known most after report
 plays_known n before known read most after report is plays = record {
   runs = known_read known read (λ bytes. IsScriptRun Global n before bytes report.text.items after) is plays.runs;
   short = plays.short;
@@ -35,7 +35,7 @@ spelled_read time (Some input) read script is spells = spells ∙ ap (spelled Of
 
 -- another report with the same text and status
 pub plays_text : (n : Notation Global) (before : Database) (known : Option (List ℕ)) (most : ℕ) (after : Database) (report other : Report)
-    → other.text.items ≡ report.text.items → other.status ≡ report.status → Plays n before known most after report → Plays n before known most after other
+    → other.text.items ≡ report.text.items → other.status ≡ report.status → PlaysScript n before known most after report → PlaysScript n before known most after other
 plays_text n before known most after report other text status plays = record {
   runs = subst (λ (t : List ℕ). IfSome known (λ bytes. IsScriptRun Global n before bytes t after)) (sym text) plays.runs;
   short = subst (λ (t : List ℕ). length t ≤ most) (sym text) plays.short;

@@ -23,7 +23,7 @@ abbrev pub spelled_input : Option TimeOfDay → Option (List ℕ) → Option (Li
 spelled_input time input = option_map (spelled OfScript time) input
 
 -- the answers to a script, and the database after it; the answers have at most `most` bytes
-pub record Plays (notation : Notation Global) (before : Database) (input : Option (List ℕ)) (most : ℕ) (after : Database) (report : Report) : Type 0 where
+pub record PlaysScript (notation : Notation Global) (before : Database) (input : Option (List ℕ)) (most : ℕ) (after : Database) (report : Report) : Type 0 where
   pub runs : IfSome input (λ bytes. IsScriptRun Global notation before bytes report.text.items after)
   pub short : length report.text.items ≤ most
   pub kind : after.kind ≡ before.kind
@@ -46,9 +46,9 @@ pub record IsBarred (before after : Database) (report : Report) : Type 0 where
 
 -- a script that may be strict; a strict script with a bad line does not run
 abbrev pub PlaysAs : Bool → Notation Global → Database → Option (List ℕ) → ℕ → Database → Report → Type 0
-PlaysAs false notation before input most after report = Plays notation before input most after report
+PlaysAs false notation before input most after report = PlaysScript notation before input most after report
 PlaysAs true notation before input most after report =
-    (IfSome input (λ bytes. has_bad_line notation bytes ≡ false) × Plays notation before input most after report)
+    (IfSome input (λ bytes. has_bad_line notation bytes ≡ false) × PlaysScript notation before input most after report)
     ⊎ (IfSome input (λ bytes. has_bad_line notation bytes ≡ true) × IsBarred before after report)
 
 -- a script on an empty database, which is then dropped

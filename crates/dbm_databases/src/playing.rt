@@ -4,7 +4,7 @@ ghost use Rattle.sdbm_addr.specs.Database.{Database};
 ghost use Rattle.dbm_script.specs.Shorthand.{spelled};
 ghost use Rattle.dbm_reports.specs.Causes.{IsCaused};
 ghost use Rattle.dbm_reports.specs.Reports.{OnDatabase};
-ghost use Rattle.dbm_databases.specs.Playing.{Plays, PlaysAs, PlaysAlone, PlaysOn, alone_causes, output_limit, play_causes, script_causes, spelled_input};
+ghost use Rattle.dbm_databases.specs.Playing.{PlaysScript, PlaysAs, PlaysAlone, PlaysOn, alone_causes, output_limit, play_causes, script_causes, spelled_input};
 
 use crate::strict::{find_bad_lines, has_bad_line};
 use dbm_args::Form;
@@ -153,7 +153,7 @@ fn play(
     script: &[u8],
     most: u64,
 ) -> Result<Report, ReportFault>
-    ensures ok { IfOk result (λ report. (after : Database) × (Plays notation.now image (Some (spelled LineKind.OfScript time script.now)) most after report × (report.database ≡ Some after))) }
+    ensures ok { IfOk result (λ report. (after : Database) × (PlaysScript notation.now image (Some (spelled LineKind.OfScript time script.now)) most after report × (report.database ≡ Some after))) }
     ensures fault { IfErr result (IsCaused (play_causes notation.now image (Some (spelled LineKind.OfScript time script.now)) most)) }
 {
     let ScriptRun {

@@ -5,7 +5,7 @@ use Rattle.std.proofs.lemmas.List.{take-append-le, take_all}
 use Rattle.std.proofs.Math.Seq.{take-length}
 use Rattle.std.proofs.lemmas.Option.{same_Some}
 use Rattle.sdbm_addr.specs.Pairs.{Pair}
-use Rattle.dbm_script.specs.LineInput.{Gives, Unread, lines_left}
+use Rattle.dbm_script.specs.LineInput.{GivesNextLine, Unread, lines_left}
 use Rattle.dbm_script.proofs.LinesGiven.{is_over}
 use Rattle.dbm_dump.specs.declared.stage.Stage.{Stage}
 use Rattle.dbm_dump.specs.declared.stage.Stage.TheVariants.{First, Title, Keys, Pages, Count, Gap, Pairs, Between, Within, Over}
@@ -94,12 +94,12 @@ empty_after (d ∷ ds) h = refl
 -- ---- reading the next line
 
 -- the first line, or a line that is not the empty end
-pub gives_first : (number : ℕ) (left : Option (List (List ℕ))) (line : List ℕ) (left' : Option (List (List ℕ))) → number ≡ 1 → Gives left true line left' → GivesLine number left true line left'
+pub gives_first : (number : ℕ) (left : Option (List (List ℕ))) (line : List ℕ) (left' : Option (List (List ℕ))) → number ≡ 1 → GivesNextLine left true line left' → GivesLine number left true line left'
 gives_first number left line left' first gives = (gives, λ is. first)
 
 -- the empty end
-empty_first : (left : Option (List (List ℕ))) (line : List ℕ) (left' : Option (List (List ℕ))) → left ≡ Some ([] ∷ []) → Gives left true line left' → (line ≡ []) × (left' ≡ Some [])
-empty_first left line left' is gives = subst (λ (l : Option (List (List ℕ))). Gives l true line left') is gives
+empty_first : (left : Option (List (List ℕ))) (line : List ℕ) (left' : Option (List (List ℕ))) → left ≡ Some ([] ∷ []) → GivesNextLine left true line left' → (line ≡ []) × (left' ≡ Some [])
+empty_first left line left' is gives = subst (λ (l : Option (List (List ℕ))). GivesNextLine l true line left') is gives
 
 abbrev pub IsEnd : Unread → List ℕ → Bool
 IsEnd unread line = cond unread.ended (eqb (length line) 0) false
@@ -109,7 +109,7 @@ is_end_of ended line now none =
     ap (λ (b : Bool). cond b (eqb (length line) 0) false) now ∙ ap (λ (l : List ℕ). eqb (length l) 0) none
 
 -- a line that is not the empty end
-pub gives_more : (number : ℕ) (left : Option (List (List ℕ))) (line : List ℕ) (u : Unread) (known : Option (List ℕ)) → Gives left true line (lines_left u known) → IsEnd u line ≡ false
+pub gives_more : (number : ℕ) (left : Option (List (List ℕ))) (line : List ℕ) (u : Unread) (known : Option (List ℕ)) → GivesNextLine left true line (lines_left u known) → IsEnd u line ≡ false
     → GivesLine number left true line (lines_left u known)
 gives_more number left line u known gives more = (gives, λ is. absurd (no is))
   where
@@ -119,7 +119,7 @@ gives_more number left line u known gives more = (gives, λ is. absurd (no is))
         false≢true (sym more ∙ is_end_of u.ended line (is_over u.ended u.rest known first.1) first.0)
 
 -- the last piece is the empty end
-last_piece : (left : Option (List (List ℕ))) (line : List ℕ) (left' : Option (List (List ℕ))) → line ≡ [] → (left' ≡ Some []) → Gives left true line left' → IsEmptyEnd left
+last_piece : (left : Option (List (List ℕ))) (line : List ℕ) (left' : Option (List (List ℕ))) → line ≡ [] → (left' ≡ Some []) → GivesNextLine left true line left' → IsEmptyEnd left
 last_piece None line left' none last gives = tt
 last_piece (Some []) line left' none last gives = absurd gives
 last_piece (Some (l ∷ ls)) line left' none last gives =
@@ -138,14 +138,14 @@ both_true : (ended : Bool) (line : List ℕ) → cond ended (eqb (length line) 0
 both_true true line h = (refl, no_bytes line h)
 both_true false line h = absurd (false≢true h)
 
-pub gives_end : (number : ℕ) (left : Option (List (List ℕ))) (line : List ℕ) (u : Unread) (known : Option (List ℕ)) → 1 < number → Gives left true line (lines_left u known) → IsEnd u line ≡ true
+pub gives_end : (number : ℕ) (left : Option (List (List ℕ))) (line : List ℕ) (u : Unread) (known : Option (List ℕ)) → 1 < number → GivesNextLine left true line (lines_left u known) → IsEnd u line ≡ true
     → GivesLine number left false line (lines_left u known)
 gives_end number left line u known more gives end =
     let is = both_true u.ended line end in
     inr (more, last_piece left line (lines_left u known) is.1 (none_left u.ended u.rest known is.0) gives)
 
 -- a piece after the first, by cases on whether it is the empty end
-pub gives_rest : (number : ℕ) (left : Option (List (List ℕ))) (line : List ℕ) (u : Unread) (known : Option (List ℕ)) (b : Bool) → 1 < number → Gives left true line (lines_left u known) → IsEnd u line ≡ b
+pub gives_rest : (number : ℕ) (left : Option (List (List ℕ))) (line : List ℕ) (u : Unread) (known : Option (List ℕ)) (b : Bool) → 1 < number → GivesNextLine left true line (lines_left u known) → IsEnd u line ≡ b
     → GivesLine number left (not b) line (lines_left u known)
 gives_rest number left line u known true more gives is = gives_end number left line u known more gives is
 gives_rest number left line u known false more gives is = gives_more number left line u known gives is

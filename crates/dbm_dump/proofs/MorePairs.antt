@@ -22,7 +22,7 @@ use Rattle.dbm_dump.specs.declared.loading.Loading.{Loading}
 use Rattle.dbm_dump.specs.declared.stage.Next.{Next}
 use Rattle.dbm_dump.specs.Steps.{step}
 use Rattle.dbm_dump.specs.Reading.{pair_list}
-use Rattle.dbm_dump.specs.Loading.{IsLargePair, IsStepFault, IsStoreFault, StoresAll, StoresOne, answered, is_done}
+use Rattle.dbm_dump.specs.Loading.{IsLargePair, IsLoadStepFault, IsStoreFault, StoresAll, StoresOne, answered, is_done}
 
 pub StoresAll-append : (mode : Mode) (db mid db' : Database) (pairs more : List Pair) → StoresAll mode db pairs mid → StoresAll mode mid more db' → StoresAll mode db (pairs ++ more) db'
 StoresAll-append mode db mid db' [] more p q = subst (λ (d : Database). StoresAll mode d more db') p q
@@ -81,7 +81,7 @@ some_and o e P is holds = subst (λ (x : Option Pair). IsSomeAnd x P) (sym is) h
 
 -- the fault of a line whose pair is not stored
 pub step_store_fault : (mode : Mode) (loading : Loading) (line : List ℕ) (number : ℕ) (next : Next) (e : Pair) (f : DumpFault) → step loading.stage line ≡ Some next → next.pair ≡ Some e
-    → IsStoreFault mode loading.image e number f → IsStepFault mode loading line number f
+    → IsStoreFault mode loading.image e number f → IsLoadStepFault mode loading line number f
 step_store_fault mode loading line number next e fault.BadFormat steps pair h = absurd h
 step_store_fault mode loading line number next e fault.Read steps pair h = absurd h
 step_store_fault mode loading line number next e (fault.BadDump n) steps pair h = absurd h

@@ -5,7 +5,7 @@ use Rattle.sdbm_addr.specs.Database.{Database}
 use Rattle.sdbm_addr.specs.declared.Mode.{Mode}
 use Rattle.sdbm_addr.specs.declared.Mode.TheVariants.{Insert, Replace}
 use Rattle.dbm_args.specs.CommandLine.{flag, required_word, valued_option, subcommand, writing_options}
-use Rattle.dbm_args.specs.Given.{IsForm, IsGiven, IsWord, is_given}
+use Rattle.dbm_args.specs.Given.{IsForm, IsOptionGiven, IsWord, is_given}
 use Rattle.dbm_args.specs.declared.options.Form.{Form}
 use Rattle.dbm_dump.specs.Formats.{start_of}
 use Rattle.dbm_dump.specs.Loading.{IsLoadFault, IsLoaded}
@@ -27,7 +27,7 @@ load = subcommand (codes "load") (required_word (codes "BASE") ∷ valued_option
 
 abbrev pub LoadAsks : List Row → Load → Type 0
 LoadAsks rows load =
-    IsWord (codes "BASE") rows load.base × (IsForm rows load.form × (IsGiven (codes "format") rows load.format × (load.keep ≡ is_given (codes "keep") rows)))
+    IsWord (codes "BASE") rows load.base × (IsForm rows load.form × (IsOptionGiven (codes "format") rows load.format × (load.keep ≡ is_given (codes "keep") rows)))
 
 -- existing pairs stay, or are replaced
 abbrev pub mode_of : Bool → Mode

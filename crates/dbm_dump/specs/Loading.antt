@@ -10,7 +10,7 @@ use Rattle.store_cmd.specs.declared.Entry.{Entry}
 use Rattle.store_cmd.specs.declared.Reply.{Reply}
 use Rattle.store_cmd.specs.declared.Reply.TheVariants as reply
 use Rattle.store_moves.specs.Acts.{Acts}
-use Rattle.dbm_script.specs.LineInput.{Gives, IsLongNext}
+use Rattle.dbm_script.specs.LineInput.{GivesNextLine, IsLongNext}
 use Rattle.dbm_dump.specs.Steps.{is_end, step}
 use Rattle.dbm_dump.specs.Reading.{Read, lines_of, pair_list, pairs_of, read}
 use Rattle.dbm_dump.specs.declared.fault.DumpFault.{DumpFault}
@@ -111,8 +111,8 @@ pub record FindsNoRoom (mode : Mode) (db : Database) (key : KeyHead) (next : Nex
   pub refused : Acts db (answered mode reply.Crowded pair) after
 
 -- the pair of a line does not fit in the database
-abbrev pub IsCrowded : Mode → KeyHead → Stage → Database → List ℕ → Type 0
-IsCrowded mode key stage mid line = (next : Next) × ((step stage line ≡ Some next) × FindsNoRoom mode mid key next)
+abbrev pub IsLineCrowded : Mode → KeyHead → Stage → Database → List ℕ → Type 0
+IsLineCrowded mode key stage mid line = (next : Next) × ((step stage line ≡ Some next) × FindsNoRoom mode mid key next)
 
 -- The dump is truncated. The pairs of all its lines were stored.
 pub record IsCutOff (start : Stage) (mode : Mode) (db : Database) (input : List ℕ) : Type 0 where
@@ -127,7 +127,7 @@ IsLoadFault start mode db input fault.BadFormat = ⊥
 IsLoadFault start mode db input fault.Read = ⊤
 IsLoadFault start mode db input (fault.BadDump number) = AtLine start mode db input number IsBad
 IsLoadFault start mode db input (fault.TooLarge number key) = AtLine start mode db input number (IsOversized db.size key)
-IsLoadFault start mode db input (fault.Crowded number key) = AtLine start mode db input number (IsCrowded mode key)
+IsLoadFault start mode db input (fault.Crowded number key) = AtLine start mode db input number (IsLineCrowded mode key)
 IsLoadFault start mode db input fault.CutOff = IsCutOff start mode db input
 IsLoadFault start mode db input fault.NoMemory = ⊤
 
@@ -140,8 +140,8 @@ IsEmptyEnd (Some pieces) = pieces ≡ [] ∷ []
 
 -- returns the next piece as a line, except for an empty last piece after the first line
 abbrev pub GivesLine : ℕ → Option (List (List ℕ)) → Bool → List ℕ → Option (List (List ℕ)) → Type 0
-GivesLine number left true line left' = Gives left true line left' × (left ≡ Some ([] ∷ []) → number ≡ 1)
-GivesLine number left false line left' = Gives left false line left' ⊎ ((1 < number) × IsEmptyEnd left)
+GivesLine number left true line left' = GivesNextLine left true line left' × (left ≡ Some ([] ∷ []) → number ≡ 1)
+GivesLine number left false line left' = GivesNextLine left false line left' ⊎ ((1 < number) × IsEmptyEnd left)
 
 -- the line is too long, or reading failed for another reason
 abbrev pub IsLineFault : ℕ → Option (List (List ℕ)) → DumpFault → Type 0
@@ -174,12 +174,12 @@ IsStoreFault mode db e number fault.CutOff = ⊥
 IsStoreFault mode db e number fault.NoMemory = ⊤
 
 -- a line is invalid at this stage, or its pair is too large or does not fit
-abbrev pub IsStepFault : Mode → Loading → List ℕ → ℕ → DumpFault → Type 0
-IsStepFault mode loading line number fault.BadFormat = ⊥
-IsStepFault mode loading line number fault.Read = ⊥
-IsStepFault mode loading line number (fault.BadDump n) = (n ≡ number) × (step loading.stage line ≡ None)
-IsStepFault mode loading line number (fault.TooLarge n key) =
+abbrev pub IsLoadStepFault : Mode → Loading → List ℕ → ℕ → DumpFault → Type 0
+IsLoadStepFault mode loading line number fault.BadFormat = ⊥
+IsLoadStepFault mode loading line number fault.Read = ⊥
+IsLoadStepFault mode loading line number (fault.BadDump n) = (n ≡ number) × (step loading.stage line ≡ None)
+IsLoadStepFault mode loading line number (fault.TooLarge n key) =
     (n ≡ number) × ((next : Next) × ((step loading.stage line ≡ Some next) × IsLarge loading.image.size key next))
-IsStepFault mode loading line number (fault.Crowded n key) = (n ≡ number) × IsCrowded mode key loading.stage loading.image line
-IsStepFault mode loading line number fault.CutOff = ⊥
-IsStepFault mode loading line number fault.NoMemory = ⊤
+IsLoadStepFault mode loading line number (fault.Crowded n key) = (n ≡ number) × IsLineCrowded mode key loading.stage loading.image line
+IsLoadStepFault mode loading line number fault.CutOff = ⊥
+IsLoadStepFault mode loading line number fault.NoMemory = ⊤

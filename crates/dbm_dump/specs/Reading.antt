@@ -69,12 +69,12 @@ pairs_of start text = whole (read start (lines_of text))
 -- ---- written dumps
 
 -- key and value consist of bytes
-abbrev pub AreBytes : Pair → Type 0
-AreBytes e = IsBytes e.0 × IsBytes e.1
+abbrev pub AreBytePair : Pair → Type 0
+AreBytePair e = IsBytes e.0 × IsBytes e.1
 
 -- and their lengths fit in 64 bits
 abbrev pub IsGood : Pair → Type 0
-IsGood e = ((length e.0 < 2 ^ 64) × (length e.1 < 2 ^ 64)) × AreBytes e
+IsGood e = ((length e.0 < 2 ^ 64) × (length e.1 < 2 ^ 64)) × AreBytePair e
 
 -- reading the dump returns these pairs; commands for Redis cannot be read
 abbrev pub ReadsBack : Format → List ℕ → List Pair → Type 0

@@ -2,7 +2,7 @@
 ghost use Rattle.std.specs.Prelude.{◌≡◌, ◌<◌, ◌^◌, ◌++◌, IfOk, OnOk, Some, decimal, length};
 ghost use Rattle.std.specs.List.{flat_map};
 ghost use Rattle.hex.specs.Hex.{IsBytes};
-ghost use Rattle.dbm_dump.specs.Reading.{AreBytes, IsGood, ReadsBack, pairs_of};
+ghost use Rattle.dbm_dump.specs.Reading.{AreBytePair, IsGood, ReadsBack, pairs_of};
 ghost use Rattle.dbm_dump.specs.Texts.{dump_text, pair_line};
 ghost use Rattle.dbm_dump.specs.Texts as spec;
 
@@ -106,7 +106,7 @@ fn show_number(number: usize, text: &mut Vec<u8>) -> Result<(), AllocError>
 // Appends the line of a pair to `text`.
 fn show_pair(key: &[u8], value: &[u8], text: &mut Vec<u8>) -> Result<(), AllocError>
     ensures text { OnOk result (text.new.items ≡ text.old.items ++ pair_line (key.now, value.now)) }
-    ensures bytes { AreBytes (key.now, value.now) }
+    ensures bytes { AreBytePair (key.now, value.now) }
 {
     show_bytes(&Notation::Hex, key, text)?;
     text.push(b' ')?;

@@ -15,7 +15,7 @@ use Rattle.dbm_reports.specs.declared.databases.Given.{Given}
 use Rattle.dbm_records.specs.Commands.{command_causes, OnCommand, store_words}
 use Rattle.dbm_reports.specs.Known.{Known}
 use Rattle.dbm_reports.specs.Words.{word_asked}
-use Rattle.dbm_reports.specs.Reports.{Changes}
+use Rattle.dbm_reports.specs.Reports.{ChangesFiles}
 use Rattle.dbm_args.specs.CommandLine.{required_word, flag, subcommand, with_alias, writing_in}
 use Rattle.dbm_args.specs.Heads.{head_on}
 use Rattle.dbm_args.specs.declared.options.Head.{Head}
@@ -54,11 +54,11 @@ input_store_causes n store given input = record (command_causes n store.form giv
 -- the possible reports of a store, and its faults; the flag says whether its value is standard input
 abbrev pub store_by : Bool → Notation Global → Store → Given → Option (List ℕ) → Known
 store_by false n store given input = record {
-  reports = λ report. OnCommand n store.form given (words_by n store (word_asked store.raw_value n store.value.now)) (λ db command. Changes n db command None report);
+  reports = λ report. OnCommand n store.form given (words_by n store (word_asked store.raw_value n store.value.now)) (λ db command. ChangesFiles n db command None report);
   causes = command_causes n store.form given (words_by n store (word_asked store.raw_value n store.value.now));
 }
 store_by true n store given input = record {
-  reports = λ report. OnCommand n store.form given (words_by n store (codes ".")) (λ db command. IfSome input (λ value. Changes n db (with_value value command) None report));
+  reports = λ report. OnCommand n store.form given (words_by n store (codes ".")) (λ db command. IfSome input (λ value. ChangesFiles n db (with_value value command) None report));
   causes = input_store_causes n store given input;
 }
 

@@ -1,7 +1,7 @@
 //! A request that may need only the page of its key.
 ghost use Rattle.std.specs.Prelude.{◌≡◌, ℕ, List, IfOk, IfSome, true};
 ghost use Rattle.store_moves.specs.Works.{HasKey};
-ghost use Rattle.dbm_records.specs.PageRequests.{Answers, IsMeant, key_in, FetchComes, StoreComes, DeleteComes, RunComes};
+ghost use Rattle.dbm_records.specs.PageRequests.{AnswersRequest, IsMeant, key_in, FetchComes, StoreComes, DeleteComes, RunComes};
 
 use crate::{
     Delete, Fetch, Run, Store, command_in, look_as, run_image, run_words, store_name, takes_input,
@@ -55,7 +55,7 @@ impl PageRequest {
         notation: &Notation<Global>,
         image: Image<Global>,
     ) -> Result<Report, AllocError>
-        ensures { IfOk result (Answers notation.now self image) }
+        ensures { IfOk result (AnswersRequest notation.now self image) }
     {
         match self {
             PageRequest::Fetch { command, raw } => look_as(alloc, notation, image, command, raw),

@@ -6,8 +6,8 @@ ghost use Rattle.sdbm_addr.specs.Database.{Database};
 ghost use Rattle.dbm_script.specs.Pieces.{pieces_of};
 ghost use Rattle.dbm_script.specs.Lines.{ask_of};
 ghost use Rattle.dbm_script.specs.Shorthand.{spelled};
-ghost use Rattle.dbm_script.specs.Images.{Verdict};
-ghost use Rattle.dbm_script.specs.Script.{AnswersExceed, IsScriptRun, RunsLines, AnswersLine, Adds, stage};
+ghost use Rattle.dbm_script.specs.Images.{ImageVerdict};
+ghost use Rattle.dbm_script.specs.Script.{AnswersExceed, IsScriptRun, RunsLines, AnswersLine, AddsBytes, stage};
 
 use crate::answering::answer_one;
 use crate::bad_lines::{BadLines, LineCount};
@@ -159,7 +159,7 @@ pub fn answer_line<A: Allocator + Copy>(
     line: &[u8],
     text: &mut Vec<u8, A>,
 ) -> Result<bool, AllocError>
-    ensures answer { OnOk result (Adds text.old.items text.new.items (λ added. (told : List (Option Verdict)) ×
+    ensures answer { OnOk result (AddsBytes text.old.items text.new.items (λ added. (told : List (Option ImageVerdict)) ×
         RunsLines A notation.now (stage image.old registry.old.programs) (line.now ∷ []) told added (stage image.new registry.new.programs))) }
     ensures kept { OnOk result ((image.new.kind ≡ image.old.kind) × (image.new.size ≡ image.old.size)) }
 {
@@ -180,7 +180,7 @@ fn answer_words<A: Allocator + Copy>(
     line: &[u8],
     text: &mut Vec<u8, A>,
 ) -> Result<bool, AllocError>
-    ensures answer { OnOk result (Adds text.old.items text.new.items (λ added. (told : Option Verdict) ×
+    ensures answer { OnOk result (AddsBytes text.old.items text.new.items (λ added. (told : Option ImageVerdict) ×
         AnswersLine A notation.now (stage image.old registry.old.programs) (ask_of notation.now (pieces_of 32 line.now)) told added (stage image.new registry.new.programs))) }
     ensures kept { OnOk result ((image.new.kind ≡ image.old.kind) × (image.new.size ≡ image.old.size)) }
 {
@@ -208,7 +208,7 @@ fn answer_ask<A: Allocator + Copy>(
     ask: Ask<A>,
     text: &mut Vec<u8, A>,
 ) -> Result<(), AllocError>
-    ensures answer { OnOk result (Adds text.old.items text.new.items (λ added. (told : Option Verdict) ×
+    ensures answer { OnOk result (AddsBytes text.old.items text.new.items (λ added. (told : Option ImageVerdict) ×
         AnswersLine A notation.now (stage image.old registry.old.programs) (Some ask) told added (stage image.new registry.new.programs))) }
     ensures kept { OnOk result ((image.new.kind ≡ image.old.kind) × (image.new.size ≡ image.old.size)) }
 {

@@ -2,7 +2,7 @@
 ghost use Rattle.std.specs.Prelude.{◌≡◌, ◌<◌, ◌≤◌, ◌+◌, IfOk, IfErr, OnErr, Some, length, vec_len, vec_capacity};
 ghost use Rattle.std.specs.List.{slice_get};
 ghost use Rattle.std.specs.Vec.Iter.{into_iter_items};
-ghost use Rattle.worker_pool.specs.Tasks.{run_of, code_of, IsKnown, AreKnown, IsTaskRefusal, IsRefusalFor};
+ghost use Rattle.worker_pool.specs.Tasks.{run_of, code_of, IsKnown, AreTasksKnown, IsTaskRefusal, IsRefusalFor};
 ghost use Rattle.worker_pool.specs.Groups.{AreRunsFrom, IsAhead, IsNext, place_behind};
 
 use crate::task::Task;
@@ -28,7 +28,7 @@ pub(crate) fn call_group<R: Wait, A: Allocator + Copy, G: Gate>(
     session: &mut Session<'_, A, G>,
     replies: &mut Vec<Reply<A>, A>,
 ) -> Result<IntoIter<Result<Reply<A>, Refusal>, A>, Refusal>
-    requires known { AreKnown registry.now.programs tasks.now }
+    requires known { AreTasksKnown registry.now.programs tasks.now }
     requires within { at < length tasks.now }
     requires some { 0 < workers }
     ensures ahead { IfOk result (λ outcomes. IsAhead registry.now.programs tasks.entry.now workers at session.old (into_iter_items outcomes) session.new) }
@@ -60,7 +60,7 @@ fn ready_group<A: Allocator + Copy, G: Gate>(
     workers: usize,
     session: &Session<'_, A, G>,
 ) -> Result<Vec<SharedCommand<A>, A>, Refusal>
-    requires known { AreKnown registry.now.programs tasks.now }
+    requires known { AreTasksKnown registry.now.programs tasks.now }
     requires within { at < length tasks.now }
     requires some { 0 < workers }
     ensures runs { IfOk result (λ calls. AreRunsFrom registry.now.programs tasks.entry.now workers at calls.items) }
@@ -89,7 +89,7 @@ fn ready_more<A: Allocator + Copy, G: Gate>(
     session: &Session<'_, A, G>,
     calls: Vec<SharedCommand<A>, A>,
 ) -> Vec<SharedCommand<A>, A>
-    requires known { AreKnown registry.now.programs tasks.now }
+    requires known { AreTasksKnown registry.now.programs tasks.now }
     requires within { at < length tasks.now }
     requires some { 0 < workers }
     requires runs { AreRunsFrom registry.now.programs tasks.now workers at calls.items }

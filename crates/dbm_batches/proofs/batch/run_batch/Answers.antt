@@ -2,7 +2,7 @@ use Rattle.std.proofs.Common.{◌∙◌, List, refl, subst, ap, Some}
 use Rattle.std.specs.List.{flat_map}
 use Rattle.std.specs.declared.alloc.Global.{Global}
 use Rattle.worker_pool.specs.declared.task.Task.{Task}
-use Rattle.dbm_batches.specs.Batches.{LeadTo, reply_line, task_causes}
+use Rattle.dbm_batches.specs.Batches.{TasksLeadTo, reply_line, task_causes}
 use Rattle.dbm_batches.specs.Causes.{HasCause}
 use Rattle.dbm_batches.proofs.BatchFaults.{doing_fault}
 use Rattle.dbm_reports.proofs.Faults.{as_err}
@@ -21,7 +21,7 @@ returns-clause-ok g c = (
     record {
       replies = c.in_ok-done.done.replies.items;
       after = c.in_ok-done.done.database;
-      leads = subst (λ (tasks : List (Task Global)). LeadTo c.args.batch tasks c.in_ok-done.done.replies.items c.in_ok-done.done.database) (c.as_slice.ensures.value ∙ c.in_ok-tasks.ensures) c.in_ok-done.ensures.ok;
+      leads = subst (λ (tasks : List (Task Global)). TasksLeadTo c.args.batch tasks c.in_ok-done.done.replies.items c.in_ok-done.done.database) (c.as_slice.ensures.value ∙ c.in_ok-tasks.ensures) c.in_ok-done.ensures.ok;
       text_is = c.in_ok-show_replies.ensures ∙ ap (flat_map (reply_line c.args.notation.now)) c.as_slice-2.ensures.value;
       status_is = refl;
       written = refl;

@@ -1,6 +1,6 @@
 use Rattle.std.proofs.Common.{◌≡◌, ◌++◌, take, length}
 use Rattle.std.specs.List.{All, flat_map}
-use Rattle.dbm_dump.specs.Reading.{AreBytes}
+use Rattle.dbm_dump.specs.Reading.{AreBytePair}
 use Rattle.dbm_dump.specs.Texts.{plain_header, pair_line}
 use Rattle.dbm_dump.proofs.writing.plain_dump.Given as goal
 
@@ -8,5 +8,5 @@ use Rattle.dbm_dump.proofs.writing.plain_dump.Given as goal
 abbrev pub invariant-loop-pair : goal.invariant-loop-pair
 invariant-loop-pair l = record {
   written : l.text.items ≡ plain_header l.fn.kind l.fn.size (length l.pairs) ++ flat_map pair_line (take l.pair-index l.pairs);
-  good : All AreBytes (take l.pair-index l.pairs);
+  good : All AreBytePair (take l.pair-index l.pairs);
 }

@@ -1,6 +1,6 @@
 use Rattle.std.proofs.Common.{◌≡◌, ◌≤◌, ◌++◌, List, [], ℕ, length, map, Option}
 use Rattle.dbm_script.specs.Pieces.{pieces_of, pieces_left}
-use Rattle.dbm_script.specs.Images.{Verdict}
+use Rattle.dbm_script.specs.Images.{ImageVerdict}
 use Rattle.dbm_script.specs.Script.{RunsLines, stage}
 use Rattle.dbm_script.specs.Shorthand.{spelled, spelled_line}
 use Rattle.dbm_script.specs.declared.shorthand.LineKind.TheVariants.{OfScript}
@@ -11,7 +11,7 @@ abbrev pub invariant-loop-rest : goal.invariant-loop-rest
 invariant-loop-rest g l = record {
   done : List (List ℕ);
   lines : done ++ map (spelled_line OfScript l.time) (pieces_left 10 l.rest) ≡ pieces_of 10 (spelled OfScript l.time l.input);
-  told : List (Option Verdict);
+  told : List (Option ImageVerdict);
   ran : RunsLines g.row.A.Denot l.notation (stage l.fn.image []) done told l.text.items (stage l.image l.registry.programs);
   short : length l.text.items ≤ l.most;
   kind : l.image.kind ≡ l.fn.image.kind;

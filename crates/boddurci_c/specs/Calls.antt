@@ -125,14 +125,14 @@ mode_for replace = cond (replace == 0) Insert Replace
 -- ---- buffers
 
 -- bytes or numbers are written to the front of a buffer; the rest is unchanged
-pub record IsFilled {X : Type 0} (bytes old new : List X) : Type 0 where
+pub record IsRoomFilled {X : Type 0} (bytes old new : List X) : Type 0 where
   pub fits : length bytes ≤ length old
   pub filled : take (length bytes) new ≡ bytes
   pub rest : drop (length bytes) new ≡ drop (length bytes) old
 
 -- They are written, or the buffer is too short and unchanged. Their number is set either way.
 abbrev pub IsCopied : {X : Type 0} → List X → List X → List X → ℕ → Status → Type 0
-IsCopied bytes old new len Done = (len ≡ length bytes) × IsFilled bytes old new
+IsCopied bytes old new len Done = (len ≡ length bytes) × IsRoomFilled bytes old new
 IsCopied bytes old new len Missing = ⊥
 IsCopied bytes old new len Exists = ⊥
 IsCopied bytes old new len Crowded = ⊥
@@ -296,7 +296,7 @@ pub record RunsProgram (number : ℕ) (key arg : List ℕ) (blank : Option ℕ) 
 -- The bytes of both files are written to their buffers, or one buffer is too short and both are unchanged. Both lengths are set
 -- either way.
 abbrev pub AreCopied : List ℕ → List ℕ → List ℕ → List ℕ → List ℕ → List ℕ → Status → Type 0
-AreCopied dir pag dir_old dir_new pag_old pag_new Done = IsFilled dir dir_old dir_new × IsFilled pag pag_old pag_new
+AreCopied dir pag dir_old dir_new pag_old pag_new Done = IsRoomFilled dir dir_old dir_new × IsRoomFilled pag pag_old pag_new
 AreCopied dir pag dir_old dir_new pag_old pag_new Missing = ⊥
 AreCopied dir pag dir_old dir_new pag_old pag_new Exists = ⊥
 AreCopied dir pag dir_old dir_new pag_old pag_new Crowded = ⊥

@@ -32,7 +32,7 @@ use Rattle.dbm_reports.specs.declared.report.Report.{Report}
 use Rattle.dbm_reports.specs.Causes.{IsLongScript, no_causes}
 use Rattle.dbm_records.specs.Running.{program_causes}
 use Rattle.dbm_batches.specs.Causes.{WishCauses, no_wish_causes, only_report}
-use Rattle.dbm_reports.specs.Databases.{IsOpened, IsShut, Opens}
+use Rattle.dbm_reports.specs.Databases.{IsOpened, IsShut, CanBeOpened}
 use Rattle.dbm_reports.specs.Reports.{IsFileImage}
 
 -- ---- before standard input is read
@@ -130,7 +130,7 @@ ready_causes form given workers is_image = record (only_report (record no_causes
   no_text = IsSome (workers_of workers.now) × (program_causes form given is_image).no_text;
   assembling = λ fault. IsSome (workers_of workers.now) × (program_causes form given is_image).assembling fault;
 })) {
-  submitting = λ fault. IsSome (workers_of workers.now) × (Opens form given × ((image : List ℕ) × (IsFileImage is_image given.file.items image × (submit_causes image).submitting fault)));
+  submitting = λ fault. IsSome (workers_of workers.now) × (CanBeOpened form given × ((image : List ℕ) × (IsFileImage is_image given.file.items image × (submit_causes image).submitting fault)));
 }
 
 -- Not all tasks are done, for another reason than a failed allocation, which is a separate fault.

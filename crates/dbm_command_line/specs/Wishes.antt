@@ -139,9 +139,9 @@ SubcommandAsks name rows (ask.Backup backup) = (name ≡ codes "backup") × Back
 SubcommandAsks name rows (ask.Programs programs) = (name ≡ codes "programs") × ProgramsAsks rows programs
 
 -- the matches name a subcommand, and this is its request
-abbrev pub IsAsked : Option (Text × List Row) → Ask → Type 0
-IsAsked None asked = ⊥
-IsAsked (Some matches) asked = SubcommandAsks matches.0 matches.1 asked
+abbrev pub IsRequestAsked : Option (Text × List Row) → Ask → Type 0
+IsRequestAsked None asked = ⊥
+IsRequestAsked (Some matches) asked = SubcommandAsks matches.0 matches.1 asked
 
 -- the matches name a subcommand, and these are its options for access to a database
 abbrev pub IsAccessGiven : Option (Text × List Row) → Access → Type 0

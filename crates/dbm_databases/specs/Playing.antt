@@ -14,7 +14,7 @@ use Rattle.dbm_script.specs.declared.shorthand.TimeOfDay.{TimeOfDay}
 use Rattle.dbm_args.specs.declared.options.Form.{Form}
 use Rattle.dbm_reports.specs.declared.report.Report.{Report}
 use Rattle.dbm_reports.specs.declared.databases.Given.{Given}
-use Rattle.dbm_reports.specs.Databases.{IsOpened, key_bytes_of, page_size_of, IsShut, Opens}
+use Rattle.dbm_reports.specs.Databases.{IsOpened, key_bytes_of, page_size_of, IsShut, CanBeOpened}
 use Rattle.dbm_script.specs.Numbers.{number_of}
 use Rattle.dbm_reports.specs.Causes.{Causes, no_causes, IsLongScript, input_causes}
 
@@ -83,8 +83,8 @@ alone_causes notation form time input most = record (input_causes input) {
 abbrev pub script_causes : Notation Global → Form → Given → Option TimeOfDay → Option (List ℕ) → ℕ → Causes
 script_causes notation form given time input most = record no_causes {
   opening = IsShut form given;
-  reading = Opens form given;
-  long = Opens form given × IsLongScript input;
+  reading = CanBeOpened form given;
+  long = CanBeOpened form given × IsLongScript input;
   overlong = (db : Database) × (IsOpened form given db × IsOverlong notation db (spelled_input time input) most);
 }
 

@@ -13,7 +13,7 @@ use Rattle.dbm_dump.specs.declared.fault.DumpFault.{DumpFault}
 use Rattle.dbm_dump.specs.declared.fault.DumpFault.TheVariants as dump
 use Rattle.dbm_dump.specs.declared.stage.Stage.{Stage}
 use Rattle.dbm_reports.specs.Causes.{no_causes}
-use Rattle.dbm_reports.specs.Databases.{IsOpened, IsShut, Opens}
+use Rattle.dbm_reports.specs.Databases.{IsOpened, IsShut, CanBeOpened}
 use Rattle.dbm_reports.specs.Reports.{OnDatabase}
 use Rattle.dbm_reports.specs.declared.databases.Given.{Given}
 use Rattle.dbm_reports.specs.declared.report.Report.{Report}
@@ -58,7 +58,7 @@ IsUnloaded start mode db bytes reason = IsLoadFault start mode db bytes reason
 abbrev pub load_causes : Option Stage → Mode → Form → Given → Option (List ℕ) → DumpCauses
 load_causes None mode form given input = bad_format
 load_causes (Some start) mode form given input = record {
-  report = record no_causes { opening = IsShut form given; reading = Opens form given };
+  report = record no_causes { opening = IsShut form given; reading = CanBeOpened form given };
   dump = λ reason. (db : Database) × (IsOpened form given db × IfSome input (λ bytes. IsUnloaded start mode db bytes reason));
 }
 

@@ -18,7 +18,7 @@ use Rattle.dbm_args.specs.declared.options.Form.{Form}
 use Rattle.dbm_reports.specs.declared.databases.Given.{Given}
 use Rattle.dbm_reports.specs.declared.fault.ReportFault.{ReportFault}
 use Rattle.dbm_reports.specs.declared.fault.ReportFault.TheVariants.{BadHex, BadText, BadLayout, BadNumber, Open, NotText, Assemble, Decode, Read, TooLong, OutputTooLong, NoMemory}
-use Rattle.dbm_reports.specs.Databases.{IsOpened, Opens}
+use Rattle.dbm_reports.specs.Databases.{IsOpened, CanBeOpened}
 use Rattle.dbm_reports.specs.Causes.{Causes, IsCaused, no_causes, file_causes}
 use Rattle.dbm_records.specs.Running.{program_causes, RunsImage}
 use Rattle.dbm_script.specs.declared.notations.Notation.{Notation}
@@ -41,7 +41,7 @@ no_fault causes OutputTooLong h = absurd h
 no_fault causes NoMemory h = h
 
 -- the program's file, after the opening
-pub opened_fault : (form : Form) (given : Given) (is_image : Bool) (fault : ReportFault) → Opens form given → IsCaused (file_causes is_image given.file.items) fault → IsCaused (program_causes form given is_image) fault
+pub opened_fault : (form : Form) (given : Given) (is_image : Bool) (fault : ReportFault) → CanBeOpened form given → IsCaused (file_causes is_image given.file.items) fault → IsCaused (program_causes form given is_image) fault
 opened_fault form given true fault opens h = no_fault (program_causes form given true) fault h
 opened_fault form given false BadHex opens h = h
 opened_fault form given false BadText opens h = h

@@ -13,7 +13,7 @@ use Rattle.dbm_args.specs.declared.options.Form.{Form}
 use Rattle.dbm_reports.specs.declared.report.Report.{Report}
 use Rattle.dbm_reports.specs.declared.databases.Given.{Given}
 use Rattle.dbm_script.specs.declared.run_words.RunWords.{RunWords}
-use Rattle.dbm_reports.specs.Databases.{IsOpened, IsShut, Opens}
+use Rattle.dbm_reports.specs.Databases.{IsOpened, IsShut, CanBeOpened}
 use Rattle.dbm_script.specs.Notation.{reads_hex}
 use Rattle.dbm_script.specs.Tasks.{HasBadBytes, HasBadNumber, run_words_of}
 use Rattle.dbm_script.specs.Numbers.{number_of}
@@ -59,8 +59,8 @@ word_causes notation texts = record no_causes {
 abbrev pub program_causes : Form → Given → Bool → Causes
 program_causes form given is_image = record no_causes {
   opening = IsShut form given;
-  no_text = Opens form given × (file_causes is_image given.file.items).no_text;
-  assembling = λ fault. Opens form given × (file_causes is_image given.file.items).assembling fault;
+  no_text = CanBeOpened form given × (file_causes is_image given.file.items).no_text;
+  assembling = λ fault. CanBeOpened form given × (file_causes is_image given.file.items).assembling fault;
 }
 
 -- a run checks its words before it opens files

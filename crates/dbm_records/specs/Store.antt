@@ -4,7 +4,7 @@ use Rattle.std.specs.Str.{bytes_eq}
 use Rattle.store_cmd.specs.declared.Command.{Command}
 use Rattle.store_cmd.specs.declared.Command.TheVariants as asked
 use Rattle.dbm_reports.specs.Causes.{Causes, IsLongScript}
-use Rattle.dbm_reports.specs.Databases.{Opens}
+use Rattle.dbm_reports.specs.Databases.{CanBeOpened}
 use Rattle.clap.specs.Words.{Shape, Row}
 use Rattle.dbm_args.specs.Given.{IsForm, IsNotation, IsWord, is_given}
 use Rattle.dbm_records.specs.declared.store.Store.{Store}
@@ -42,7 +42,7 @@ words_by n store value = store_words (word_asked store.raw_key n store.key.now) 
 
 -- the words are a store, and the files can be opened
 abbrev pub MayRead : Notation Global → Store → Given → Type 0
-MayRead n store given = (command_of n (words_by n store (codes ".")) ≢ None) × Opens store.form given
+MayRead n store given = (command_of n (words_by n store (codes ".")) ≢ None) × CanBeOpened store.form given
 
 -- standard input is read after checking the words and opening the files
 abbrev pub input_store_causes : Notation Global → Store → Given → Option (List ℕ) → Causes

@@ -29,8 +29,8 @@ pub record IsOpened (form : Form) (given : Given) (db : Database) : Type 0 where
       → SpellsDatabase other given.dir.items given.pag.bytes → other ≡ db
 
 -- the files can be opened
-abbrev pub Opens : Form → Given → Type 0
-Opens form given = (db : Database) × IsOpened form given db
+abbrev pub CanBeOpened : Form → Given → Type 0
+CanBeOpened form given = (db : Database) × IsOpened form given db
 
 -- Why the files cannot be opened. Out of memory is a separate fault.
 abbrev pub IsShut : Form → Given → OpenFault → Type 0

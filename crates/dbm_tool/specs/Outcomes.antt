@@ -10,7 +10,7 @@ use Rattle.dbm_reports.specs.declared.serving.Unserved.{Unserved}
 use Rattle.dbm_reports.specs.declared.serving.Unserved.TheVariants as unserved
 use Rattle.dbm_messages.specs.declared.fault.ServeFault.{ServeFault}
 use Rattle.dbm_messages.specs.declared.fault.ServeFault.TheVariants.{FileTooLong, Write}
-use Rattle.dbm_batches.specs.Causes.{HasCause}
+use Rattle.dbm_batches.specs.Causes.{HasWishCause}
 use Rattle.dbm_tool.specs.Services.{Service, service_for}
 
 -- A request is served: the text of its result was written, and the status and the database that has to be written are those of the result.
@@ -22,7 +22,7 @@ IsRequestServed wish given input old new status database = IsPrinted (service_fo
 abbrev pub IsUnservedBy : Service → Option (List ℕ) → Option (List ℕ) → ServeFault → Type 0
 IsUnservedBy service old new Write = WasCutShort service.reports old new
 IsUnservedBy service old new FileTooLong = WasTooLong service.reports old new
-IsUnservedBy service old new fault = HasCause service.causes fault × Keeps old new
+IsUnservedBy service old new fault = HasWishCause service.causes fault × Keeps old new
 
 -- a request is refused
 abbrev pub IsRequestUnserved : Wish → Given → Option (List ℕ) → Option (List ℕ) → Option (List ℕ) → ServeFault → Type 0

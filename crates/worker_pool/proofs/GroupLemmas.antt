@@ -15,8 +15,8 @@ use Rattle.store_shared.specs.Shared.{SessionState, with_call, IsRefusal}
 use Rattle.store_shared.specs.Groups.{IsCall, AreCalls, AreAnswered}
 use Rattle.worker_pool.specs.declared.task.Task.{Task}
 use Rattle.worker_pool.specs.Tasks.{run_of, IsTaskTried, IsTaskRefusal}
-use Rattle.worker_pool.specs.Shares.{IsCalled, first_with, HasWorked}
-use Rattle.worker_pool.specs.Groups.{HasTried, AreRunsFrom, place_behind, IsAhead, HasCalled, IsReplyTaken, IsNext, WorkerGoesOn}
+use Rattle.worker_pool.specs.Shares.{IsSessionCalled, first_with, HasWorked}
+use Rattle.worker_pool.specs.Groups.{HasTried, AreRunsFrom, place_behind, IsAhead, HasCalled, IsReplyTaken, IsNextIndex, WorkerGoesOn}
 use Rattle.worker_pool.proofs.ShareLemmas.{some_of}
 use Rattle.worker_pool.proofs.TriedLemmas.{tried_more, tried_all}
 
@@ -43,7 +43,7 @@ module _ {A : Type 0} (programs : List Accepted) (tasks : List (Task A)) (k w at
   one_answered : (reply : Reply A) (refusal : Option Refusal) → mid ≡ with_call s command reply → IsSmall s.size command → replies' ≡ replies ++ reply ∷ [] → refusal ≡ None → HasTried programs tasks k w (at + k) mid replies' (first_with first at refusal)
   one_answered reply refusal call small added none =
       let ran : command ≡ run_of programs (slice_index_or tasks at task) = is ∙ sym (ap (run_of programs) its_task) in
-      let called : IsCalled (run_of programs (slice_index_or tasks at task)) s replies mid replies' = subst (λ (c : Command A). IsCalled c s replies mid replies') ran (record { reply = reply; call = call; added = added }) in
+      let called : IsSessionCalled (run_of programs (slice_index_or tasks at task)) s replies mid replies' = subst (λ (c : Command A). IsSessionCalled c s replies mid replies') ran (record { reply = reply; call = call; added = added }) in
       let taken : IsTaskTried s.size (run_of programs (slice_index_or tasks at task)) None = subst (IsSmall s.size) ran small in
       subst (λ (o : Option Refusal). HasTried programs tasks k w (at + k) mid replies' (first_with first at o)) (sym none)
       (tried_more programs tasks k w at s mid replies replies' first task None some within its_own taken tt called tried)
@@ -139,7 +139,7 @@ group_refused programs tasks k w at s s' replies replies' first refusal some wit
     tried_more programs tasks k w at s s' replies replies' first d (Some refusal) some within its_own (refused (slice_index_or tasks at d) (slice_get-get_or tasks at d within)) (same, kept) tt tried
 
 -- a worker continues after an index that it has tried
-pub goes_on : {A : Type 0} (programs : List Accepted) (tasks : List (Task A)) (k w at : ℕ) (s : SessionState A) (replies : List (Reply A)) (first : Option (ℕ × Refusal)) (next : Option ℕ) → 0 < k → at % k ≡ w → IsNext (length tasks) at k next → HasTried programs tasks k w (at + k) s replies first → WorkerGoesOn programs tasks k w at s replies first next
+pub goes_on : {A : Type 0} (programs : List Accepted) (tasks : List (Task A)) (k w at : ℕ) (s : SessionState A) (replies : List (Reply A)) (first : Option (ℕ × Refusal)) (next : Option ℕ) → 0 < k → at % k ≡ w → IsNextIndex (length tasks) at k next → HasTried programs tasks k w (at + k) s replies first → WorkerGoesOn programs tasks k w at s replies first next
 goes_on programs tasks k w at s replies first None some its_own is tried = tried_all programs tasks k w (at + k) s replies first is tried
 goes_on programs tasks k w at s replies first (Some next) some its_own is tried =
     let further : at < at + k = omega arith in (

@@ -57,6 +57,6 @@ abbrev pub IsProgress : {A : Type 0} → List Accepted → List (Task A) → ℕ
 IsProgress programs tasks k w at s replies progress = WorkerGoesOn programs tasks k w at s replies progress.first progress.next
 
 -- the next index, if it is below the count
-abbrev pub IsNext : ℕ → ℕ → ℕ → Option ℕ → Type 0
-IsNext count at k None = count ≤ at + k
-IsNext count at k (Some next) = (next ≡ at + k) × (next < count)
+abbrev pub IsNextIndex : ℕ → ℕ → ℕ → Option ℕ → Type 0
+IsNextIndex count at k None = count ≤ at + k
+IsNextIndex count at k (Some next) = (next ≡ at + k) × (next < count)

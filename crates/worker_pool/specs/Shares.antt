@@ -42,7 +42,7 @@ pub record IsUnused {A : Type 0} (session : SessionState A) (replies : List (Rep
   pub replies_are : replies ≡ []
 
 -- a worker's session has one more call, of this command, and its replies have that call's reply
-pub record IsCalled {A : Type 0} (command : Command A) (session : SessionState A) (replies : List (Reply A)) (session' : SessionState A) (replies' : List (Reply A)) : Type 0 where
+pub record IsSessionCalled {A : Type 0} (command : Command A) (session : SessionState A) (replies : List (Reply A)) (session' : SessionState A) (replies' : List (Reply A)) : Type 0 where
   pub reply : Reply A
   pub call : session' ≡ with_call session command reply
   pub added : replies' ≡ replies ++ reply ∷ []

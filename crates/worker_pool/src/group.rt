@@ -3,7 +3,7 @@ ghost use Rattle.std.specs.Prelude.{◌≡◌, ◌<◌, ◌≤◌, ◌+◌, IfOk
 ghost use Rattle.std.specs.List.{slice_get};
 ghost use Rattle.std.specs.Vec.Iter.{into_iter_items};
 ghost use Rattle.worker_pool.specs.Tasks.{run_of, code_of, IsKnown, AreTasksKnown, IsTaskRefusal, IsRefusalFor};
-ghost use Rattle.worker_pool.specs.Groups.{AreRunsFrom, IsAhead, IsNext, place_behind};
+ghost use Rattle.worker_pool.specs.Groups.{AreRunsFrom, IsAhead, IsNextIndex, place_behind};
 
 use crate::task::Task;
 use prog_registry::{ProgId, Registry};
@@ -122,7 +122,7 @@ pub(crate) fn place_after<A: Allocator>(
     workers: usize,
 ) -> Option<usize>
     requires { at < length tasks.now }
-    ensures { IsNext (length tasks.now) at workers result }
+    ensures { IsNextIndex (length tasks.now) at workers result }
 {
     if workers >= tasks.len() - at {
         return None;

@@ -3,14 +3,14 @@ use Rattle.std.specs.List.{flat_map}
 use Rattle.std.specs.declared.alloc.Global.{Global}
 use Rattle.worker_pool.specs.declared.task.Task.{Task}
 use Rattle.dbm_batches.specs.Batches.{TasksLeadTo, reply_line, task_causes}
-use Rattle.dbm_batches.specs.Causes.{HasCause}
+use Rattle.dbm_batches.specs.Causes.{HasWishCause}
 use Rattle.dbm_batches.proofs.BatchFaults.{doing_fault}
 use Rattle.dbm_reports.proofs.Faults.{as_err}
 use Rattle.dbm_batches.proofs.batch.run_batch.Goals as goal
 
 pub returns-in_err-done-clause-fault : goal.returns-in_err-done-clause-fault
 returns-in_err-done-clause-fault g c =
-    as_err (HasCause (task_causes c.args.notation.now c.args.time c.args.batch (Some c.args.input.now))) _ c.from_residual-in_err-done.ensures.1
+    as_err (HasWishCause (task_causes c.args.notation.now c.args.time c.args.batch (Some c.args.input.now))) _ c.from_residual-in_err-done.ensures.1
     (doing_fault c.args.notation.now c.args.time c.args.batch c.args.input.now c.in_ok-words.words.items c.as_slice.result.now _ (record { short = c.requires; are = c.in_ok-words.ensures.ok }) (c.as_slice.ensures.value ∙ c.in_ok-tasks.ensures) c.in_err-done.ensures.fault)
 
 pub returns-clause-ok : goal.returns-clause-ok

@@ -35,7 +35,7 @@ use Rattle.prog_registry.specs.declared.fault.RegFault.TheVariants as faults
 use Rattle.boddurci_handles.specs.declared.opened.Db.{Db}
 use Rattle.boddurci_handles.specs.declared.status.Status.{Status}
 use Rattle.boddurci_handles.specs.declared.status.Status.TheVariants.{Done, Missing, Exists, Crowded, ShortRoom, Refused, BadText, BadFiles, Changed, Stale, Closed, Open, PairTooLarge, ArgTooLong, NoProgram, NoMemory, TooLong, NoTicket, NoStock}
-use Rattle.boddurci_handles.specs.Statuses.{code_of, status_of}
+use Rattle.boddurci_handles.specs.Statuses.{status_code, status_of_reply}
 use Rattle.boddurci_c.specs.Units.{unit_in, nowhere}
 use Rattle.boddurci_handles.specs.Growth.{FitsWithin, Outgrows}
 use Rattle.boddurci_handles.specs.Marks.{HasMoreMarks}
@@ -65,7 +65,7 @@ Why P (Some d) status = P d status
 -- Nothing is done, for a reason that the status names.
 pub record CallDenies (P : Db → Status → Type 0) (old : Option Db) (code : ℕ) (new : Option Db) : Type 0 where
   pub status : Status
-  pub code_is : code ≡ code_of status
+  pub code_is : code ≡ status_code status
   pub same : new ≡ old
   pub why : Why P old status
 
@@ -111,7 +111,7 @@ DeniesBy d command NoStock = ⊥
 -- a command is executed, and the status is that of its reply
 pub record CallAnswers (command : Command Global) (old : Option Db) (code : ℕ) (new : Option Db) : Type 0 where
   pub reply : Reply Global
-  pub code_is : code ≡ code_of (status_of reply)
+  pub code_is : code ≡ status_code (status_of_reply reply)
   pub does : At old new (λ d d'. DoesCommand d command reply d')
 
 -- the answer of a call to a command
@@ -172,13 +172,13 @@ FetchesIn key d status room_old room_new len_old len =
 
 pub record Fetches (key : List ℕ) (old : Option Db) (code : ℕ) (new : Option Db) (room_old room_new : List ℕ) (len_old len : ℕ) : Type 0 where
   pub status : Status
-  pub code_is : code ≡ code_of status
+  pub code_is : code ≡ status_code status
   pub told : HandleShows old new (λ d. FetchesIn key d status room_old room_new len_old len)
 
 -- ---- a count
 
 pub record CountsPairs (old : Option Db) (code : ℕ) (new : Option Db) (count : ℕ) : Type 0 where
-  pub code_is : code ≡ code_of Done
+  pub code_is : code ≡ status_code Done
   pub is : HandleShows old new (λ d. count ≡ map.len (map_of d.image))
 
 -- ---- programs
@@ -204,7 +204,7 @@ status_of_fault faults.Full = Refused
 
 -- a program image has a number
 pub record NumbersProgram (image : List ℕ) (old : Option Db) (code : ℕ) (new : Option Db) (id : ℕ) : Type 0 where
-  pub code_is : code ≡ code_of Done
+  pub code_is : code ≡ status_code Done
   pub submits : At old new (Submits image (Ok (record { 0 = id })))
 
 -- a program image is refused; the unit and the text of the fault are reported
@@ -213,7 +213,7 @@ pub record Rejects (image : List ℕ) (old : Option Db) (code : ℕ) (new : Opti
   pub unit_is : unit ≡ unwrap_or (unit_in fault) nowhere
   pub submits : At old new (Submits image (Err fault))
   pub status : Status
-  pub code_is : code ≡ code_of status
+  pub code_is : code ≡ status_code status
   pub text : IsToldAs (status_of_fault fault) (fault_text fault) room_old room_new len status
 
 -- the blank of a run
@@ -287,7 +287,7 @@ IsRunEnd (replies.Count n) code word = (code ≡ 0) × (word ≡ 0)
 
 pub record RunsProgram (number : ℕ) (key arg : List ℕ) (blank : Option ℕ) (now : ℕ) (old : Option Db) (code : ℕ) (new : Option Db) (end word : ℕ) : Type 0 where
   pub reply : Reply Global
-  pub code_is : code ≡ code_of (status_of reply)
+  pub code_is : code ≡ status_code (status_of_reply reply)
   pub does : At old new (RunsBy number key arg blank now reply)
   pub told : IsRunEnd reply end word
 
@@ -329,7 +329,7 @@ pub record WritesFiles (old : Option Db) (code : ℕ) (new : Option Db) (dir_old
   pub dir_len_is : dir_len ≡ length dir
   pub pag_len_is : pag_len ≡ length pag
   pub status : Status
-  pub code_is : code ≡ code_of status
+  pub code_is : code ≡ status_code status
   pub copied : AreCopied dir pag dir_old dir_new pag_old pag_new status
 
 -- memory ran out
@@ -341,7 +341,7 @@ LacksMemory d status = status ≡ NoMemory
 -- the numbers of the pages that may have changed are written to a buffer, or the buffer is too short
 pub record ListsChanged (old : Option Db) (code : ℕ) (new : Option Db) (numbers_old numbers_new : List ℕ) (count : ℕ) : Type 0 where
   pub status : Status
-  pub code_is : code ≡ code_of status
+  pub code_is : code ≡ status_code status
   pub is : HandleShows old new (λ d. IsCopied d.marks numbers_old numbers_new count status)
 
 -- these pages are marked in addition to the earlier ones, and everything else stays
@@ -354,7 +354,7 @@ pub record HasMarked (numbers : List ℕ) (d d' : Db) : Type 0 where
   pub each : (n : ℕ) → Contains numbers n → Contains d'.marks n
 
 pub record Remarks (numbers : List ℕ) (old : Option Db) (code : ℕ) (new : Option Db) : Type 0 where
-  pub code_is : code ≡ code_of Done
+  pub code_is : code ≡ status_code Done
   pub is : At old new (HasMarked numbers)
 
 -- ---- a limit
@@ -368,7 +368,7 @@ pub record HasLimit (bytes : ℕ) (d d' : Db) : Type 0 where
   pub base : d'.base ≡ d.base
 
 pub record SetsLimit (bytes : ℕ) (old : Option Db) (code : ℕ) (new : Option Db) : Type 0 where
-  pub code_is : code ≡ code_of Done
+  pub code_is : code ≡ status_code Done
   pub is : At old new (HasLimit bytes)
 
 -- ---- opening
@@ -404,7 +404,7 @@ ReadsUnmarked db pag marks = (n : ℕ) → n < length pag / page_bytes db.size �
 -- a closed handle was opened
 pub record OpensHandle (kind : KeyBytes) (size : PageSize) (dir pag : List ℕ) (old : Option Db) (code : ℕ) (new : Option Db) : Type 0 where
   pub db : Db
-  pub code_is : code ≡ code_of Done
+  pub code_is : code ≡ status_code Done
   pub old_is : old ≡ None
   pub new_is : new ≡ Some db
   pub is : IsDbOpened kind size dir pag db
@@ -421,7 +421,7 @@ status_of_open open_faults.NoMemory = NoMemory
 pub record Faults (kind : KeyBytes) (size : PageSize) (dir pag : List ℕ) (old : Option Db) (code : ℕ) (new : Option Db) (room_old room_new : List ℕ) (len : ℕ) : Type 0 where
   pub fault : OpenFault
   pub status : Status
-  pub code_is : code ≡ code_of status
+  pub code_is : code ≡ status_code status
   pub closed : old ≡ None
   pub same : new ≡ None
   pub is : IsOpenFault kind size dir pag fault
@@ -431,7 +431,7 @@ pub record Faults (kind : KeyBytes) (size : PageSize) (dir pag : List ℕ) (old 
 -- nothing is opened: memory ran out, or the handle is already open
 pub record OpensNot (old : Option Db) (code : ℕ) (new : Option Db) : Type 0 where
   pub same : new ≡ old
-  pub why : ((code ≡ code_of NoMemory) × (old ≡ None)) ⊎ ((code ≡ code_of Open) × IsSome old)
+  pub why : ((code ≡ status_code NoMemory) × (old ≡ None)) ⊎ ((code ≡ status_code Open) × IsSome old)
 
 abbrev pub OpensOr : KeyBytes → PageSize → List ℕ → List ℕ → Option Db → ℕ → Option Db → List ℕ → List ℕ → ℕ → ℕ → Type 0
 OpensOr kind size dir pag old code new room_old room_new len_old len =

@@ -11,7 +11,7 @@ use Rattle.sdbm_saves.specs.Saves.{AreFilesFor, IsSaving, IsTooLong}
 use Rattle.boddurci_handles.specs.declared.opened.Db.{Db}
 use Rattle.boddurci_handles.specs.declared.status.Status.{Status}
 use Rattle.boddurci_handles.specs.declared.status.Status.TheVariants.{Done, ShortRoom, Stale, TooLong, NoMemory}
-use Rattle.boddurci_handles.specs.Statuses.{code_of}
+use Rattle.boddurci_handles.specs.Statuses.{status_code}
 use Rattle.boddurci_c.specs.Calls.{At, IsCopied}
 use Rattle.boddurci_handles.specs.Marks.{AreAmong}
 
@@ -69,5 +69,5 @@ DeniesPlan dir pag_length numbers pages d status =
 -- a plan of an open handle's database
 pub record Plans (old : Option Db) (code : ℕ) (new : Option Db) (dir : List ℕ) (pag_length : ℕ) (numbers pages room_old room_new : List ℕ) (len : ℕ) : Type 0 where
   pub status : Status
-  pub code_is : code ≡ code_of status
+  pub code_is : code ≡ status_code status
   pub is : At old new (λ d d'. PlansOn dir pag_length numbers pages d room_old room_new len status d')

@@ -4,7 +4,7 @@ use Rattle.sdbm_addr.specs.declared.KeyBytes.{KeyBytes}
 use Rattle.sdbm_sizes.specs.Sizes.{FileLooksSmall, SpellsNoSmall}
 use Rattle.boddurci_handles.specs.declared.status.Status.{Status}
 use Rattle.boddurci_handles.specs.declared.status.Status.TheVariants.{Done, NoMemory}
-use Rattle.boddurci_handles.specs.Statuses.{code_of}
+use Rattle.boddurci_handles.specs.Statuses.{status_code}
 
 -- 1 if they look like that; 0 if not, and then they contain no database of small pages
 abbrev pub IsSmallLook : KeyBytes → List ℕ → List ℕ → ℕ → Type 0
@@ -16,5 +16,5 @@ IsLook kind dir pag looks_old looks status = ((status ≡ Done) × IsSmallLook k
 
 pub record LooksOr (kind : KeyBytes) (dir pag : List ℕ) (code looks_old looks : ℕ) : Type 0 where
   pub status : Status
-  pub code_is : code ≡ code_of status
+  pub code_is : code ≡ status_code status
   pub is : IsLook kind dir pag looks_old looks status

@@ -7,7 +7,7 @@ use Rattle.bpf_verify.specs.Verified.{Accepted}
 use Rattle.boddurci_handles.specs.declared.opened.Db.{Db}
 use Rattle.boddurci_handles.specs.declared.status.Status.{Status}
 use Rattle.boddurci_handles.specs.declared.status.Status.TheVariants.{Done, NoMemory, NoTicket}
-use Rattle.boddurci_handles.specs.Statuses.{code_of, status_of}
+use Rattle.boddurci_handles.specs.Statuses.{status_code, status_of_reply}
 use Rattle.boddurci_c.specs.Calls.{At, HandleShows, CallDenies, DeniesAsk, DoesCommand, IsRunEnd}
 use Rattle.boddurci_handles.specs.Asked.{Asked, IsAskedOf, DeniesFinish, worked_out}
 
@@ -19,7 +19,7 @@ pub record IsRunAsked (number : ℕ) (key arg : List ℕ) (blank : Option ℕ) (
 
 -- the run is put under the ticket
 pub record AsksRun (number : ℕ) (key arg : List ℕ) (blank : Option ℕ) (now : ℕ) (old : Option Db) (code : ℕ) (new : Option Db) (ticket : Option Asked) : Type 0 where
-  pub code_is : code ≡ code_of Done
+  pub code_is : code ≡ status_code Done
   pub asked : Asked
   pub ticket_is : ticket ≡ Some asked
   pub is : HandleShows old new (λ d. IsRunAsked number key arg blank now d asked)
@@ -32,13 +32,13 @@ pub record AsksNot (number : ℕ) (key arg : List ℕ) (blank : Option ℕ) (now
 -- the run under a ticket is computed; or the ticket is free, or memory ran out, and it is unchanged
 pub record Works (old : Option Asked) (code : ℕ) (new : Option Asked) : Type 0 where
   pub asked : Asked
-  pub code_is : code ≡ code_of Done
+  pub code_is : code ≡ status_code Done
   pub old_is : old ≡ Some asked
   pub new_is : new ≡ Some (worked_out asked)
 
 pub record WorksNot (old : Option Asked) (code : ℕ) (new : Option Asked) : Type 0 where
   pub same : new ≡ old
-  pub why : ((code ≡ code_of NoTicket) × (old ≡ None)) ⊎ ((code ≡ code_of NoMemory) × IsSome old)
+  pub why : ((code ≡ status_code NoTicket) × (old ≡ None)) ⊎ ((code ≡ status_code NoMemory) × IsSome old)
 
 -- the computed run of a ticket is executed as one command on the current database, and the ticket is free
 pub record FinishesOn (d : Db) (old : Option Asked) (reply : Reply Global) (d' : Db) (new : Option Asked) : Type 0 where
@@ -55,7 +55,7 @@ WhyNot (Some a) d status = DeniesFinish d.limit d.image a status
 
 pub record FinishesTicket (old : Option Db) (code : ℕ) (new : Option Db) (ticket_old ticket_new : Option Asked) (end word : ℕ) : Type 0 where
   pub reply : Reply Global
-  pub code_is : code ≡ code_of (status_of reply)
+  pub code_is : code ≡ status_code (status_of_reply reply)
   pub does : At old new (λ d d'. FinishesOn d ticket_old reply d' ticket_new)
   pub told : IsRunEnd reply end word
 

@@ -7,7 +7,7 @@ use Rattle.boddurci_c.specs.declared.turns.Cursor.{Cursor}
 use Rattle.boddurci_handles.specs.declared.status.Status.{Status}
 use Rattle.boddurci_handles.specs.declared.status.Status.TheVariants.{Done, Missing, ShortRoom}
 use Rattle.boddurci_handles.specs.declared.opened.Db.{Db}
-use Rattle.boddurci_handles.specs.Statuses.{code_of}
+use Rattle.boddurci_handles.specs.Statuses.{status_code}
 use Rattle.boddurci_c.specs.Calls.{AreCopied, HandleShows}
 
 -- before the first pair; the end is the number above all pages that have pairs
@@ -40,8 +40,8 @@ abbrev pub IsCursorOver : Database → Cursor → Type 0
 IsCursorOver db cursor = (cursor.end ≤ cursor.page) ⊎ ((length (pairs_at db cursor.page) ≤ cursor.pair) × AreBare db (cursor.page + 1) cursor.end)
 
 -- after pair i of page n
-abbrev pub behind : Cursor → ℕ → ℕ → Cursor
-behind cursor n i = record { page = n; end = cursor.end; pair = i + 1 }
+abbrev pub cursor_behind : Cursor → ℕ → ℕ → Cursor
+cursor_behind cursor n i = record { page = n; end = cursor.end; pair = i + 1 }
 
 -- the next pair is written, and the cursor is after it; or a buffer is too short, and the cursor is unchanged
 pub record CursorTells (db : Database) (old new : Cursor) (key_old key_new : List ℕ) (key_len : ℕ) (value_old value_new : List ℕ) (value_len : ℕ) (status : Status) : Type 0 where
@@ -51,7 +51,7 @@ pub record CursorTells (db : Database) (old new : Cursor) (key_old key_new : Lis
   pub key_len_is : key_len ≡ length (key_at (pairs_at db n) i)
   pub value_len_is : value_len ≡ length (value_at (pairs_at db n) i)
   pub copied : AreCopied (key_at (pairs_at db n) i) (value_at (pairs_at db n) i) key_old key_new value_old value_new status
-  pub moves : status ≡ Done → new ≡ behind old n i
+  pub moves : status ≡ Done → new ≡ cursor_behind old n i
   pub stays : status ≡ ShortRoom → new ≡ old
 
 -- no pair is left, and nothing is written
@@ -69,10 +69,10 @@ CursorTurns db old new key_old key_new key_len value_old value_new value_len sta
 -- ---- calls
 
 pub record CursorBegins (old : Option Db) (code : ℕ) (new : Option Db) (cursor : Cursor) : Type 0 where
-  pub code_is : code ≡ code_of Done
+  pub code_is : code ≡ status_code Done
   pub is : HandleShows old new (λ d. IsStart d.image cursor)
 
 pub record CursorGoesOn (old : Option Db) (code : ℕ) (new : Option Db) (cursor_old cursor_new : Cursor) (key_old key_new : List ℕ) (key_len : ℕ) (value_old value_new : List ℕ) (value_len : ℕ) : Type 0 where
   pub status : Status
-  pub code_is : code ≡ code_of status
+  pub code_is : code ≡ status_code status
   pub is : HandleShows old new (λ d. CursorTurns d.image cursor_old cursor_new key_old key_new key_len value_old value_new value_len status)

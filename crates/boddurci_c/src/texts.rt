@@ -53,9 +53,9 @@ impl TextFault {
 
 impl fmt::Display for TextFault {
     ghost use Rattle.std.specs.Prelude.{Some};
-    ghost use Rattle.boddurci_c.specs.Texts.{text_of};
+    ghost use Rattle.boddurci_c.specs.Texts.{text_of_fault};
 
-    ghost output = { λ fault. Some (text_of fault) };
+    ghost output = { λ fault. Some (text_of_fault fault) };
 
     fn fmt<W: fmt::Write>(&self, f: &mut fmt::Formatter<W>) -> fmt::Result {
         match self {

@@ -23,12 +23,12 @@ pub record Asked : Type 0 where
   pub is_worked : Bool
 
 -- the result on that page
-abbrev pub result_of : Asked → PageResult Global
-result_of a = works a.place a.kind a.page.size a.page.pairs 0 a.command
+abbrev pub asked_result : Asked → PageResult Global
+asked_result a = works a.place a.kind a.page.size a.page.pairs 0 a.command
 
 -- the result was computed, and its program ended
 pub record IsWorkedOut (a : Asked) (w : Worked Global) : Type 0 where
-  pub is : IsWorked (result_of a) w
+  pub is : IsWorked (asked_result a) w
   pub ends : HasEnd a.page.pairs 0 a.command
 
 -- it can be computed, and its result, if any, is that

@@ -6,7 +6,7 @@ ghost use Rattle.store_cmd.specs.Command.{IsSmall};
 ghost use Rattle.store_moves.specs.Acts.{Acts};
 ghost use Rattle.store_moves.specs.Works.{HasKey};
 ghost use Rattle.sdbm_files.specs.Limits.{FitsFiles};
-ghost use Rattle.boddurci_handles.specs.Asked.{result_of};
+ghost use Rattle.boddurci_handles.specs.Asked.{asked_result};
 ghost use Rattle.boddurci_handles.specs.Growth.{FitsWithin, has_pairs, may_grow, most_in};
 ghost use Rattle.boddurci_handles.specs.Marks.{HasMoreMarks, DifferOn};
 ghost use Rattle.boddurci_handles.specs.Asked.{IsAskedOf, IsCurrent, DeniesFinish, worked_out};
@@ -144,7 +144,7 @@ impl Job {
 
     // Returns true if the result keeps `.pag` within the limit.
     fn may_grow(&self, limit: usize) -> bool
-        ensures { self.now.is_worked ≡ true → result ≡ may_grow (most_in self.now.page.size limit) (has_pairs self.now.page.pairs) self.now.place.page (result_of self.now).change }
+        ensures { self.now.is_worked ≡ true → result ≡ may_grow (most_in self.now.page.size limit) (has_pairs self.now.page.pairs) self.now.place.page (asked_result self.now).change }
     {
         match &self.worked {
             None => true,
@@ -166,7 +166,7 @@ impl Job {
         requires worked { self.old.is_worked ≡ true }
         requires current { IsCurrent image.old self.old }
         requires database { IsDatabase image.old }
-        requires grows { may_grow (most_in self.old.page.size limit) (has_pairs self.old.page.pairs) self.old.place.page (result_of self.old).change ≡ true }
+        requires grows { may_grow (most_in self.old.page.size limit) (has_pairs self.old.page.pairs) self.old.place.page (asked_result self.old).change ≡ true }
         ensures ok { IfOk result (λ reply. Acts image.old (record { session = 0; command = self.old.command; reply = reply }) image.new) }
         ensures fits { OnOk result (FitsFiles image.old → FitsFiles image.new) }
         ensures within { OnOk result (FitsWithin limit image.old → FitsWithin limit image.new) }

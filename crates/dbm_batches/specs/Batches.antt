@@ -19,7 +19,7 @@ use Rattle.worker_pool.specs.declared.task.Task.{Task}
 use Rattle.dbm_script.specs.Answers.{reply_text}
 use Rattle.dbm_script.specs.Images.{Denies}
 use Rattle.dbm_script.specs.Numbers.{number_of}
-use Rattle.dbm_script.specs.Shorthand.{spelled}
+use Rattle.dbm_script.specs.Shorthand.{spelled_text}
 use Rattle.dbm_script.specs.Tasks.{AreTasksOf, IsFirstBad}
 use Rattle.dbm_script.specs.declared.shorthand.LineKind.TheVariants.{OfBatch}
 use Rattle.dbm_script.specs.declared.shorthand.TimeOfDay.{TimeOfDay}
@@ -65,12 +65,12 @@ task_for program words = record { key = words.key; prog = program; arg = words.a
 -- the input has at most 16,777,216 bytes, and its lines, with their shorthand spelled out, are just these runs
 pub record AreShortTasks (notation : Notation Global) (time : Option TimeOfDay) (bytes : List ℕ) (words : List (RunWords Global)) : Type 0 where
   pub short : length bytes ≤ 16777216
-  pub are : AreTasksOf Global notation (spelled OfBatch time bytes) words
+  pub are : AreTasksOf Global notation (spelled_text OfBatch time bytes) words
 
 -- the input has at most 16,777,216 bytes, and this is the first line that is not a task
 pub record HasBadLine (notation : Notation Global) (time : Option TimeOfDay) (bytes : List ℕ) (number : ℕ) : Type 0 where
   pub short : length bytes ≤ 16777216
-  pub is : IsFirstBad Global notation (spelled OfBatch time bytes) number
+  pub is : IsFirstBad Global notation (spelled_text OfBatch time bytes) number
 
 -- P holds of the tasks of standard input, if it is known
 abbrev pub OnTasks : Notation Global → Option TimeOfDay → Batch → Option (List ℕ) → (List (Task Global) → Type 0) → Type 0

@@ -5,7 +5,7 @@ ghost use Rattle.sdbm_addr.specs.Database.{Database};
 ghost use Rattle.std.specs.declared.alloc.Global.{Global};
 ghost use Rattle.store_shared.specs.Closed.{IsRefusedClose};
 ghost use Rattle.store_shared.specs.Shared.{opened_by};
-ghost use Rattle.dbm_script.specs.Shorthand.{spelled};
+ghost use Rattle.dbm_script.specs.Shorthand.{spelled_text};
 ghost use Rattle.dbm_script.specs.Tasks.{AreTasksOf, IsTasksFault};
 ghost use Rattle.dbm_script.specs.declared.shorthand.LineKind.TheVariants.{OfBatch};
 ghost use Rattle.dbm_batches.specs.Batches.{DoesTasks, IsClosedAfter, IsBatchReady, IsSubmitted, TasksLeadTo, OnBatch, OnTasks, batch_causes, doing_causes, ready_causes, reply_line, submit_causes, task_causes, task_for};
@@ -162,8 +162,8 @@ fn words_of_lines(
     time: Option<TimeOfDay>,
     input: &[u8],
 ) -> Result<Vec<RunWords<Global>>, TasksFault>
-    ensures ok { IfOk result (λ words. AreTasksOf Global notation.now (spelled OfBatch time input.now) words.items) }
-    ensures fault { IfErr result (IsTasksFault Global notation.now (spelled OfBatch time input.now)) }
+    ensures ok { IfOk result (λ words. AreTasksOf Global notation.now (spelled_text OfBatch time input.now) words.items) }
+    ensures fault { IfErr result (IsTasksFault Global notation.now (spelled_text OfBatch time input.now)) }
 {
     let lines = spell_out(alloc, LineKind::OfBatch, time, input)?;
     read_tasks(alloc, notation, lines.as_slice())

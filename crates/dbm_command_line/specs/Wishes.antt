@@ -63,12 +63,12 @@ head_of (wish.Disasm disasm) = disasm_head disasm
 head_of (wish.Verify verify) = verify_head verify
 
 -- the database that a request is about
-abbrev pub base_of : Wish → Option Text
-base_of wish = option_map (λ text. text.now) (head_of wish).base
+abbrev pub wish_base : Wish → Option Text
+wish_base wish = option_map (λ text. text.now) (head_of wish).base
 
 -- the program file that a request is about
-abbrev pub file_of : Wish → Option Text
-file_of wish = option_map (λ text. text.now) (head_of wish).file
+abbrev pub wish_file : Wish → Option Text
+wish_file wish = option_map (λ text. text.now) (head_of wish).file
 
 -- the files of its database are written after it, even if nothing has changed
 abbrev pub writes_files : Wish → Bool

@@ -4,7 +4,7 @@ use Rattle.std.specs.declared.alloc.Global.{Global}
 use Rattle.sdbm_addr.specs.Database.{Database}
 use Rattle.dbm_script.specs.Script.{AnswersExceed, IsScriptRun}
 use Rattle.dbm_script.proofs.Runs.{known_read}
-use Rattle.dbm_script.specs.Shorthand.{spelled}
+use Rattle.dbm_script.specs.Shorthand.{spelled_text}
 use Rattle.dbm_script.specs.declared.notations.Notation.{Notation}
 use Rattle.dbm_script.specs.declared.shorthand.LineKind.TheVariants.{OfScript}
 use Rattle.dbm_script.specs.declared.shorthand.TimeOfDay.{TimeOfDay}
@@ -28,10 +28,10 @@ plays_known n before known read most after report is plays = record {
 }
 
 -- the same for the expanded script
-pub spelled_read : (time : Option TimeOfDay) (known : Option (List ℕ)) (read script : List ℕ) → IfSome known (λ input. read ≡ input) → script ≡ spelled OfScript time read
+pub spelled_read : (time : Option TimeOfDay) (known : Option (List ℕ)) (read script : List ℕ) → IfSome known (λ input. read ≡ input) → script ≡ spelled_text OfScript time read
     → IfSome (spelled_input time known) (λ input. script ≡ input)
 spelled_read time None read script is spells = tt
-spelled_read time (Some input) read script is spells = spells ∙ ap (spelled OfScript time) is
+spelled_read time (Some input) read script is spells = spells ∙ ap (spelled_text OfScript time) is
 
 -- another report with the same text and status
 pub plays_text : (n : Notation Global) (before : Database) (known : Option (List ℕ)) (most : ℕ) (after : Database) (report other : Report)

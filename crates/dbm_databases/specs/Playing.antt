@@ -8,7 +8,7 @@ use Rattle.std.specs.declared.alloc.Global.{Global}
 use Rattle.sdbm_addr.specs.Database.{Database, empty_database}
 use Rattle.dbm_script.specs.declared.notations.Notation.{Notation}
 use Rattle.dbm_script.specs.Script.{IsScriptRun, AnswersExceed}
-use Rattle.dbm_script.specs.Shorthand.{spelled}
+use Rattle.dbm_script.specs.Shorthand.{spelled_text}
 use Rattle.dbm_script.specs.declared.shorthand.LineKind.TheVariants.{OfScript}
 use Rattle.dbm_script.specs.declared.shorthand.TimeOfDay.{TimeOfDay}
 use Rattle.dbm_args.specs.declared.options.Form.{Form}
@@ -20,7 +20,7 @@ use Rattle.dbm_reports.specs.Causes.{Causes, no_causes, IsLongScript, input_caus
 
 -- the script on standard input with its shorthand expanded, if its bytes are known
 abbrev pub spelled_input : Option TimeOfDay → Option (List ℕ) → Option (List ℕ)
-spelled_input time input = option_map (spelled OfScript time) input
+spelled_input time input = option_map (spelled_text OfScript time) input
 
 -- the answers to a script, and the database after it; the answers have at most `most` bytes
 pub record PlaysScript (notation : Notation Global) (before : Database) (input : Option (List ℕ)) (most : ℕ) (after : Database) (report : Report) : Type 0 where

@@ -11,8 +11,8 @@ use Rattle.dbm_dump.specs.declared.stage.Stage.{Stage}
 use Rattle.dbm_dump.specs.declared.stage.Stage.TheVariants.{First, Title, Keys, Pages, Count, Gap, Pairs, Between, Within, Over}
 use Rattle.dbm_dump.specs.declared.stage.Next.{Next}
 use Rattle.dbm_dump.specs.Loading.{GivesLine, IsEmptyEnd}
-use Rattle.dbm_dump.specs.Reading.{Read, before_read, dump_lines, kept, pair_list, read, read_on, whole, without_empty_end}
-use Rattle.dbm_dump.specs.Steps.{is_end, step}
+use Rattle.dbm_dump.specs.Reading.{Read, before_read, dump_lines, kept_lines, pair_list, read, read_on, whole, without_empty_end}
+use Rattle.dbm_dump.specs.Steps.{is_end, line_step}
 
 -- ---- an empty last line changes no pairs
 
@@ -47,10 +47,10 @@ whole_empty (Within seen role len text) = refl
 whole_empty Over = refl
 
 whole_kept : (s : Stage) (line : List ℕ) (lines : List (List ℕ)) → ((t : Stage) → whole (read t (without_empty_end lines)) ≡ whole (read t lines))
-    → whole (read s (kept lines line (without_empty_end lines))) ≡ whole (read s (line ∷ lines))
+    → whole (read s (kept_lines lines line (without_empty_end lines))) ≡ whole (read s (line ∷ lines))
 whole_kept s [] [] same = whole_empty s
 whole_kept s (c ∷ cs) [] same = refl
-whole_kept s line (other ∷ others) same = whole_on (step s line) (λ t. read t (without_empty_end (other ∷ others))) (λ t. read t (other ∷ others)) same
+whole_kept s line (other ∷ others) same = whole_on (line_step s line) (λ t. read t (without_empty_end (other ∷ others))) (λ t. read t (other ∷ others)) same
 
 whole_without : (s : Stage) (lines : List (List ℕ)) → whole (read s (without_empty_end lines)) ≡ whole (read s lines)
 whole_without s [] = refl
@@ -58,7 +58,7 @@ whole_without s (line ∷ lines) = whole_kept s line lines (λ t. whole_without 
 
 pub whole_lines : (s : Stage) (pieces : List (List ℕ)) → whole (read s (dump_lines pieces)) ≡ whole (read s pieces)
 whole_lines s [] = refl
-whole_lines s (first ∷ others) = whole_on (step s first) (λ t. read t (without_empty_end others)) (λ t. read t others) (λ t. whole_without t others)
+whole_lines s (first ∷ others) = whole_on (line_step s first) (λ t. read t (without_empty_end others)) (λ t. read t others) (λ t. whole_without t others)
 
 -- ---- the remaining lines
 
@@ -67,7 +67,7 @@ lines_after [] pieces = dump_lines pieces
 lines_after (line ∷ lines) pieces = without_empty_end pieces
 
 -- a piece is a line, unless it is empty and the last
-kept_line : (line : List ℕ) (behind : List (List ℕ)) → (line ∷ behind ≡ [] ∷ [] → ⊥) → kept behind line (without_empty_end behind) ≡ line ∷ without_empty_end behind
+kept_line : (line : List ℕ) (behind : List (List ℕ)) → (line ∷ behind ≡ [] ∷ [] → ⊥) → kept_lines behind line (without_empty_end behind) ≡ line ∷ without_empty_end behind
 kept_line [] [] h = absurd (h refl)
 kept_line (c ∷ cs) [] h = refl
 kept_line line (other ∷ others) h = refl

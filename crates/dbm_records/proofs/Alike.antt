@@ -21,7 +21,7 @@ use Rattle.dbm_records.specs.Fetch.{FetchShows, ShowsValue}
 use Rattle.dbm_records.specs.Running.{RunsImage}
 use Rattle.dbm_records.specs.declared.page_request.PageRequest.{PageRequest}
 use Rattle.dbm_records.specs.declared.page_request.PageRequest.TheVariants as asked
-use Rattle.dbm_records.specs.PageRequests.{AnswersRequest, IsKeyed, key_in}
+use Rattle.dbm_records.specs.PageRequests.{AnswersRequest, IsKeyed, request_key}
 use Rattle.store_parts.proofs.PartOf.{changed_kind, changed_size}
 
 -- the same report, with another database
@@ -119,7 +119,7 @@ module _ (n : Notation Global) (part db : Database) (ok : IsDatabase db) (number
       )
 
   -- a result on the part is also the result on the whole
-  pub alike_answers : (asked : PageRequest) → IsKeyed asked → (place : Place) → IsPlaceOf part (key_in asked) place → place.page ≡ number → (report : Report) → AnswersRequest n asked part report
+  pub alike_answers : (asked : PageRequest) → IsKeyed asked → (place : Place) → IsPlaceOf part (request_key asked) place → place.page ≡ number → (report : Report) → AnswersRequest n asked part report
       → ((report.database ≡ None) × AnswersRequest n asked db report) ⊎ IsReportedAlike number part db (AnswersRequest n asked db) report
   alike_answers (asked.Fetch command raw) keyed place leads page report told = inl (shows raw command keyed place leads page report told)
   alike_answers (asked.Change command) keyed place leads page report told = inr (changes command keyed place leads page None report told)

@@ -16,7 +16,7 @@ use Rattle.dbm_reports.specs.declared.report.Report.{Report}
 use Rattle.dbm_records.specs.Fetch.{FetchShows}
 use Rattle.dbm_records.specs.declared.page_request.PageRequest.{PageRequest}
 use Rattle.dbm_records.specs.declared.page_request.PageRequest.TheVariants as asked
-use Rattle.dbm_records.specs.PageRequests.{AnswersRequest, IsKeyed, key_in}
+use Rattle.dbm_records.specs.PageRequests.{AnswersRequest, IsKeyed, request_key}
 use Rattle.store_parts.specs.Parts.{AreWhole, IsOpenedPart, IsPlannedPart}
 use Rattle.dbm_records.specs.PageResults.{PageComesTo, IsPageResult}
 use Rattle.dbm_records.proofs.Alike.{IsReportedAlike, report_on, alike_answers}
@@ -34,7 +34,7 @@ size_after n (asked.Change command) db report (mid, (told, some)) after is = let
 size_after n (asked.Run words program expect) db report (inl (p, (of, (mid, (told, some))))) after is = let both : Some mid ≡ Some after = sym some ∙ is in let same : mid ≡ after = cc in ap (λ (d : Database). d.size) (sym same) ∙ told.size
 size_after n (asked.Run words program expect) db report (inr (fault, (denies, refuses))) after is = let both : Some db ≡ Some after = sym refuses.written ∙ is in let same : db ≡ after = cc in ap (λ (d : Database). d.size) (sym same)
 
-module _ (n : Notation Global) (asked : PageRequest) (keyed : IsKeyed asked) (part : Part) (kind : KeyBytes) (size : PageSize) (image : Database) (key : List ℕ) (key_is : key ≡ key_in asked) (opened : IsOpenedPart key part kind size image) (report : Report) (told : AnswersRequest n asked image report) where
+module _ (n : Notation Global) (asked : PageRequest) (keyed : IsKeyed asked) (part : Part) (kind : KeyBytes) (size : PageSize) (image : Database) (key : List ℕ) (key_is : key ≡ request_key asked) (opened : IsOpenedPart key part kind size image) (report : Report) (told : AnswersRequest n asked image report) where
   module _ (numbers : List ℕ) (db : Database) (pag : List ℕ) (kinds : db.kind ≡ kind) (sizes : db.size ≡ size) (whole : AreWhole part numbers db pag) where
     opened_in : IsOpenedPart key part db.kind db.size image
     opened_in = subst (λ (k : KeyBytes). IsOpenedPart key part k db.size image) (sym kinds) (subst (λ (z : PageSize). IsOpenedPart key part kind z image) (sym sizes) opened)

@@ -28,10 +28,10 @@ IsKeyed (asked.Change command) = HasKey command
 IsKeyed (asked.Run words program expect) = Unit {0}
 
 -- the key
-abbrev pub key_in : PageRequest → List ℕ
-key_in (asked.Fetch command raw) = key_of command
-key_in (asked.Change command) = key_of command
-key_in (asked.Run words program expect) = words.key
+abbrev pub request_key : PageRequest → List ℕ
+request_key (asked.Fetch command raw) = key_of command
+request_key (asked.Change command) = key_of command
+request_key (asked.Run words program expect) = words.key
 
 -- its result on a database
 abbrev pub AnswersRequest : Notation Global → PageRequest → Database → Report → Type 0

@@ -5,7 +5,7 @@ ghost use Rattle.byte_text.specs.Writing.{WritesPart};
 ghost use Rattle.sdbm_addr.specs.Database.{Database};
 ghost use Rattle.dbm_script.specs.Pieces.{pieces_of};
 ghost use Rattle.dbm_script.specs.Lines.{ask_of};
-ghost use Rattle.dbm_script.specs.Shorthand.{spelled};
+ghost use Rattle.dbm_script.specs.Shorthand.{spelled_text};
 ghost use Rattle.dbm_script.specs.Images.{ImageVerdict};
 ghost use Rattle.dbm_script.specs.Script.{AnswersExceed, IsScriptRun, RunsLines, AnswersLine, AddsBytes, stage};
 
@@ -110,9 +110,9 @@ pub fn run_spelled<A: Allocator + Copy>(
     input: &[u8],
     most: u64,
 ) -> Result<ScriptRun<A>, LinesFault>
-    ensures runs { IfOk result (λ run. IsScriptRun A notation.now image (spelled LineKind.OfScript time input.now) run.text.items run.image) }
+    ensures runs { IfOk result (λ run. IsScriptRun A notation.now image (spelled_text LineKind.OfScript time input.now) run.text.items run.image) }
     ensures short { IfOk result (λ run. length run.text.items ≤ most) }
-    ensures long { IsErrOf result LinesFault.OutputTooLong → AnswersExceed A notation.now image (spelled LineKind.OfScript time input.now) most }
+    ensures long { IsErrOf result LinesFault.OutputTooLong → AnswersExceed A notation.now image (spelled_text LineKind.OfScript time input.now) most }
     ensures kept { IfOk result (λ run. (run.image.kind ≡ image.kind) × (run.image.size ≡ image.size)) }
 {
     let mut image = image;

@@ -16,12 +16,12 @@ use Rattle.store_shared.specs.Shared.{IsRefusal}
 use Rattle.worker_pool.specs.declared.task.Task.{Task}
 
 -- the registered program of a number, as its instructions
-abbrev pub code_of : List Accepted → ℕ → List Insn
-code_of programs id = option_map_or (λ (p : Accepted). p.code) (slice_get programs id) []
+abbrev pub code_of_program : List Accepted → ℕ → List Insn
+code_of_program programs id = option_map_or (λ (p : Accepted). p.code) (slice_get programs id) []
 
 -- the command of a task: a run of the program with its number
 abbrev pub run_of : {A : Type 0} → List Accepted → Task A → Command A
-run_of programs task = commands.Run task.key (code_of programs task.prog.0) task.arg task.blank task.now
+run_of programs task = commands.Run task.key (code_of_program programs task.prog.0) task.arg task.blank task.now
 
 -- the program of the task is registered
 abbrev pub IsKnown : {A : Type 0} → List Accepted → Task A → Type 0

@@ -2,7 +2,7 @@
 ghost use Rattle.std.specs.Prelude.{◌≡◌, ◌<◌, ◌≤◌, ◌+◌, IfOk, IfErr, OnErr, Some, length, vec_len, vec_capacity};
 ghost use Rattle.std.specs.List.{slice_get};
 ghost use Rattle.std.specs.Vec.Iter.{into_iter_items};
-ghost use Rattle.worker_pool.specs.Tasks.{run_of, code_of, IsKnown, AreTasksKnown, IsTaskRefusal, IsRefusalFor};
+ghost use Rattle.worker_pool.specs.Tasks.{run_of, code_of_program, IsKnown, AreTasksKnown, IsTaskRefusal, IsRefusalFor};
 ghost use Rattle.worker_pool.specs.Groups.{AreRunsFrom, IsAhead, IsNextIndex, place_behind};
 
 use crate::task::Task;
@@ -196,7 +196,7 @@ fn program_of<A: Allocator + Copy>(
     id: ProgId,
 ) -> Result<Program<A>, AllocError>
     requires { id.0 < length registry.now.programs }
-    ensures { IfOk result (λ program. program ≡ code_of registry.now.programs id.0) }
+    ensures { IfOk result (λ program. program ≡ code_of_program registry.now.programs id.0) }
 {
     let Some(program) = registry.get(id) else {
         unreachable!()

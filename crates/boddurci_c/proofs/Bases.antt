@@ -20,9 +20,9 @@ use Rattle.store_cmd.specs.declared.Command.{Command}
 use Rattle.store_cmd.specs.declared.Command.TheVariants.{Run}
 use Rattle.store_cmd.specs.declared.Reply.{Reply}
 use Rattle.boddurci_handles.specs.declared.status.Status.{Status}
-use Rattle.boddurci_c.specs.Calls.{Does, RunsBy, ReadsUnmarked}
+use Rattle.boddurci_c.specs.Calls.{DoesCommand, RunsBy, ReadsUnmarked}
 use Rattle.boddurci_handles.specs.declared.opened.Db.{Db}
-use Rattle.boddurci_marks.specs.Marks.{DifferOn, DifferOn-prop}
+use Rattle.boddurci_handles.specs.Marks.{DifferOn, DifferOn-prop}
 
 abbrev with : (d : Db) (image : Database) (marks : List ℕ) → DifferOn marks d.base.database image → Db
 with d image marks differ = record { image = image; registry = d.registry; marks = marks; limit = d.limit; base = d.base; differ = differ }
@@ -52,12 +52,12 @@ differ_unless false base image image' marks marks' ok err kept differ = differ_s
 
 -- ---- commands that leave the database unchanged
 
-pub does_again : (result : Result (Reply Global) Status) (command command' : Command Global) (d d1 d' : Db) → d1 ≡ d → command' ≡ command → IfOk result (λ reply. Does d1 command' reply d') → IfOk result (λ reply. Does d command reply d')
+pub does_again : (result : Result (Reply Global) Status) (command command' : Command Global) (d d1 d' : Db) → d1 ≡ d → command' ≡ command → IfOk result (λ reply. DoesCommand d1 command' reply d') → IfOk result (λ reply. DoesCommand d command reply d')
 does_again result command command' d d1 d' same is does =
-    subst (λ (x : Db). IfOk result (λ reply. Does x command reply d')) same (subst (λ (x : Command Global). IfOk result (λ reply. Does d1 x reply d')) is does)
+    subst (λ (x : Db). IfOk result (λ reply. DoesCommand x command reply d')) same (subst (λ (x : Command Global). IfOk result (λ reply. DoesCommand d1 x reply d')) is does)
 
 pub runs_again : (result : Result (Reply Global) Status) (number : ℕ) (key arg : List ℕ) (blank : Option ℕ) (now : ℕ) (d d' : Db) (program : Accepted) → slice_get d.registry.programs number ≡ Some program
-    → IfOk result (λ reply. Does d (Run key program.code arg blank now) reply d') → IfOk result (λ reply. RunsBy number key arg blank now reply d d')
+    → IfOk result (λ reply. DoesCommand d (Run key program.code arg blank now) reply d') → IfOk result (λ reply. RunsBy number key arg blank now reply d d')
 runs_again (Ok reply) number key arg blank now d d' program there does = record { program = program; there = there; does = does }
 runs_again (Err status) number key arg blank now d d' program there does = tt
 

@@ -12,19 +12,19 @@ use Rattle.sdbm_addr.proofs.DatabaseLemmas.{get-map_of}
 use Rattle.boddurci_handles.specs.declared.opened.Db.{Db}
 use Rattle.boddurci_handles.specs.declared.status.Status.{Status}
 use Rattle.boddurci_handles.specs.declared.status.Status.TheVariants.{Closed}
-use Rattle.boddurci_handles.specs.Statuses.{code_of}
-use Rattle.boddurci_c.specs.Calls.{Shows, Why, Denies, IsOpened, open_word}
+use Rattle.boddurci_handles.specs.Statuses.{status_code}
+use Rattle.boddurci_c.specs.Calls.{HandleShows, Why, CallDenies, IsDbOpened, open_word}
 
 -- a call of a closed handle
-pub closed_denies : (P : Db → Status → Type 0) (old new : Option Db) (code : ℕ) → old ≡ None → new ≡ None → code ≡ code_of Closed → Denies P old code new
+pub closed_denies : (P : Db → Status → Type 0) (old new : Option Db) (code : ℕ) → old ≡ None → new ≡ None → code ≡ status_code Closed → CallDenies P old code new
 closed_denies P old new code e e' is = record { status = Closed; code_is = is; same = e' ∙ sym e; why = subst (λ o. Why P o Closed) (sym e) refl }
 
 -- a call that is denied by an open handle's database
-pub denies : (P : Db → Status → Type 0) (old new : Option Db) (code : ℕ) (d d' : Db) (status : Status) → old ≡ Some d → new ≡ Some d' → d' ≡ d → code ≡ code_of status → P d status → Denies P old code new
+pub denies : (P : Db → Status → Type 0) (old new : Option Db) (code : ℕ) (d d' : Db) (status : Status) → old ≡ Some d → new ≡ Some d' → d' ≡ d → code ≡ status_code status → P d status → CallDenies P old code new
 denies P old new code d d' status e e' same is why = record { status = status; code_is = is; same = e' ∙ ap Some same ∙ sym e; why = subst (λ o. Why P o status) (sym e) why }
 
 -- a call that only reads
-pub shows : (P : Db → Type 0) (old new : Option Db) (d d' : Db) → old ≡ Some d → new ≡ Some d' → d' ≡ d → P d → Shows old new P
+pub shows : (P : Db → Type 0) (old new : Option Db) (d d' : Db) → old ≡ Some d → new ≡ Some d' → d' ≡ d → P d → HandleShows old new P
 shows P old new d d' e e' same is = record { db = d; old_is = e; same = e' ∙ ap Some same ∙ sym e; is = is }
 
 -- a handle that is not open
@@ -33,7 +33,7 @@ shut None wrong = refl
 shut (Some d) wrong = absurd (wrong refl)
 
 -- the files of a database have whole pages
-pub whole : (kind : KeyBytes) (size : PageSize) (dir pag : List ℕ) (d : Db) → IsOpened kind size dir pag d → length pag % page_bytes size ≡ 0
+pub whole : (kind : KeyBytes) (size : PageSize) (dir pag : List ℕ) (d : Db) → IsDbOpened kind size dir pag d → length pag % page_bytes size ≡ 0
 whole kind size dir pag d is =
     ap (λ n. n % page_bytes size) (is.spells.pages.long ∙ ap (λ s. is.spells.count * page_bytes s) is.size_is) ∙ mul-mod_left is.spells.count (page_bytes size)
 

@@ -1,7 +1,7 @@
 -- Databases within the longest `.pag`, before and after calls.
 use Rattle.std.proofs.Common.{◌≡◌, ℕ, ◌≤◌, List, [], ◌∷◌, length, inl, inr, sym, subst, arith}
 use Rattle.sdbm_addr.specs.Database.{Database}
-use Rattle.sdbm_saves.specs.declared.disk.File.TheVariants.{Pages}
+use Rattle.sdbm_saves.specs.declared.disk.DiskFile.TheVariants.{Pages}
 use Rattle.sdbm_saves.specs.Redo.{renewed}
 use Rattle.sdbm_saves.specs.Saves.{AreFilesFor, IsSaving}
 use Rattle.sdbm_files.specs.Limits.{pag_limit, FitsFiles}

@@ -28,17 +28,17 @@ use Rattle.bpf_helpers.specs.Runs.{argument_limit}
 use Rattle.store_moves.specs.Acts.{Acts}
 use Rattle.bpf_verify.specs.Verified.{Accepted}
 use Rattle.prog_registry.specs.FaultText.{fault_text}
-use Rattle.prog_registry.specs.Registry.{Registered, Gives, Refuses}
+use Rattle.prog_registry.specs.Registry.{Registered, GivesNumber, RefusesImage}
 use Rattle.prog_registry.specs.declared.registry.ProgId.{ProgId}
 use Rattle.prog_registry.specs.declared.fault.RegFault.{RegFault}
 use Rattle.prog_registry.specs.declared.fault.RegFault.TheVariants as faults
 use Rattle.boddurci_handles.specs.declared.opened.Db.{Db}
 use Rattle.boddurci_handles.specs.declared.status.Status.{Status}
 use Rattle.boddurci_handles.specs.declared.status.Status.TheVariants.{Done, Missing, Exists, Crowded, ShortRoom, Refused, BadText, BadFiles, Changed, Stale, Closed, Open, PairTooLarge, ArgTooLong, NoProgram, NoMemory, TooLong, NoTicket, NoStock}
-use Rattle.boddurci_handles.specs.Statuses.{code_of, status_of}
+use Rattle.boddurci_handles.specs.Statuses.{status_code, status_of_reply}
 use Rattle.boddurci_c.specs.Units.{unit_in, nowhere}
-use Rattle.boddurci_marks.specs.Growth.{FitsWithin, Outgrows}
-use Rattle.boddurci_marks.specs.Marks.{HasMore}
+use Rattle.boddurci_handles.specs.Growth.{FitsWithin, Outgrows}
+use Rattle.boddurci_handles.specs.Marks.{HasMoreMarks}
 
 -- ---- a handle before a call and after it
 
@@ -51,7 +51,7 @@ pub record At (old new : Option Db) (P : Db → Db → Type 0) : Type 0 where
   pub is : P before after
 
 -- The handle was open and has not changed, and P holds of its database.
-pub record Shows (old new : Option Db) (P : Db → Type 0) : Type 0 where
+pub record HandleShows (old new : Option Db) (P : Db → Type 0) : Type 0 where
   pub db : Db
   pub old_is : old ≡ Some db
   pub same : new ≡ old
@@ -63,9 +63,9 @@ Why P None status = status ≡ Closed
 Why P (Some d) status = P d status
 
 -- Nothing is done, for a reason that the status names.
-pub record Denies (P : Db → Status → Type 0) (old : Option Db) (code : ℕ) (new : Option Db) : Type 0 where
+pub record CallDenies (P : Db → Status → Type 0) (old : Option Db) (code : ℕ) (new : Option Db) : Type 0 where
   pub status : Status
-  pub code_is : code ≡ code_of status
+  pub code_is : code ≡ status_code status
   pub same : new ≡ old
   pub why : Why P old status
 
@@ -77,14 +77,14 @@ Never d status = ⊥
 
 -- A command is executed as session 0. The programs, the limit, the base and all marks stay. A database that fits in the longest
 -- `.pag` still fits, and one within the limit stays within it.
-pub record Does (d : Db) (command : Command Global) (reply : Reply Global) (d' : Db) : Type 0 where
+pub record DoesCommand (d : Db) (command : Command Global) (reply : Reply Global) (d' : Db) : Type 0 where
   pub acts : Acts d.image (record { session = 0; command = command; reply = reply }) d'.image
   pub fits : FitsFiles d.image → FitsFiles d'.image
   pub within : FitsWithin d.limit d.image → FitsWithin d.limit d'.image
   pub registry : d'.registry ≡ d.registry
   pub limit : d'.limit ≡ d.limit
   pub base : d'.base ≡ d.base
-  pub marks : HasMore d.marks d'.marks
+  pub marks : HasMoreMarks d.marks d'.marks
 
 -- a command's size is invalid; or its size is valid, and memory ran out or `.pag` would be too long
 abbrev pub DeniesBy : Db → Command Global → Status → Type 0
@@ -109,14 +109,14 @@ DeniesBy d command NoTicket = ⊥
 DeniesBy d command NoStock = ⊥
 
 -- a command is executed, and the status is that of its reply
-pub record Answers (command : Command Global) (old : Option Db) (code : ℕ) (new : Option Db) : Type 0 where
+pub record CallAnswers (command : Command Global) (old : Option Db) (code : ℕ) (new : Option Db) : Type 0 where
   pub reply : Reply Global
-  pub code_is : code ≡ code_of (status_of reply)
-  pub does : At old new (λ d d'. Does d command reply d')
+  pub code_is : code ≡ status_code (status_of_reply reply)
+  pub does : At old new (λ d d'. DoesCommand d command reply d')
 
 -- the answer of a call to a command
-abbrev pub Says : Command Global → Option Db → ℕ → Option Db → Type 0
-Says command old code new = Answers command old code new ⊎ Denies (λ d status. DeniesBy d command status) old code new
+abbrev pub CallSays : Command Global → Option Db → ℕ → Option Db → Type 0
+CallSays command old code new = CallAnswers command old code new ⊎ CallDenies (λ d status. DeniesBy d command status) old code new
 
 -- the mode of a store whose key exists
 abbrev pub mode_for : ℕ → Mode
@@ -125,14 +125,14 @@ mode_for replace = cond (replace == 0) Insert Replace
 -- ---- buffers
 
 -- bytes or numbers are written to the front of a buffer; the rest is unchanged
-pub record IsFilled {X : Type 0} (bytes old new : List X) : Type 0 where
+pub record IsRoomFilled {X : Type 0} (bytes old new : List X) : Type 0 where
   pub fits : length bytes ≤ length old
   pub filled : take (length bytes) new ≡ bytes
   pub rest : drop (length bytes) new ≡ drop (length bytes) old
 
 -- They are written, or the buffer is too short and unchanged. Their number is set either way.
 abbrev pub IsCopied : {X : Type 0} → List X → List X → List X → ℕ → Status → Type 0
-IsCopied bytes old new len Done = (len ≡ length bytes) × IsFilled bytes old new
+IsCopied bytes old new len Done = (len ≡ length bytes) × IsRoomFilled bytes old new
 IsCopied bytes old new len Missing = ⊥
 IsCopied bytes old new len Exists = ⊥
 IsCopied bytes old new len Crowded = ⊥
@@ -153,14 +153,14 @@ IsCopied bytes old new len NoTicket = ⊥
 IsCopied bytes old new len NoStock = ⊥
 
 -- The text of a fault is written to a buffer, or the buffer is too short for it.
-pub record IsTold (text old new : List ℕ) (len : ℕ) : Type 0 where
+pub record IsFaultTold (text old new : List ℕ) (len : ℕ) : Type 0 where
   pub status : Status
   pub copied : IsCopied text old new len status
 
 -- A fault is reported by its status and its text. If there is no memory for the text, the status says that, and no text is
 -- written.
 abbrev pub IsToldAs : Status → List ℕ → List ℕ → List ℕ → ℕ → Status → Type 0
-IsToldAs status text old new len result = ((result ≡ status) × IsTold text old new len) ⊎ ((result ≡ NoMemory) × ((new ≡ old) × (len ≡ 0)))
+IsToldAs status text old new len result = ((result ≡ status) × IsFaultTold text old new len) ⊎ ((result ≡ NoMemory) × ((new ≡ old) × (len ≡ 0)))
 
 -- ---- a fetch
 
@@ -172,14 +172,14 @@ FetchesIn key d status room_old room_new len_old len =
 
 pub record Fetches (key : List ℕ) (old : Option Db) (code : ℕ) (new : Option Db) (room_old room_new : List ℕ) (len_old len : ℕ) : Type 0 where
   pub status : Status
-  pub code_is : code ≡ code_of status
-  pub told : Shows old new (λ d. FetchesIn key d status room_old room_new len_old len)
+  pub code_is : code ≡ status_code status
+  pub told : HandleShows old new (λ d. FetchesIn key d status room_old room_new len_old len)
 
 -- ---- a count
 
-pub record Counts (old : Option Db) (code : ℕ) (new : Option Db) (count : ℕ) : Type 0 where
-  pub code_is : code ≡ code_of Done
-  pub is : Shows old new (λ d. count ≡ map.len (map_of d.image))
+pub record CountsPairs (old : Option Db) (code : ℕ) (new : Option Db) (count : ℕ) : Type 0 where
+  pub code_is : code ≡ status_code Done
+  pub is : HandleShows old new (λ d. count ≡ map.len (map_of d.image))
 
 -- ---- programs
 
@@ -192,8 +192,8 @@ pub record IsSameBesidePrograms (d d' : Db) : Type 0 where
 
 -- a program image gets its number, or is refused for a fault; everything else stays
 abbrev pub Submits : List ℕ → Result ProgId RegFault → Db → Db → Type 0
-Submits image (Ok id) d d' = Gives d.registry image id.0 d'.registry × IsSameBesidePrograms d d'
-Submits image (Err fault) d d' = Refuses d.registry image fault d'.registry × IsSameBesidePrograms d d'
+Submits image (Ok id) d d' = GivesNumber d.registry image id.0 d'.registry × IsSameBesidePrograms d d'
+Submits image (Err fault) d d' = RefusesImage d.registry image fault d'.registry × IsSameBesidePrograms d d'
 
 -- the status of a fault
 abbrev pub status_of_fault : RegFault → Status
@@ -203,8 +203,8 @@ status_of_fault (faults.Verify fault) = Refused
 status_of_fault faults.Full = Refused
 
 -- a program image has a number
-pub record Numbers (image : List ℕ) (old : Option Db) (code : ℕ) (new : Option Db) (id : ℕ) : Type 0 where
-  pub code_is : code ≡ code_of Done
+pub record NumbersProgram (image : List ℕ) (old : Option Db) (code : ℕ) (new : Option Db) (id : ℕ) : Type 0 where
+  pub code_is : code ≡ status_code Done
   pub submits : At old new (Submits image (Ok (record { 0 = id })))
 
 -- a program image is refused; the unit and the text of the fault are reported
@@ -213,7 +213,7 @@ pub record Rejects (image : List ℕ) (old : Option Db) (code : ℕ) (new : Opti
   pub unit_is : unit ≡ unwrap_or (unit_in fault) nowhere
   pub submits : At old new (Submits image (Err fault))
   pub status : Status
-  pub code_is : code ≡ code_of status
+  pub code_is : code ≡ status_code status
   pub text : IsToldAs (status_of_fault fault) (fault_text fault) room_old room_new len status
 
 -- the blank of a run
@@ -224,7 +224,7 @@ blank_for has_blank len = cond (has_blank == 0) None (Some len)
 pub record RunsBy (number : ℕ) (key arg : List ℕ) (blank : Option ℕ) (now : ℕ) (reply : Reply Global) (d d' : Db) : Type 0 where
   pub program : Accepted
   pub there : slice_get d.registry.programs number ≡ Some program
-  pub does : Does d (commands.Run key program.code arg blank now) reply d'
+  pub does : DoesCommand d (commands.Run key program.code arg blank now) reply d'
 
 -- A run is denied: there is no such program; or otherwise its sizes are invalid; or they are valid, and memory ran out or
 -- `.pag` would be too long.
@@ -275,28 +275,28 @@ DeniesAsk number key arg blank now d NoTicket = ⊥
 DeniesAsk number key arg blank now d NoStock = ⊥
 
 -- the exit number of a run and its reply word; zeros if it did not run
-abbrev pub IsEnd : Reply Global → ℕ → ℕ → Type 0
-IsEnd (replies.Ran c w) code word = (code ≡ c) × (word ≡ w)
-IsEnd (replies.Found value) code word = (code ≡ 0) × (word ≡ 0)
-IsEnd replies.Missing code word = (code ≡ 0) × (word ≡ 0)
-IsEnd replies.Stored code word = (code ≡ 0) × (word ≡ 0)
-IsEnd replies.Exists code word = (code ≡ 0) × (word ≡ 0)
-IsEnd replies.Crowded code word = (code ≡ 0) × (word ≡ 0)
-IsEnd replies.Deleted code word = (code ≡ 0) × (word ≡ 0)
-IsEnd (replies.Count n) code word = (code ≡ 0) × (word ≡ 0)
+abbrev pub IsRunEnd : Reply Global → ℕ → ℕ → Type 0
+IsRunEnd (replies.Ran c w) code word = (code ≡ c) × (word ≡ w)
+IsRunEnd (replies.Found value) code word = (code ≡ 0) × (word ≡ 0)
+IsRunEnd replies.Missing code word = (code ≡ 0) × (word ≡ 0)
+IsRunEnd replies.Stored code word = (code ≡ 0) × (word ≡ 0)
+IsRunEnd replies.Exists code word = (code ≡ 0) × (word ≡ 0)
+IsRunEnd replies.Crowded code word = (code ≡ 0) × (word ≡ 0)
+IsRunEnd replies.Deleted code word = (code ≡ 0) × (word ≡ 0)
+IsRunEnd (replies.Count n) code word = (code ≡ 0) × (word ≡ 0)
 
-pub record Runs (number : ℕ) (key arg : List ℕ) (blank : Option ℕ) (now : ℕ) (old : Option Db) (code : ℕ) (new : Option Db) (end word : ℕ) : Type 0 where
+pub record RunsProgram (number : ℕ) (key arg : List ℕ) (blank : Option ℕ) (now : ℕ) (old : Option Db) (code : ℕ) (new : Option Db) (end word : ℕ) : Type 0 where
   pub reply : Reply Global
-  pub code_is : code ≡ code_of (status_of reply)
+  pub code_is : code ≡ status_code (status_of_reply reply)
   pub does : At old new (RunsBy number key arg blank now reply)
-  pub told : IsEnd reply end word
+  pub told : IsRunEnd reply end word
 
 -- ---- files
 
 -- The bytes of both files are written to their buffers, or one buffer is too short and both are unchanged. Both lengths are set
 -- either way.
 abbrev pub AreCopied : List ℕ → List ℕ → List ℕ → List ℕ → List ℕ → List ℕ → Status → Type 0
-AreCopied dir pag dir_old dir_new pag_old pag_new Done = IsFilled dir dir_old dir_new × IsFilled pag pag_old pag_new
+AreCopied dir pag dir_old dir_new pag_old pag_new Done = IsRoomFilled dir dir_old dir_new × IsRoomFilled pag pag_old pag_new
 AreCopied dir pag dir_old dir_new pag_old pag_new Missing = ⊥
 AreCopied dir pag dir_old dir_new pag_old pag_new Exists = ⊥
 AreCopied dir pag dir_old dir_new pag_old pag_new Crowded = ⊥
@@ -322,14 +322,14 @@ pub record HasFiles (dir pag : List ℕ) (d : Db) : Type 0 where
   pub short : FitsFiles d.image → length pag ≤ pag_limit
   pub spells : SpellsDatabase d.image dir pag
 
-pub record Writes (old : Option Db) (code : ℕ) (new : Option Db) (dir_old dir_new pag_old pag_new : List ℕ) (dir_len pag_len : ℕ) : Type 0 where
+pub record WritesFiles (old : Option Db) (code : ℕ) (new : Option Db) (dir_old dir_new pag_old pag_new : List ℕ) (dir_len pag_len : ℕ) : Type 0 where
   pub dir : List ℕ
   pub pag : List ℕ
-  pub has : Shows old new (HasFiles dir pag)
+  pub has : HandleShows old new (HasFiles dir pag)
   pub dir_len_is : dir_len ≡ length dir
   pub pag_len_is : pag_len ≡ length pag
   pub status : Status
-  pub code_is : code ≡ code_of status
+  pub code_is : code ≡ status_code status
   pub copied : AreCopied dir pag dir_old dir_new pag_old pag_new status
 
 -- memory ran out
@@ -339,10 +339,10 @@ LacksMemory d status = status ≡ NoMemory
 -- ---- marks
 
 -- the numbers of the pages that may have changed are written to a buffer, or the buffer is too short
-pub record Lists (old : Option Db) (code : ℕ) (new : Option Db) (numbers_old numbers_new : List ℕ) (count : ℕ) : Type 0 where
+pub record ListsChanged (old : Option Db) (code : ℕ) (new : Option Db) (numbers_old numbers_new : List ℕ) (count : ℕ) : Type 0 where
   pub status : Status
-  pub code_is : code ≡ code_of status
-  pub is : Shows old new (λ d. IsCopied d.marks numbers_old numbers_new count status)
+  pub code_is : code ≡ status_code status
+  pub is : HandleShows old new (λ d. IsCopied d.marks numbers_old numbers_new count status)
 
 -- these pages are marked in addition to the earlier ones, and everything else stays
 pub record HasMarked (numbers : List ℕ) (d d' : Db) : Type 0 where
@@ -350,11 +350,11 @@ pub record HasMarked (numbers : List ℕ) (d d' : Db) : Type 0 where
   pub registry : d'.registry ≡ d.registry
   pub limit : d'.limit ≡ d.limit
   pub base : d'.base ≡ d.base
-  pub marks : HasMore d.marks d'.marks
+  pub marks : HasMoreMarks d.marks d'.marks
   pub each : (n : ℕ) → Contains numbers n → Contains d'.marks n
 
 pub record Remarks (numbers : List ℕ) (old : Option Db) (code : ℕ) (new : Option Db) : Type 0 where
-  pub code_is : code ≡ code_of Done
+  pub code_is : code ≡ status_code Done
   pub is : At old new (HasMarked numbers)
 
 -- ---- a limit
@@ -367,8 +367,8 @@ pub record HasLimit (bytes : ℕ) (d d' : Db) : Type 0 where
   pub marks : d'.marks ≡ d.marks
   pub base : d'.base ≡ d.base
 
-pub record Limits (bytes : ℕ) (old : Option Db) (code : ℕ) (new : Option Db) : Type 0 where
-  pub code_is : code ≡ code_of Done
+pub record SetsLimit (bytes : ℕ) (old : Option Db) (code : ℕ) (new : Option Db) : Type 0 where
+  pub code_is : code ≡ status_code Done
   pub is : At old new (HasLimit bytes)
 
 -- ---- opening
@@ -386,7 +386,7 @@ size_for wide = cond (wide == 0) Small Wide
 
 -- the unique database in the bytes of both files, without programs; its `.pag` may grow to the longest. It is its own base, and
 -- the file has each unmarked page exactly as a save would write it.
-pub record IsOpened (kind : KeyBytes) (size : PageSize) (dir pag : List ℕ) (d : Db) : Type 0 where
+pub record IsDbOpened (kind : KeyBytes) (size : PageSize) (dir pag : List ℕ) (d : Db) : Type 0 where
   pub spells : SpellsDatabase d.image dir pag
   pub kind_is : d.image.kind ≡ kind
   pub size_is : d.image.size ≡ size
@@ -402,12 +402,12 @@ abbrev pub ReadsUnmarked : Database → List ℕ → List ℕ → Type 0
 ReadsUnmarked db pag marks = (n : ℕ) → n < length pag / page_bytes db.size → (Contains marks n → ⊥) → ReadsPage db.size pag n (bytes_of_page db.size (pairs_at db n))
 
 -- a closed handle was opened
-pub record Opens (kind : KeyBytes) (size : PageSize) (dir pag : List ℕ) (old : Option Db) (code : ℕ) (new : Option Db) : Type 0 where
+pub record OpensHandle (kind : KeyBytes) (size : PageSize) (dir pag : List ℕ) (old : Option Db) (code : ℕ) (new : Option Db) : Type 0 where
   pub db : Db
-  pub code_is : code ≡ code_of Done
+  pub code_is : code ≡ status_code Done
   pub old_is : old ≡ None
   pub new_is : new ≡ Some db
-  pub is : IsOpened kind size dir pag db
+  pub is : IsDbOpened kind size dir pag db
 
 -- the status of a fault in the files
 abbrev pub status_of_open : OpenFault → Status
@@ -421,7 +421,7 @@ status_of_open open_faults.NoMemory = NoMemory
 pub record Faults (kind : KeyBytes) (size : PageSize) (dir pag : List ℕ) (old : Option Db) (code : ℕ) (new : Option Db) (room_old room_new : List ℕ) (len : ℕ) : Type 0 where
   pub fault : OpenFault
   pub status : Status
-  pub code_is : code ≡ code_of status
+  pub code_is : code ≡ status_code status
   pub closed : old ≡ None
   pub same : new ≡ None
   pub is : IsOpenFault kind size dir pag fault
@@ -431,11 +431,11 @@ pub record Faults (kind : KeyBytes) (size : PageSize) (dir pag : List ℕ) (old 
 -- nothing is opened: memory ran out, or the handle is already open
 pub record OpensNot (old : Option Db) (code : ℕ) (new : Option Db) : Type 0 where
   pub same : new ≡ old
-  pub why : ((code ≡ code_of NoMemory) × (old ≡ None)) ⊎ ((code ≡ code_of Open) × IsSome old)
+  pub why : ((code ≡ status_code NoMemory) × (old ≡ None)) ⊎ ((code ≡ status_code Open) × IsSome old)
 
 abbrev pub OpensOr : KeyBytes → PageSize → List ℕ → List ℕ → Option Db → ℕ → Option Db → List ℕ → List ℕ → ℕ → ℕ → Type 0
 OpensOr kind size dir pag old code new room_old room_new len_old len =
-    Opens kind size dir pag old code new
+    OpensHandle kind size dir pag old code new
     ⊎ (Faults kind size dir pag old code new room_old room_new len ⊎ (OpensNot old code new × ((room_new ≡ room_old) × (len ≡ len_old))))
 
 -- 1 if a handle is open, otherwise 0

@@ -7,8 +7,8 @@ use Rattle.store_parts.specs.Parts.{IsOpenedPart, IsPlannedPart}
 use Rattle.boddurci_handles.specs.declared.opened.Db.{Db}
 use Rattle.boddurci_handles.specs.declared.status.Status.{Status}
 use Rattle.boddurci_handles.specs.declared.status.Status.TheVariants.{Done, BadFiles, Stale}
-use Rattle.boddurci_handles.specs.Statuses.{code_of}
-use Rattle.boddurci_c.specs.Calls.{At, Shows, IsCopied}
+use Rattle.boddurci_handles.specs.Statuses.{status_code}
+use Rattle.boddurci_c.specs.Calls.{At, HandleShows, IsCopied}
 
 -- the part that was read
 abbrev pub part_for : Bor (List ℕ) → ℕ → ℕ → Bor (List ℕ) → Part
@@ -26,8 +26,8 @@ pub record HasTurned (key : List ℕ) (part : Part) (d d' : Db) : Type 0 where
 abbrev pub TurnsTo : List ℕ → Part → Db → Status → Db → Type 0
 TurnsTo key part d status d' = ((status ≡ Done) × HasTurned key part d d') ⊎ ((status ≡ BadFiles) × (d' ≡ d))
 
-pub record Turns (key : List ℕ) (part : Part) (old : Option Db) (code : ℕ) (new : Option Db) : Type 0 where
-  pub code_is : code ≡ code_of Done
+pub record TurnsPage (key : List ℕ) (part : Part) (old : Option Db) (code : ℕ) (new : Option Db) : Type 0 where
+  pub code_is : code ≡ status_code Done
   pub is : At old new (HasTurned key part)
 
 -- the page is not enough
@@ -54,8 +54,8 @@ pub record PlansPage (part : Part) (d : Db) (numbers_old numbers_new : List ℕ)
 
 pub record PlansPageOf (part : Part) (old : Option Db) (code : ℕ) (new : Option Db) (numbers_old numbers_new : List ℕ) (count : ℕ) (room_old room_new : List ℕ) (len : ℕ) : Type 0 where
   pub status : Status
-  pub code_is : code ≡ code_of status
-  pub is : Shows old new (λ d. PlansPage part d numbers_old numbers_new count room_old room_new len status)
+  pub code_is : code ≡ status_code status
+  pub is : HandleShows old new (λ d. PlansPage part d numbers_old numbers_new count room_old room_new len status)
 
 -- the page is not enough for a plan
 abbrev pub LacksPlan : Db → Status → Type 0

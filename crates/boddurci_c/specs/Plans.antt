@@ -5,15 +5,15 @@ use Rattle.sdbm_addr.specs.Layout.{bytes_of_page}
 use Rattle.sdbm_addr.specs.Database.{Database, pairs_at}
 use Rattle.sdbm_saves.specs.Parts.{ReadsPage, ReadPages}
 use Rattle.sdbm_files.specs.Limits.{pag_limit, FitsFiles}
-use Rattle.sdbm_saves.specs.declared.disk.File.TheVariants.{Pages}
+use Rattle.sdbm_saves.specs.declared.disk.DiskFile.TheVariants.{Pages}
 use Rattle.sdbm_saves.specs.Redo.{renewed}
 use Rattle.sdbm_saves.specs.Saves.{AreFilesFor, IsSaving, IsTooLong}
 use Rattle.boddurci_handles.specs.declared.opened.Db.{Db}
 use Rattle.boddurci_handles.specs.declared.status.Status.{Status}
 use Rattle.boddurci_handles.specs.declared.status.Status.TheVariants.{Done, ShortRoom, Stale, TooLong, NoMemory}
-use Rattle.boddurci_handles.specs.Statuses.{code_of}
+use Rattle.boddurci_handles.specs.Statuses.{status_code}
 use Rattle.boddurci_c.specs.Calls.{At, IsCopied}
-use Rattle.boddurci_marks.specs.Marks.{AreAmong}
+use Rattle.boddurci_handles.specs.Marks.{AreAmong}
 
 -- the `.pag` after a plan; unchanged if the plan is empty
 abbrev pub pages_left : List ℕ → List ℕ → List ℕ
@@ -38,7 +38,7 @@ abbrev pub PlansFor : List ℕ → ℕ → List ℕ → List ℕ → Db → List
 PlansFor dir pag_length numbers pages d plan = (pag : List ℕ) → IsReadBeside d.base.database pag_length numbers pages pag → IsPlanFor d.image plan dir pag
 
 -- the database is its own base, and everything else stays
-pub record IsPlanned (d d' : Db) : Type 0 where
+pub record IsOwnBase (d d' : Db) : Type 0 where
   pub image : d'.image ≡ d.image
   pub registry : d'.registry ≡ d.registry
   pub limit : d'.limit ≡ d.limit
@@ -55,7 +55,7 @@ pub record PlansOn (dir : List ℕ) (pag_length : ℕ) (numbers pages : List ℕ
   pub read : HasRead d numbers pages
   pub is : PlansFor dir pag_length numbers pages d plan
   pub copied : IsCopied plan room_old room_new len status
-  pub planned : status ≡ Done → IsPlanned d d'
+  pub planned : status ≡ Done → IsOwnBase d d'
   pub stays : status ≡ ShortRoom → d' ≡ d
 
 -- Why there is no plan: a marked page is not among the numbers, or the number of bytes does not match them; or a file is or
@@ -69,5 +69,5 @@ DeniesPlan dir pag_length numbers pages d status =
 -- a plan of an open handle's database
 pub record Plans (old : Option Db) (code : ℕ) (new : Option Db) (dir : List ℕ) (pag_length : ℕ) (numbers pages room_old room_new : List ℕ) (len : ℕ) : Type 0 where
   pub status : Status
-  pub code_is : code ≡ code_of status
+  pub code_is : code ≡ status_code status
   pub is : At old new (λ d d'. PlansOn dir pag_length numbers pages d room_old room_new len status d')

@@ -4,13 +4,13 @@ use Rattle.sdbm_addr.specs.declared.PageSize.{PageSize}
 use Rattle.boddurci_handles.specs.declared.opened.Db.{Db}
 use Rattle.boddurci_handles.specs.declared.pieces.Pieces.{Pieces}
 use Rattle.boddurci_handles.specs.declared.status.Status.{Status}
-use Rattle.boddurci_handles.specs.Statuses.{code_of}
+use Rattle.boddurci_handles.specs.Statuses.{status_code}
 use Rattle.boddurci_handles.specs.Pieces.{ReadsPiece}
 
 -- the next piece is read, or not
 pub record ReadsOr (size : PageSize) (piece : List ℕ) (old : Option Pieces) (code : ℕ) (new : Option Pieces) : Type 0 where
   pub status : Status
-  pub code_is : code ≡ code_of status
+  pub code_is : code ≡ status_code status
   pub is : ReadsPiece size piece old new status
 
 -- A reading is free if its pages were opened, and otherwise unchanged.

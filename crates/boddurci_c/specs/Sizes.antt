@@ -4,17 +4,17 @@ use Rattle.sdbm_addr.specs.declared.KeyBytes.{KeyBytes}
 use Rattle.sdbm_sizes.specs.Sizes.{FileLooksSmall, SpellsNoSmall}
 use Rattle.boddurci_handles.specs.declared.status.Status.{Status}
 use Rattle.boddurci_handles.specs.declared.status.Status.TheVariants.{Done, NoMemory}
-use Rattle.boddurci_handles.specs.Statuses.{code_of}
+use Rattle.boddurci_handles.specs.Statuses.{status_code}
 
 -- 1 if they look like that; 0 if not, and then they contain no database of small pages
-abbrev pub Looks : KeyBytes → List ℕ → List ℕ → ℕ → Type 0
-Looks kind dir pag looks = ((looks ≡ 1) × FileLooksSmall kind dir pag) ⊎ ((looks ≡ 0) × ((FileLooksSmall kind dir pag → ⊥) × SpellsNoSmall kind dir pag))
+abbrev pub IsSmallLook : KeyBytes → List ℕ → List ℕ → ℕ → Type 0
+IsSmallLook kind dir pag looks = ((looks ≡ 1) × FileLooksSmall kind dir pag) ⊎ ((looks ≡ 0) × ((FileLooksSmall kind dir pag → ⊥) × SpellsNoSmall kind dir pag))
 
 -- that number is set; or memory ran out, and it is unchanged
 abbrev pub IsLook : KeyBytes → List ℕ → List ℕ → ℕ → ℕ → Status → Type 0
-IsLook kind dir pag looks_old looks status = ((status ≡ Done) × Looks kind dir pag looks) ⊎ ((status ≡ NoMemory) × (looks ≡ looks_old))
+IsLook kind dir pag looks_old looks status = ((status ≡ Done) × IsSmallLook kind dir pag looks) ⊎ ((status ≡ NoMemory) × (looks ≡ looks_old))
 
 pub record LooksOr (kind : KeyBytes) (dir pag : List ℕ) (code looks_old looks : ℕ) : Type 0 where
   pub status : Status
-  pub code_is : code ≡ code_of status
+  pub code_is : code ≡ status_code status
   pub is : IsLook kind dir pag looks_old looks status

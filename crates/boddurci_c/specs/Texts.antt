@@ -10,12 +10,12 @@ use Rattle.bpf_asm.specs.declared.fault.FaultKind.TheVariants as kinds
 use Rattle.boddurci_c.specs.declared.texts.TextFault.{TextFault}
 use Rattle.boddurci_c.specs.declared.texts.TextFault.TheVariants.{NotText, Line}
 use Rattle.boddurci_c.specs.Calls.{IsCopied, IsToldAs}
-use Rattle.boddurci_handles.specs.Statuses.{code_of}
+use Rattle.boddurci_handles.specs.Statuses.{status_code}
 use Rattle.boddurci_handles.specs.declared.status.Status.{Status}
 use Rattle.boddurci_handles.specs.declared.status.Status.TheVariants.{BadText, NoMemory}
 
 -- the program image of the unique code that the text denotes
-pub record IsTextImage (text image : List ℕ) : Type 0 where
+pub record IsTextAssembled (text image : List ℕ) : Type 0 where
   pub code : List Insn
   pub denotes : Denotes text code
   pub only : IsOnlyCode text code
@@ -43,23 +43,23 @@ abbrev pub line_of : TextFault → ℕ
 line_of NotText = 0
 line_of (Line fault) = fault.line
 
-abbrev pub text_of : TextFault → List ℕ
-text_of NotText = codes "NotText"
-text_of (Line fault) = fault_text fault
+abbrev pub text_of_fault : TextFault → List ℕ
+text_of_fault NotText = codes "NotText"
+text_of_fault (Line fault) = fault_text fault
 
 -- a text has no program image; the line and the text of the fault are reported
 pub record Garbles (text : List ℕ) (code : ℕ) (line : ℕ) (room_old room_new : List ℕ) (len : ℕ) : Type 0 where
   pub fault : TextFault
   pub is : IsTextFault text fault
   pub status : Status
-  pub code_is : code ≡ code_of status
+  pub code_is : code ≡ status_code status
   pub line_is : line ≡ line_of fault
-  pub told : IsToldAs (status_of_text fault) (text_of fault) room_old room_new len status
+  pub told : IsToldAs (status_of_text fault) (text_of_fault fault) room_old room_new len status
 
 -- the program image of a text is written to a buffer, or the buffer is too short
 pub record Assembles (text : List ℕ) (code : ℕ) (room_old room_new : List ℕ) (len : ℕ) : Type 0 where
   pub image : List ℕ
-  pub is : IsTextImage text image
+  pub is : IsTextAssembled text image
   pub status : Status
-  pub code_is : code ≡ code_of status
+  pub code_is : code ≡ status_code status
   pub copied : IsCopied image room_old room_new len status

@@ -7,8 +7,8 @@ use Rattle.bpf_verify.specs.Verified.{Accepted}
 use Rattle.boddurci_handles.specs.declared.opened.Db.{Db}
 use Rattle.boddurci_handles.specs.declared.status.Status.{Status}
 use Rattle.boddurci_handles.specs.declared.status.Status.TheVariants.{Done, NoMemory, NoTicket}
-use Rattle.boddurci_handles.specs.Statuses.{code_of, status_of}
-use Rattle.boddurci_c.specs.Calls.{At, Shows, Denies, DeniesAsk, Does, IsEnd}
+use Rattle.boddurci_handles.specs.Statuses.{status_code, status_of_reply}
+use Rattle.boddurci_c.specs.Calls.{At, HandleShows, CallDenies, DeniesAsk, DoesCommand, IsRunEnd}
 use Rattle.boddurci_handles.specs.Asked.{Asked, IsAskedOf, DeniesFinish, worked_out}
 
 -- the run of the program with a number is requested of a database
@@ -18,34 +18,34 @@ pub record IsRunAsked (number : ℕ) (key arg : List ℕ) (blank : Option ℕ) (
   pub asked : IsAskedOf d.image (commands.Run key program.code arg blank now) a
 
 -- the run is put under the ticket
-pub record Asks (number : ℕ) (key arg : List ℕ) (blank : Option ℕ) (now : ℕ) (old : Option Db) (code : ℕ) (new : Option Db) (ticket : Option Asked) : Type 0 where
-  pub code_is : code ≡ code_of Done
+pub record AsksRun (number : ℕ) (key arg : List ℕ) (blank : Option ℕ) (now : ℕ) (old : Option Db) (code : ℕ) (new : Option Db) (ticket : Option Asked) : Type 0 where
+  pub code_is : code ≡ status_code Done
   pub asked : Asked
   pub ticket_is : ticket ≡ Some asked
-  pub is : Shows old new (λ d. IsRunAsked number key arg blank now d asked)
+  pub is : HandleShows old new (λ d. IsRunAsked number key arg blank now d asked)
 
 -- the run is not requested, and the ticket is unchanged
 pub record AsksNot (number : ℕ) (key arg : List ℕ) (blank : Option ℕ) (now : ℕ) (old : Option Db) (code : ℕ) (new : Option Db) (ticket_old ticket_new : Option Asked) : Type 0 where
   pub same : ticket_new ≡ ticket_old
-  pub denied : Denies (DeniesAsk number key arg blank now) old code new
+  pub denied : CallDenies (DeniesAsk number key arg blank now) old code new
 
 -- the run under a ticket is computed; or the ticket is free, or memory ran out, and it is unchanged
 pub record Works (old : Option Asked) (code : ℕ) (new : Option Asked) : Type 0 where
   pub asked : Asked
-  pub code_is : code ≡ code_of Done
+  pub code_is : code ≡ status_code Done
   pub old_is : old ≡ Some asked
   pub new_is : new ≡ Some (worked_out asked)
 
 pub record WorksNot (old : Option Asked) (code : ℕ) (new : Option Asked) : Type 0 where
   pub same : new ≡ old
-  pub why : ((code ≡ code_of NoTicket) × (old ≡ None)) ⊎ ((code ≡ code_of NoMemory) × IsSome old)
+  pub why : ((code ≡ status_code NoTicket) × (old ≡ None)) ⊎ ((code ≡ status_code NoMemory) × IsSome old)
 
 -- the computed run of a ticket is executed as one command on the current database, and the ticket is free
 pub record FinishesOn (d : Db) (old : Option Asked) (reply : Reply Global) (d' : Db) (new : Option Asked) : Type 0 where
   pub asked : Asked
   pub old_is : old ≡ Some asked
   pub worked : asked.is_worked ≡ true
-  pub does : Does d asked.command reply d'
+  pub does : DoesCommand d asked.command reply d'
   pub free : new ≡ None
 
 -- why the run is not finished
@@ -53,13 +53,13 @@ abbrev pub WhyNot : Option Asked → Db → Status → Type 0
 WhyNot None d status = status ≡ NoTicket
 WhyNot (Some a) d status = DeniesFinish d.limit d.image a status
 
-pub record Finishes (old : Option Db) (code : ℕ) (new : Option Db) (ticket_old ticket_new : Option Asked) (end word : ℕ) : Type 0 where
+pub record FinishesTicket (old : Option Db) (code : ℕ) (new : Option Db) (ticket_old ticket_new : Option Asked) (end word : ℕ) : Type 0 where
   pub reply : Reply Global
-  pub code_is : code ≡ code_of (status_of reply)
+  pub code_is : code ≡ status_code (status_of_reply reply)
   pub does : At old new (λ d d'. FinishesOn d ticket_old reply d' ticket_new)
-  pub told : IsEnd reply end word
+  pub told : IsRunEnd reply end word
 
 -- nothing is finished, and the ticket is unchanged
 pub record FinishesNot (old : Option Db) (code : ℕ) (new : Option Db) (ticket_old ticket_new : Option Asked) : Type 0 where
   pub same : ticket_new ≡ ticket_old
-  pub denied : Denies (WhyNot ticket_old) old code new
+  pub denied : CallDenies (WhyNot ticket_old) old code new

@@ -7,8 +7,8 @@ use Rattle.boddurci_c.specs.declared.turns.Cursor.{Cursor}
 use Rattle.boddurci_handles.specs.declared.status.Status.{Status}
 use Rattle.boddurci_handles.specs.declared.status.Status.TheVariants.{Done, Missing, ShortRoom}
 use Rattle.boddurci_handles.specs.declared.opened.Db.{Db}
-use Rattle.boddurci_handles.specs.Statuses.{code_of}
-use Rattle.boddurci_c.specs.Calls.{AreCopied, Shows}
+use Rattle.boddurci_handles.specs.Statuses.{status_code}
+use Rattle.boddurci_c.specs.Calls.{AreCopied, HandleShows}
 
 -- before the first pair; the end is the number above all pages that have pairs
 pub record IsStart (db : Database) (cursor : Cursor) : Type 0 where
@@ -29,50 +29,50 @@ pub record IsFirstFrom (db : Database) (from end n : ℕ) : Type 0 where
 
 -- Pair i of page n is the next pair: the pair at the cursor, or, if its page has no such pair, the first pair of the next page
 -- that has pairs.
-pub record IsNext (db : Database) (cursor : Cursor) (n i : ℕ) : Type 0 where
+pub record IsNextPair (db : Database) (cursor : Cursor) (n i : ℕ) : Type 0 where
   pub before : cursor.page < cursor.end
   pub there : i < length (pairs_at db n)
   pub at : ((n ≡ cursor.page) × (i ≡ cursor.pair))
       ⊎ ((length (pairs_at db cursor.page) ≤ cursor.pair) × ((i ≡ 0) × IsFirstFrom db (cursor.page + 1) cursor.end n))
 
 -- no pair is left
-abbrev pub IsOver : Database → Cursor → Type 0
-IsOver db cursor = (cursor.end ≤ cursor.page) ⊎ ((length (pairs_at db cursor.page) ≤ cursor.pair) × AreBare db (cursor.page + 1) cursor.end)
+abbrev pub IsCursorOver : Database → Cursor → Type 0
+IsCursorOver db cursor = (cursor.end ≤ cursor.page) ⊎ ((length (pairs_at db cursor.page) ≤ cursor.pair) × AreBare db (cursor.page + 1) cursor.end)
 
 -- after pair i of page n
-abbrev pub behind : Cursor → ℕ → ℕ → Cursor
-behind cursor n i = record { page = n; end = cursor.end; pair = i + 1 }
+abbrev pub cursor_behind : Cursor → ℕ → ℕ → Cursor
+cursor_behind cursor n i = record { page = n; end = cursor.end; pair = i + 1 }
 
 -- the next pair is written, and the cursor is after it; or a buffer is too short, and the cursor is unchanged
-pub record Tells (db : Database) (old new : Cursor) (key_old key_new : List ℕ) (key_len : ℕ) (value_old value_new : List ℕ) (value_len : ℕ) (status : Status) : Type 0 where
+pub record CursorTells (db : Database) (old new : Cursor) (key_old key_new : List ℕ) (key_len : ℕ) (value_old value_new : List ℕ) (value_len : ℕ) (status : Status) : Type 0 where
   pub n : ℕ
   pub i : ℕ
-  pub next : IsNext db old n i
+  pub next : IsNextPair db old n i
   pub key_len_is : key_len ≡ length (key_at (pairs_at db n) i)
   pub value_len_is : value_len ≡ length (value_at (pairs_at db n) i)
   pub copied : AreCopied (key_at (pairs_at db n) i) (value_at (pairs_at db n) i) key_old key_new value_old value_new status
-  pub moves : status ≡ Done → new ≡ behind old n i
+  pub moves : status ≡ Done → new ≡ cursor_behind old n i
   pub stays : status ≡ ShortRoom → new ≡ old
 
 -- no pair is left, and nothing is written
-pub record Ends (db : Database) (old new : Cursor) (key_old key_new value_old value_new : List ℕ) (status : Status) : Type 0 where
-  pub over : IsOver db old
+pub record CursorEnds (db : Database) (old new : Cursor) (key_old key_new value_old value_new : List ℕ) (status : Status) : Type 0 where
+  pub over : IsCursorOver db old
   pub status_is : status ≡ Missing
   pub same : new ≡ old
   pub key_same : key_new ≡ key_old
   pub value_same : value_new ≡ value_old
 
-abbrev pub Turns : Database → Cursor → Cursor → List ℕ → List ℕ → ℕ → List ℕ → List ℕ → ℕ → Status → Type 0
-Turns db old new key_old key_new key_len value_old value_new value_len status =
-    Tells db old new key_old key_new key_len value_old value_new value_len status ⊎ Ends db old new key_old key_new value_old value_new status
+abbrev pub CursorTurns : Database → Cursor → Cursor → List ℕ → List ℕ → ℕ → List ℕ → List ℕ → ℕ → Status → Type 0
+CursorTurns db old new key_old key_new key_len value_old value_new value_len status =
+    CursorTells db old new key_old key_new key_len value_old value_new value_len status ⊎ CursorEnds db old new key_old key_new value_old value_new status
 
 -- ---- calls
 
-pub record Begins (old : Option Db) (code : ℕ) (new : Option Db) (cursor : Cursor) : Type 0 where
-  pub code_is : code ≡ code_of Done
-  pub is : Shows old new (λ d. IsStart d.image cursor)
+pub record CursorBegins (old : Option Db) (code : ℕ) (new : Option Db) (cursor : Cursor) : Type 0 where
+  pub code_is : code ≡ status_code Done
+  pub is : HandleShows old new (λ d. IsStart d.image cursor)
 
-pub record GoesOn (old : Option Db) (code : ℕ) (new : Option Db) (cursor_old cursor_new : Cursor) (key_old key_new : List ℕ) (key_len : ℕ) (value_old value_new : List ℕ) (value_len : ℕ) : Type 0 where
+pub record CursorGoesOn (old : Option Db) (code : ℕ) (new : Option Db) (cursor_old cursor_new : Cursor) (key_old key_new : List ℕ) (key_len : ℕ) (value_old value_new : List ℕ) (value_len : ℕ) : Type 0 where
   pub status : Status
-  pub code_is : code ≡ code_of status
-  pub is : Shows old new (λ d. Turns d.image cursor_old cursor_new key_old key_new key_len value_old value_new value_len status)
+  pub code_is : code ≡ status_code status
+  pub is : HandleShows old new (λ d. CursorTurns d.image cursor_old cursor_new key_old key_new key_len value_old value_new value_len status)

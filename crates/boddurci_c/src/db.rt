@@ -6,13 +6,14 @@ ghost use Rattle.std.specs.FinMap as map;
 ghost use Rattle.store_cmd.specs.Command.{IsSmall};
 ghost use Rattle.store_cmd.specs.declared.Command.TheVariants.{Store, Delete, Run};
 ghost use Rattle.store_moves.specs.Works.{HasKey};
-ghost use Rattle.boddurci_marks.specs.Growth.{Outgrows};
-ghost use Rattle.boddurci_c.specs.Calls.{Does, DeniesBy, RunsBy, DeniesRun, DeniesAsk, IsEnd, FetchesIn, HasFiles};
+ghost use Rattle.boddurci_handles.specs.Growth.{Outgrows};
+ghost use Rattle.boddurci_c.specs.Calls.{DoesCommand, DeniesBy, RunsBy, DeniesRun, DeniesAsk, IsRunEnd, FetchesIn, HasFiles};
 ghost use Rattle.boddurci_c.specs.Tickets.{IsRunAsked};
 
 use crate::rooms::copy_out;
-use boddurci_handles::{Db, Job, Status};
-use boddurci_marks::{has_pairs, may_grow, most_pages, put_marked, run_there, store_there};
+use boddurci_handles::{
+    Db, Job, Status, has_pairs, may_grow, most_pages, put_marked, run_there, store_there,
+};
 use bpf_verify::Verified;
 use prog_registry::ProgId;
 use sdbm_addr::{Bytes, Mode};
@@ -26,7 +27,7 @@ use store_moves::{key_in, work_at};
 fn perform(alloc: Global, db: &mut Db, command: Command<Global>) -> Result<Reply<Global>, Status>
     requires keyed { HasKey command }
     requires small { IsSmall db.old.image.size command }
-    ensures ok { IfOk result (λ reply. Does db.old command reply db.new) }
+    ensures ok { IfOk result (λ reply. DoesCommand db.old command reply db.new) }
     ensures err { OnErr result (db.new ≡ db.old) }
     ensures why { IfErr result (λ status. (status ≡ Status.NoMemory) ⊎ ((status ≡ Status.TooLong) × Outgrows db.old.limit db.old.image command)) }
 {
@@ -53,7 +54,7 @@ pub fn store(
     value: &[u8],
     mode: Mode,
 ) -> Result<Reply<Global>, Status>
-    ensures ok { IfOk result (λ reply. Does db.old (Store key.now value.now mode) reply db.new) }
+    ensures ok { IfOk result (λ reply. DoesCommand db.old (Store key.now value.now mode) reply db.new) }
     ensures err { OnErr result (db.new ≡ db.old) }
     ensures why { IfErr result (DeniesBy db.old (Store key.now value.now mode)) }
 {
@@ -79,7 +80,7 @@ pub fn store(
 
 /// Removes a key and its value.
 pub fn delete(alloc: Global, db: &mut Db, key: &[u8]) -> Result<Reply<Global>, Status>
-    ensures ok { IfOk result (λ reply. Does db.old (Delete key.now) reply db.new) }
+    ensures ok { IfOk result (λ reply. DoesCommand db.old (Delete key.now) reply db.new) }
     ensures err { OnErr result (db.new ≡ db.old) }
     ensures why { IfErr result (DeniesBy db.old (Delete key.now)) }
 {
@@ -199,7 +200,7 @@ pub fn files(alloc: Global, db: &Db) -> Result<(MemSink<Global>, MemSink<Global>
 
 /// The exit number and reply word of a run, or zeros if it did not run.
 pub fn end_of(reply: &Reply<Global>) -> (u64, u64)
-    ensures { IsEnd reply.now result.0 result.1 }
+    ensures { IsRunEnd reply.now result.0 result.1 }
 {
     match reply {
         Reply::Ran { code, word } => (*code, *word),

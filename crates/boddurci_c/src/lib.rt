@@ -4,17 +4,17 @@
 
 ghost use Rattle.std.specs.Prelude.{◌≡◌, ◌≢◌, ◌⊎◌, Option, Some, None, IfOk, IfErr, OnOk, OnErr};
 ghost use Rattle.store_cmd.specs.declared.Command.TheVariants.{Store, Delete};
-ghost use Rattle.boddurci_c.specs.Calls.{Denies, Never, Says, Fetches, Counts, Runs, DeniesRun, Limits, Numbers, Rejects, Writes, LacksMemory, Lists, Remarks, IsOpened, OpensOr, open_word, mode_for, blank_for, kind_for, size_for, empty_registry, status_of_fault, status_of_open};
+ghost use Rattle.boddurci_c.specs.Calls.{CallDenies, Never, CallSays, Fetches, CountsPairs, RunsProgram, DeniesRun, SetsLimit, NumbersProgram, Rejects, WritesFiles, LacksMemory, ListsChanged, Remarks, IsDbOpened, OpensOr, open_word, mode_for, blank_for, kind_for, size_for, empty_registry, status_of_fault, status_of_open};
 ghost use Rattle.boddurci_handles.specs.Pieces.{bytes_read};
 ghost use Rattle.boddurci_c.specs.Readings.{IsSpent, ReadsOr};
 ghost use Rattle.boddurci_c.specs.Sizes.{LooksOr};
 ghost use Rattle.boddurci_c.specs.Stocks.{Stocks};
 ghost use Rattle.boddurci_c.specs.Texts.{Assembles, Garbles};
-ghost use Rattle.boddurci_c.specs.Turns.{Begins, GoesOn};
+ghost use Rattle.boddurci_c.specs.Turns.{CursorBegins, CursorGoesOn};
 ghost use Rattle.boddurci_handles.specs.declared.opened.Db.{Db};
 ghost use Rattle.boddurci_c.specs.Plans.{Plans, DeniesPlan};
-ghost use Rattle.boddurci_c.specs.Page.{part_for, LacksPages, LacksPlan, PlansPageOf, Turns};
-ghost use Rattle.boddurci_c.specs.Tickets.{Asks, AsksNot, Works, WorksNot, FinishesOn, WhyNot, Finishes, FinishesNot};
+ghost use Rattle.boddurci_c.specs.Page.{part_for, LacksPages, LacksPlan, PlansPageOf, TurnsPage};
+ghost use Rattle.boddurci_c.specs.Tickets.{AsksRun, AsksNot, Works, WorksNot, FinishesOn, WhyNot, FinishesTicket, FinishesNot};
 ghost use Rattle.sdbm_files.specs.Opened.{IsOpenFault, SpellsNoDatabase};
 
 mod db;
@@ -69,7 +69,7 @@ pub extern "C" fn boddurci_store(
     value: &[u8],
     replace: u32,
 ) -> u32
-    ensures { Says (Store key.now value.now (mode_for replace)) slot.old.held result slot.new.held }
+    ensures { CallSays (Store key.now value.now (mode_for replace)) slot.old.held result slot.new.held }
 {
     let Some(mut db) = slot.take(alloc) else {
         return Status::Closed.code();
@@ -85,7 +85,7 @@ pub extern "C" fn boddurci_store(
 /// Removes a key and its value.
 #[unsafe(no_mangle)]
 pub extern "C" fn boddurci_delete(alloc: Global, slot: &mut Handle, key: &[u8]) -> u32
-    ensures { Says (Delete key.now) slot.old.held result slot.new.held }
+    ensures { CallSays (Delete key.now) slot.old.held result slot.new.held }
 {
     let Some(mut db) = slot.take(alloc) else {
         return Status::Closed.code();
@@ -109,7 +109,7 @@ pub extern "C" fn boddurci_fetch(
     len: &mut usize,
 ) -> u32
     ensures { Fetches key.now slot.old.held result slot.new.held room.old room.new len.old len.new
-        ⊎ (Denies Never slot.old.held result slot.new.held × ((room.new ≡ room.old) × (len.new ≡ len.old))) }
+        ⊎ (CallDenies Never slot.old.held result slot.new.held × ((room.new ≡ room.old) × (len.new ≡ len.old))) }
 {
     let Some(db) = slot.take(alloc) else {
         return Status::Closed.code();
@@ -122,7 +122,7 @@ pub extern "C" fn boddurci_fetch(
 /// Sets `count` to the number of pairs.
 #[unsafe(no_mangle)]
 pub extern "C" fn boddurci_count(alloc: Global, slot: &mut Handle, count: &mut usize) -> u32
-    ensures { Counts slot.old.held result slot.new.held count.new ⊎ (Denies Never slot.old.held result slot.new.held × (count.new ≡ count.old)) }
+    ensures { CountsPairs slot.old.held result slot.new.held count.new ⊎ (CallDenies Never slot.old.held result slot.new.held × (count.new ≡ count.old)) }
 {
     let Some(db) = slot.take(alloc) else {
         return Status::Closed.code();
@@ -136,7 +136,7 @@ pub extern "C" fn boddurci_count(alloc: Global, slot: &mut Handle, count: &mut u
 /// default are 1 GiB. Existing pages above it stay.
 #[unsafe(no_mangle)]
 pub extern "C" fn boddurci_limit(alloc: Global, slot: &mut Handle, bytes: usize) -> u32
-    ensures { Limits bytes slot.old.held result slot.new.held ⊎ Denies Never slot.old.held result slot.new.held }
+    ensures { SetsLimit bytes slot.old.held result slot.new.held ⊎ CallDenies Never slot.old.held result slot.new.held }
 {
     let Some(mut db) = slot.take(alloc) else {
         return Status::Closed.code();
@@ -171,9 +171,9 @@ pub extern "C" fn boddurci_submit(
     room: &mut [u8],
     len: &mut usize,
 ) -> u32
-    ensures { Numbers image.now slot.old.held result slot.new.held id.new
+    ensures { NumbersProgram image.now slot.old.held result slot.new.held id.new
         ⊎ ((Rejects image.now slot.old.held result slot.new.held unit.new room.old room.new len.new × (id.new ≡ id.old))
-        ⊎ (Denies Never slot.old.held result slot.new.held × ((id.new ≡ id.old) × ((unit.new ≡ unit.old) × ((room.new ≡ room.old) × (len.new ≡ len.old)))))) }
+        ⊎ (CallDenies Never slot.old.held result slot.new.held × ((id.new ≡ id.old) × ((unit.new ≡ unit.old) × ((room.new ≡ room.old) × (len.new ≡ len.old)))))) }
 {
     let Some(mut db) = slot.take(alloc) else {
         return Status::Closed.code();
@@ -273,8 +273,8 @@ pub extern "C" fn boddurci_run(
     end: &mut u64,
     word: &mut u64,
 ) -> u32
-    ensures { Runs number key.now arg.now (blank_for has_blank blank) now slot.old.held result slot.new.held end.new word.new
-        ⊎ (Denies (DeniesRun number key.now arg.now (blank_for has_blank blank) now) slot.old.held result slot.new.held × ((end.new ≡ end.old) × (word.new ≡ word.old))) }
+    ensures { RunsProgram number key.now arg.now (blank_for has_blank blank) now slot.old.held result slot.new.held end.new word.new
+        ⊎ (CallDenies (DeniesRun number key.now arg.now (blank_for has_blank blank) now) slot.old.held result slot.new.held × ((end.new ≡ end.old) × (word.new ≡ word.old))) }
 {
     let Some(mut db) = slot.take(alloc) else {
         return Status::Closed.code();
@@ -305,7 +305,7 @@ pub extern "C" fn boddurci_ask(
     blank: usize,
     now: u64,
 ) -> u32
-    ensures { Asks number key.now arg.now (blank_for has_blank blank) now slot.old.held result slot.new.held ticket.new.asked
+    ensures { AsksRun number key.now arg.now (blank_for has_blank blank) now slot.old.held result slot.new.held ticket.new.asked
         ⊎ AsksNot number key.now arg.now (blank_for has_blank blank) now slot.old.held result slot.new.held ticket.old.asked ticket.new.asked }
 {
     let Some(db) = slot.take(alloc) else {
@@ -368,7 +368,7 @@ pub extern "C" fn boddurci_finish(
     end: &mut u64,
     word: &mut u64,
 ) -> u32
-    ensures { Finishes slot.old.held result slot.new.held ticket.old.asked ticket.new.asked end.new word.new
+    ensures { FinishesTicket slot.old.held result slot.new.held ticket.old.asked ticket.new.asked end.new word.new
         ⊎ (FinishesNot slot.old.held result slot.new.held ticket.old.asked ticket.new.asked × ((end.new ≡ end.old) × (word.new ≡ word.old))) }
 {
     let Some(mut db) = slot.take(alloc) else {
@@ -396,7 +396,7 @@ pub extern "C" fn boddurci_abandon(alloc: Global, ticket: &mut Ticket)
 /// Begins an iteration over all pairs.
 #[unsafe(no_mangle)]
 pub extern "C" fn boddurci_first(alloc: Global, slot: &mut Handle, cursor: &mut Cursor) -> u32
-    ensures { Begins slot.old.held result slot.new.held cursor.new ⊎ (Denies Never slot.old.held result slot.new.held × (cursor.new ≡ cursor.old)) }
+    ensures { CursorBegins slot.old.held result slot.new.held cursor.new ⊎ (CallDenies Never slot.old.held result slot.new.held × (cursor.new ≡ cursor.old)) }
 {
     let Some(db) = slot.take(alloc) else {
         return Status::Closed.code();
@@ -421,8 +421,8 @@ pub extern "C" fn boddurci_next(
     value: &mut [u8],
     value_len: &mut usize,
 ) -> u32
-    ensures { GoesOn slot.old.held result slot.new.held cursor.old cursor.new key.old key.new key_len.new value.old value.new value_len.new
-        ⊎ (Denies Never slot.old.held result slot.new.held
+    ensures { CursorGoesOn slot.old.held result slot.new.held cursor.old cursor.new key.old key.new key_len.new value.old value.new value_len.new
+        ⊎ (CallDenies Never slot.old.held result slot.new.held
         × ((cursor.new ≡ cursor.old) × ((key.new ≡ key.old) × ((key_len.new ≡ key_len.old) × ((value.new ≡ value.old) × (value_len.new ≡ value_len.old)))))) }
 {
     let Some(db) = slot.take(alloc) else {
@@ -443,8 +443,8 @@ pub extern "C" fn boddurci_files(
     pag: &mut [u8],
     pag_len: &mut usize,
 ) -> u32
-    ensures { Writes slot.old.held result slot.new.held dir.old dir.new pag.old pag.new dir_len.new pag_len.new
-        ⊎ (Denies LacksMemory slot.old.held result slot.new.held
+    ensures { WritesFiles slot.old.held result slot.new.held dir.old dir.new pag.old pag.new dir_len.new pag_len.new
+        ⊎ (CallDenies LacksMemory slot.old.held result slot.new.held
         × ((dir.new ≡ dir.old) × ((dir_len.new ≡ dir_len.old) × ((pag.new ≡ pag.old) × (pag_len.new ≡ pag_len.old))))) }
 {
     let Some(db) = slot.take(alloc) else {
@@ -470,8 +470,8 @@ pub extern "C" fn boddurci_changed(
     numbers: &mut [u32],
     count: &mut usize,
 ) -> u32
-    ensures { Lists slot.old.held result slot.new.held numbers.old numbers.new count.new
-        ⊎ (Denies Never slot.old.held result slot.new.held × ((numbers.new ≡ numbers.old) × (count.new ≡ count.old))) }
+    ensures { ListsChanged slot.old.held result slot.new.held numbers.old numbers.new count.new
+        ⊎ (CallDenies Never slot.old.held result slot.new.held × ((numbers.new ≡ numbers.old) × (count.new ≡ count.old))) }
 {
     let Some(db) = slot.take(alloc) else {
         return Status::Closed.code();
@@ -484,7 +484,7 @@ pub extern "C" fn boddurci_changed(
 /// Marks pages as possibly changed. Call it when a plan was not carried out.
 #[unsafe(no_mangle)]
 pub extern "C" fn boddurci_mark(alloc: Global, slot: &mut Handle, numbers: &[u32]) -> u32
-    ensures { Remarks numbers.now slot.old.held result slot.new.held ⊎ Denies LacksMemory slot.old.held result slot.new.held }
+    ensures { Remarks numbers.now slot.old.held result slot.new.held ⊎ CallDenies LacksMemory slot.old.held result slot.new.held }
 {
     let Some(mut db) = slot.take(alloc) else {
         return Status::Closed.code();
@@ -514,7 +514,7 @@ pub extern "C" fn boddurci_plan(
     len: &mut usize,
 ) -> u32
     ensures { Plans slot.old.held result slot.new.held dir.now pag_length numbers.now pages.now room.old room.new len.new
-        ⊎ (Denies (DeniesPlan dir.now pag_length numbers.now pages.now) slot.old.held result slot.new.held × ((room.new ≡ room.old) × (len.new ≡ len.old))) }
+        ⊎ (CallDenies (DeniesPlan dir.now pag_length numbers.now pages.now) slot.old.held result slot.new.held × ((room.new ≡ room.old) × (len.new ≡ len.old))) }
 {
     let Some(mut db) = slot.take(alloc) else {
         return Status::Closed.code();
@@ -569,7 +569,7 @@ pub extern "C" fn boddurci_open_page(
     number: u32,
     page: &[u8],
 ) -> u32
-    ensures { Turns key.now (part_for dir.entry pag_length number page.entry) slot.old.held result slot.new.held ⊎ Denies LacksPages slot.old.held result slot.new.held }
+    ensures { TurnsPage key.now (part_for dir.entry pag_length number page.entry) slot.old.held result slot.new.held ⊎ CallDenies LacksPages slot.old.held result slot.new.held }
 {
     let Some(mut db) = slot.take(alloc) else {
         return Status::Closed.code();
@@ -603,7 +603,7 @@ pub extern "C" fn boddurci_plan_page(
     len: &mut usize,
 ) -> u32
     ensures { PlansPageOf (part_for dir.entry pag_length number page.entry) slot.old.held result slot.new.held numbers.old numbers.new count.new room.old room.new len.new
-        ⊎ (Denies LacksPlan slot.old.held result slot.new.held × ((numbers.new ≡ numbers.old) × ((count.new ≡ count.old) × ((room.new ≡ room.old) × (len.new ≡ len.old))))) }
+        ⊎ (CallDenies LacksPlan slot.old.held result slot.new.held × ((numbers.new ≡ numbers.old) × ((count.new ≡ count.old) × ((room.new ≡ room.old) × (len.new ≡ len.old))))) }
 {
     let Some(db) = slot.take(alloc) else {
         return Status::Closed.code();
@@ -700,7 +700,7 @@ fn open_at(
 ) -> Result<(), OpenFault>
     requires closed { slot.old.held ≡ None }
     requires empty { registry ≡ empty_registry }
-    ensures ok { OnOk result ((d : Db) × ((slot.new.held ≡ Some d) × IsOpened kind size dir.now pag.now d)) }
+    ensures ok { OnOk result ((d : Db) × ((slot.new.held ≡ Some d) × IsDbOpened kind size dir.now pag.now d)) }
     ensures err { OnErr result (slot.new.held ≡ None) }
     ensures fault { IfErr result (IsOpenFault kind size dir.now pag.now) }
     ensures none { IfErr result (λ fault. fault ≢ OpenFault.NoMemory → SpellsNoDatabase kind size dir.now pag.now) }
@@ -768,7 +768,7 @@ fn open_reading_at(
 ) -> Result<(), OpenFault>
     requires closed { slot.old.held ≡ None }
     requires empty { registry ≡ empty_registry }
-    ensures ok { OnOk result ((d : Db) × ((slot.new.held ≡ Some d) × IsOpened kind size dir.now (bytes_read reading.old.read) d)) }
+    ensures ok { OnOk result ((d : Db) × ((slot.new.held ≡ Some d) × IsDbOpened kind size dir.now (bytes_read reading.old.read) d)) }
     ensures err { OnErr result (slot.new.held ≡ None) }
     ensures fault { IfErr result (IsOpenFault kind size dir.now (bytes_read reading.old.read)) }
     ensures none { IfErr result (λ fault. fault ≢ OpenFault.NoMemory → SpellsNoDatabase kind size dir.now (bytes_read reading.old.read)) }

@@ -1,6 +1,6 @@
 //! The log of a base: the calls that C must make on its files.
 ghost use Rattle.std.specs.Prelude.{◌≡◌};
-ghost use Rattle.boddurci_handles.specs.Statuses.{code_of};
+ghost use Rattle.boddurci_handles.specs.Statuses.{status_code};
 ghost use Rattle.boddurci_handles.specs.declared.status.Status.{Status};
 ghost use Rattle.boddurci_logs.specs.Answers.{files_in, OpenAnswer, ReadAnswer, SaveAnswer, CloseAnswer};
 
@@ -27,7 +27,7 @@ pub extern "C" fn boddurci_log_open(
     words: &mut [u64],
     words_len: &mut usize,
 ) -> u32
-    ensures { (status : Status) × ((result ≡ code_of status) × OpenAnswer (files_in pages.now directory.now redo.now) room log.old log.new bytes.old bytes.new bytes_len.new words.old words.new words_len.new status) }
+    ensures { (status : Status) × ((result ≡ status_code status) × OpenAnswer (files_in pages.now directory.now redo.now) room log.old log.new bytes.old bytes.new bytes_len.new words.old words.new words_len.new status) }
 {
     let found = LogFiles {
         pages,
@@ -52,7 +52,7 @@ pub extern "C" fn boddurci_log_read(
     words: &mut [u64],
     words_len: &mut usize,
 ) -> u32
-    ensures { (status : Status) × ((result ≡ code_of status) × ReadAnswer (files_in pages.now directory.now redo.now) bytes.old bytes.new bytes_len.new words.old words.new words_len.new status) }
+    ensures { (status : Status) × ((result ≡ status_code status) × ReadAnswer (files_in pages.now directory.now redo.now) bytes.old bytes.new bytes_len.new words.old words.new words_len.new status) }
 {
     let found = LogFiles {
         pages,
@@ -76,7 +76,7 @@ pub extern "C" fn boddurci_log_save(
     words_len: &mut usize,
     committed: &mut usize,
 ) -> u32
-    ensures { (status : Status) × ((result ≡ code_of status) × SaveAnswer log.old log.new bytes.old bytes.new words.old words.new words_len.new committed.new status) }
+    ensures { (status : Status) × ((result ≡ status_code status) × SaveAnswer log.old log.new bytes.old bytes.new words.old words.new words_len.new committed.new status) }
 {
     save(alloc, log, bytes, words, words_len, committed).code()
 }
@@ -86,7 +86,7 @@ pub extern "C" fn boddurci_log_save(
 /// Returns `ShortRoom` if the buffer is too short, or `NoMemory`.
 #[unsafe(no_mangle)]
 pub extern "C" fn boddurci_log_close(alloc: Global, words: &mut [u64], words_len: &mut usize) -> u32
-    ensures { (status : Status) × ((result ≡ code_of status) × CloseAnswer words.old words.new words_len.new status) }
+    ensures { (status : Status) × ((result ≡ status_code status) × CloseAnswer words.old words.new words_len.new status) }
 {
     close(alloc, words, words_len).code()
 }

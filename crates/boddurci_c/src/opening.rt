@@ -6,10 +6,9 @@ ghost use Rattle.sdbm_addr.specs.Database.{IsDatabase, pairs_at};
 ghost use Rattle.sdbm_files.specs.Opened.{IsOpenFault, SpellsNoDatabase};
 ghost use Rattle.sdbm_saves.specs.Parts.{ReadsPage};
 ghost use Rattle.boddurci_handles.specs.Pieces.{bytes_read};
-ghost use Rattle.boddurci_c.specs.Calls.{IsOpened, ReadsUnmarked, empty_registry};
+ghost use Rattle.boddurci_c.specs.Calls.{IsDbOpened, ReadsUnmarked, empty_registry};
 
-use boddurci_handles::{Base, Db, Reading};
-use boddurci_marks::Marks;
+use boddurci_handles::{Base, Db, Marks, Reading};
 use prog_registry::Registry;
 use sdbm_addr::{KeyBytes, PageSize};
 use sdbm_files::{BLOCK, Image, OpenFault, ReadPages};
@@ -31,7 +30,7 @@ pub fn open(
     size: PageSize,
 ) -> Result<Db, OpenFault>
     requires { registry ≡ empty_registry }
-    ensures ok { IfOk result (IsOpened kind size dir.now pag.now) }
+    ensures ok { IfOk result (IsDbOpened kind size dir.now pag.now) }
     ensures err { IfErr result (IsOpenFault kind size dir.now pag.now) }
     ensures none { IfErr result (λ fault. fault ≢ OpenFault.NoMemory → SpellsNoDatabase kind size dir.now pag.now) }
 {
@@ -58,7 +57,7 @@ pub fn open_reading(
     size: PageSize,
 ) -> Result<Db, OpenFault>
     requires { registry ≡ empty_registry }
-    ensures ok { IfOk result (IsOpened kind size dir.now (bytes_read reading.old.read)) }
+    ensures ok { IfOk result (IsDbOpened kind size dir.now (bytes_read reading.old.read)) }
     ensures err { IfErr result (IsOpenFault kind size dir.now (bytes_read reading.old.read)) }
     ensures none { IfErr result (λ fault. fault ≢ OpenFault.NoMemory → SpellsNoDatabase kind size dir.now (bytes_read reading.old.read)) }
     ensures same { reading.new.read ≡ reading.old.read }
@@ -82,7 +81,7 @@ fn open_read(
     size: PageSize,
 ) -> Result<Db, OpenFault>
     requires { registry ≡ empty_registry }
-    ensures ok { IfOk result (IsOpened kind size dir.now pag.now.bytes) }
+    ensures ok { IfOk result (IsDbOpened kind size dir.now pag.now.bytes) }
     ensures err { IfErr result (IsOpenFault kind size dir.now pag.now.bytes) }
     ensures none { IfErr result (λ fault. fault ≢ OpenFault.NoMemory → SpellsNoDatabase kind size dir.now pag.now.bytes) }
 {

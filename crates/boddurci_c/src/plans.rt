@@ -1,11 +1,10 @@
 //! The plan of a save.
 ghost use Rattle.std.specs.Prelude.{◌≡◌, ◌↔◌, ◌⊎◌, ◌*◌, IsTrue, IfOk, IfErr, OnOk};
-ghost use Rattle.boddurci_marks.specs.Marks.{AreAmong};
+ghost use Rattle.boddurci_handles.specs.Marks.{AreAmong};
 ghost use Rattle.boddurci_c.specs.Plans.{HasRead, PlansFor, PlansOn, DeniesPlan};
 
 use crate::rooms::copy_out;
-use boddurci_handles::{Base, Db, Status};
-use boddurci_marks::Marks;
+use boddurci_handles::{Base, Db, Marks, Status};
 use sdbm_saves::{Marked, SavePlanFault, plan_marked};
 use std::alloc::{AllocError, Global};
 

@@ -1,6 +1,6 @@
 //! Programs from their texts.
 ghost use Rattle.std.specs.Prelude.{◌≡◌, IfOk, IfErr};
-ghost use Rattle.boddurci_c.specs.Texts.{IsTextImage, IsTextFault, status_of_text, line_of};
+ghost use Rattle.boddurci_c.specs.Texts.{IsTextAssembled, IsTextFault, status_of_text, line_of};
 
 use boddurci_handles::Status;
 use bpf_asm::{AsmFault, FaultKind, assemble};
@@ -19,7 +19,7 @@ pub enum TextFault {
 
 /// The image of the program in a text.
 pub fn image_of(alloc: Global, text: &[u8]) -> Result<Vec<u8>, TextFault>
-    ensures ok { IfOk result (λ image. IsTextImage text.now image.items) }
+    ensures ok { IfOk result (λ image. IsTextAssembled text.now image.items) }
     ensures err { IfErr result (IsTextFault text.now) }
 {
     let Ok(text) = str::from_utf8(text) else {
@@ -53,9 +53,9 @@ impl TextFault {
 
 impl fmt::Display for TextFault {
     ghost use Rattle.std.specs.Prelude.{Some};
-    ghost use Rattle.boddurci_c.specs.Texts.{text_of};
+    ghost use Rattle.boddurci_c.specs.Texts.{text_of_fault};
 
-    ghost output = { λ fault. Some (text_of fault) };
+    ghost output = { λ fault. Some (text_of_fault fault) };
 
     fn fmt<W: fmt::Write>(&self, f: &mut fmt::Formatter<W>) -> fmt::Result {
         match self {

@@ -2,7 +2,7 @@
 ghost use Rattle.std.specs.Prelude.{◌≡◌, ◌↔◌, ◌<◌, ◌+◌, [], length, IsTrue, IfSome, IfNone};
 ghost use Rattle.sdbm_addr.specs.Database.{pairs_at};
 ghost use Rattle.sdbm_addr.specs.Pairs.{key_at, value_at};
-ghost use Rattle.boddurci_c.specs.Turns.{IsFirstFrom, AreBare, IsNext, IsOver, Turns};
+ghost use Rattle.boddurci_c.specs.Turns.{IsFirstFrom, AreBare, IsNextPair, IsCursorOver, CursorTurns};
 
 use crate::rooms::copy_both;
 use boddurci_handles::Status;
@@ -62,8 +62,8 @@ fn next_page(image: &Image<Global>, from: u32, end: u32) -> Option<u32>
 
 // The page and the index of the next pair.
 fn seek(image: &Image<Global>, cursor: Cursor) -> Option<(u32, usize)>
-    ensures some { IfSome result (λ at. IsNext image.now cursor at.0 at.1) }
-    ensures none { IfNone result (IsOver image.now cursor) }
+    ensures some { IfSome result (λ at. IsNextPair image.now cursor at.0 at.1) }
+    ensures none { IfNone result (IsCursorOver image.now cursor) }
 {
     if cursor.page >= cursor.end {
         return None;
@@ -105,7 +105,7 @@ pub fn turn(
     value: &mut [u8],
     value_len: &mut usize,
 ) -> Status
-    ensures { Turns image.now cursor.old cursor.new key.old key.new key_len.new value.old value.new value_len.new result }
+    ensures { CursorTurns image.now cursor.old cursor.new key.old key.new key_len.new value.old value.new value_len.new result }
 {
     let Some((number, i)) = seek(image, *cursor) else {
         return Status::Missing;

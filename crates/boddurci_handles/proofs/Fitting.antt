@@ -26,7 +26,7 @@ use Rattle.store_moves.specs.Works.{works, change_of, key_of, HasKey, HasEnd}
 use Rattle.store_moves.specs.declared.worked.Worked.{Worked}
 use Rattle.store_moves.proofs.Acting.{Acts-on_page}
 use Rattle.store_moves.proofs.Lifting.{works_lead}
-use Rattle.boddurci_marks.specs.Growth.{FitsWithin, has_pairs, has_room, may_grow, most_in}
+use Rattle.boddurci_handles.specs.Growth.{FitsWithin, has_pairs, has_room, may_grow, most_in}
 
 -- ---- pages put in
 

@@ -12,20 +12,20 @@ use Rattle.store_moves.specs.Acts.{Acts}
 use Rattle.store_moves.specs.Leads.{MayChange, changed_by}
 use Rattle.store_moves.specs.Worked.{IsWorked}
 use Rattle.store_moves.specs.Works.{PageResult, works, change_of, HasEnd, IsWorkable}
-use Rattle.boddurci_handles.specs.Asked.{Asked, result_of, IsWorkedOut}
+use Rattle.boddurci_handles.specs.Asked.{Asked, asked_result, IsWorkedOut}
 use Rattle.sdbm_files.specs.Limits.{FitsFiles}
-use Rattle.boddurci_marks.specs.Growth.{FitsWithin, has_pairs, may_grow, most_in, Outgrows}
+use Rattle.boddurci_handles.specs.Growth.{FitsWithin, has_pairs, may_grow, most_in, Outgrows}
 use Rattle.boddurci_handles.specs.Asked.{IsCurrent}
 use Rattle.boddurci_handles.proofs.Fitting.{may_put_worked, put_worked, fits_worked, within_worked}
 
 -- a command requested of the current database
 module _ (db : Database) (a : Asked) (now : IsCurrent db a) where
-  result_now : result_of a ≡ works a.place db.kind db.size (pairs_at db a.place.page) 0 a.command
+  result_now : asked_result a ≡ works a.place db.kind db.size (pairs_at db a.place.page) 0 a.command
   result_now = ap (λ (k : KeyBytes). works a.place k a.page.size a.page.pairs 0 a.command) now.kind
       ∙ ap (λ (s : PageSize). works a.place db.kind s a.page.pairs 0 a.command) now.size
       ∙ ap (λ (ps : List Pair). works a.place db.kind db.size ps 0 a.command) now.pairs
 
-  pub outgrows : (limit : ℕ) → may_grow (most_in a.page.size limit) (has_pairs a.page.pairs) a.place.page (result_of a).change ≡ false → Outgrows limit db a.command
+  pub outgrows : (limit : ℕ) → may_grow (most_in a.page.size limit) (has_pairs a.page.pairs) a.place.page (asked_result a).change ≡ false → Outgrows limit db a.command
   outgrows limit out = record {
     place = a.place;
     leads = now.place;
@@ -47,14 +47,14 @@ module _ (db : Database) (ok : IsDatabase db) (a : Asked) (w : Worked Global) (n
   pub put_acts : (db' : Database) → db' ≡ changed_by db a.place.page (option_map change_of w.change) → Acts db (record { session = 0; command = a.command; reply = w.reply }) db'
   put_acts = put_worked db ok a.place a.command may.keyed small now.place w here (subst (λ (ps : List Pair). HasEnd ps 0 a.command) now.pairs out.ends)
 
-  grows : (limit : ℕ) → may_grow (most_in a.page.size limit) (has_pairs a.page.pairs) a.place.page (result_of a).change ≡ true
+  grows : (limit : ℕ) → may_grow (most_in a.page.size limit) (has_pairs a.page.pairs) a.place.page (asked_result a).change ≡ true
       → may_grow (most_in db.size limit) (has_pairs (pairs_at db a.place.page)) a.place.page (option_map change_of w.change) ≡ true
   grows limit may =
       ap (may_grow (most_in db.size limit) (has_pairs (pairs_at db a.place.page)) a.place.page) out.is.change
-      ∙ ap (λ (s : PageSize). may_grow (most_in s limit) (has_pairs (pairs_at db a.place.page)) a.place.page (result_of a).change) (sym now.size)
-      ∙ ap (λ (ps : List Pair). may_grow (most_in a.page.size limit) (has_pairs ps) a.place.page (result_of a).change) (sym now.pairs) ∙ may
+      ∙ ap (λ (s : PageSize). may_grow (most_in s limit) (has_pairs (pairs_at db a.place.page)) a.place.page (asked_result a).change) (sym now.size)
+      ∙ ap (λ (ps : List Pair). may_grow (most_in a.page.size limit) (has_pairs ps) a.place.page (asked_result a).change) (sym now.pairs) ∙ may
 
-  module _ (limit : ℕ) (place : may_grow (most_in a.page.size limit) (has_pairs a.page.pairs) a.place.page (result_of a).change ≡ true) (db' : Database) (installed : db' ≡ changed_by db a.place.page (option_map change_of w.change)) where
+  module _ (limit : ℕ) (place : may_grow (most_in a.page.size limit) (has_pairs a.page.pairs) a.place.page (asked_result a).change ≡ true) (db' : Database) (installed : db' ≡ changed_by db a.place.page (option_map change_of w.change)) where
     pub put_fits : FitsFiles db → FitsFiles db'
     put_fits = fits_worked db ok a.place a.command may.keyed small now.place w here limit (grows limit place) db' installed
 

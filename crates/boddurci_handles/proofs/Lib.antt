@@ -1,3 +1,5 @@
+pub mod Marked
+pub mod Marking
 pub mod Values
 pub mod Handles
 pub mod Tickets

@@ -10,7 +10,7 @@ use Rattle.store_moves.specs.declared.worked.Worked.{Worked}
 use Rattle.store_moves.specs.Leads.{IsPlaceOf}
 use Rattle.store_moves.specs.Works.{PageResult, works, key_of, HasEnd, IsWorkable}
 use Rattle.store_moves.specs.Worked.{IsWorked}
-use Rattle.boddurci_marks.specs.Growth.{Outgrows}
+use Rattle.boddurci_handles.specs.Growth.{Outgrows}
 use Rattle.boddurci_handles.specs.declared.status.Status.{Status}
 use Rattle.boddurci_handles.specs.declared.status.Status.TheVariants.{Changed, NoMemory, NoTicket, TooLong}
 
@@ -23,16 +23,16 @@ pub record Asked : Type 0 where
   pub is_worked : Bool
 
 -- the result on that page
-abbrev pub result_of : Asked → PageResult Global
-result_of a = works a.place a.kind a.page.size a.page.pairs 0 a.command
+abbrev pub asked_result : Asked → PageResult Global
+asked_result a = works a.place a.kind a.page.size a.page.pairs 0 a.command
 
 -- the result was computed, and its program ended
 pub record IsWorkedOut (a : Asked) (w : Worked Global) : Type 0 where
-  pub is : IsWorked (result_of a) w
+  pub is : IsWorked (asked_result a) w
   pub ends : HasEnd a.page.pairs 0 a.command
 
 -- it can be computed, and its result, if any, is that
-pub record IsJob (a : Asked) (worked : Option (Worked Global)) : Type 0 where
+pub record IsAskedJob (a : Asked) (worked : Option (Worked Global)) : Type 0 where
   pub workable : IsWorkable a.place a.kind a.page.size a.page.pairs a.command
   pub done : IfSome worked (IsWorkedOut a)
 

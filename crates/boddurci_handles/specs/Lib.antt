@@ -1,3 +1,5 @@
+pub mod Marks
+pub mod Growth
 pub mod Held
 pub mod Statuses
 pub mod Asked

@@ -6,13 +6,15 @@ ghost use Rattle.store_cmd.specs.Command.{IsSmall};
 ghost use Rattle.store_moves.specs.Acts.{Acts};
 ghost use Rattle.store_moves.specs.Works.{HasKey};
 ghost use Rattle.sdbm_files.specs.Limits.{FitsFiles};
-ghost use Rattle.boddurci_handles.specs.Asked.{result_of};
-ghost use Rattle.boddurci_marks.specs.Growth.{FitsWithin, has_pairs, may_grow, most_in};
-ghost use Rattle.boddurci_marks.specs.Marks.{HasMore, DifferOn};
+ghost use Rattle.boddurci_handles.specs.Asked.{asked_result};
+ghost use Rattle.boddurci_handles.specs.Growth.{FitsWithin, has_pairs, may_grow, most_in};
+ghost use Rattle.boddurci_handles.specs.Marks.{HasMoreMarks, DifferOn};
 ghost use Rattle.boddurci_handles.specs.Asked.{IsAskedOf, IsCurrent, DeniesFinish, worked_out};
 
+use crate::changes::put_marked;
+use crate::growth::{lends_pairs, may_grow, most_pages};
+use crate::marks::Marks;
 use crate::status::Status;
-use boddurci_marks::{Marks, lends_pairs, may_grow, most_pages, put_marked};
 use sdbm_addr::KeyBytes;
 use sdbm_dir::Place;
 use sdbm_files::Image;
@@ -34,13 +36,13 @@ pub struct Job {
 
 impl Model for Job {
     ghost use Rattle.std.specs.Prelude.{is_some};
-    ghost use Rattle.boddurci_handles.specs.Asked.{Asked, IsJob};
+    ghost use Rattle.boddurci_handles.specs.Asked.{Asked, IsAskedJob};
 
     ghost Value = { Asked };
 
     ghost view = { λ a. record { command = a.command; place = a.place; kind = a.kind; page = a.page; is_worked = is_some a.worked } };
 
-    ghost invariant = { λ a. IsJob (record { command = a.command; place = a.place; kind = a.kind; page = a.page; is_worked = is_some a.worked }) a.worked };
+    ghost invariant = { λ a. IsAskedJob (record { command = a.command; place = a.place; kind = a.kind; page = a.page; is_worked = is_some a.worked }) a.worked };
 }
 
 impl Job {
@@ -118,7 +120,7 @@ impl Job {
         ensures fits { OnOk result (FitsFiles image.old → FitsFiles image.new) }
         ensures within { OnOk result (FitsWithin limit image.old → FitsWithin limit image.new) }
         ensures differ { OnOk result ((base : Database) → DifferOn marks.old base image.old → DifferOn marks.new base image.new) }
-        ensures more { OnOk result (HasMore marks.old marks.new) }
+        ensures more { OnOk result (HasMoreMarks marks.old marks.new) }
         ensures unmarked { OnErr result (marks.new ≡ marks.old) }
         ensures worked { OnOk result (self.old.is_worked ≡ true) }
         ensures why { IfErr result (DeniesFinish limit image.old self.old) }
@@ -142,7 +144,7 @@ impl Job {
 
     // Returns true if the result keeps `.pag` within the limit.
     fn may_grow(&self, limit: usize) -> bool
-        ensures { self.now.is_worked ≡ true → result ≡ may_grow (most_in self.now.page.size limit) (has_pairs self.now.page.pairs) self.now.place.page (result_of self.now).change }
+        ensures { self.now.is_worked ≡ true → result ≡ may_grow (most_in self.now.page.size limit) (has_pairs self.now.page.pairs) self.now.place.page (asked_result self.now).change }
     {
         match &self.worked {
             None => true,
@@ -164,12 +166,12 @@ impl Job {
         requires worked { self.old.is_worked ≡ true }
         requires current { IsCurrent image.old self.old }
         requires database { IsDatabase image.old }
-        requires grows { may_grow (most_in self.old.page.size limit) (has_pairs self.old.page.pairs) self.old.place.page (result_of self.old).change ≡ true }
+        requires grows { may_grow (most_in self.old.page.size limit) (has_pairs self.old.page.pairs) self.old.place.page (asked_result self.old).change ≡ true }
         ensures ok { IfOk result (λ reply. Acts image.old (record { session = 0; command = self.old.command; reply = reply }) image.new) }
         ensures fits { OnOk result (FitsFiles image.old → FitsFiles image.new) }
         ensures within { OnOk result (FitsWithin limit image.old → FitsWithin limit image.new) }
         ensures differ { OnOk result ((base : Database) → DifferOn marks.old base image.old → DifferOn marks.new base image.new) }
-        ensures more { OnOk result (HasMore marks.old marks.new) }
+        ensures more { OnOk result (HasMoreMarks marks.old marks.new) }
         ensures unmarked { OnErr result (marks.new ≡ marks.old) }
         ensures err { OnErr result (image.new ≡ image.old) }
         ensures kept { OnErr result (self.new ≡ self.old) }

@@ -1,8 +1,8 @@
 //! An open database with its programs.
-ghost use Rattle.boddurci_marks.specs.Marks.{DifferOn, DifferOn-prop};
+ghost use Rattle.boddurci_handles.specs.Marks.{DifferOn, DifferOn-prop};
 
 use crate::base::Base;
-use boddurci_marks::Marks;
+use crate::marks::Marks;
 use prog_registry::Registry;
 use sdbm_files::Image;
 use std::alloc::Global;

@@ -1,6 +1,6 @@
 //! The statuses of calls.
 ghost use Rattle.std.specs.Prelude.{◌≡◌};
-ghost use Rattle.boddurci_handles.specs.Statuses.{code_of, status_of, status_of_size};
+ghost use Rattle.boddurci_handles.specs.Statuses.{status_code, status_of_reply, status_of_size};
 
 use std::alloc::Global;
 use store_cmd::{Reply, SizeFault};
@@ -51,7 +51,7 @@ pub enum Status {
 impl Status {
     /// The number of the status in C.
     pub fn code(self) -> u32
-        ensures { result ≡ code_of self }
+        ensures { result ≡ status_code self }
     {
         match self {
             Status::Done => 0,
@@ -78,7 +78,7 @@ impl Status {
 
     /// The status of a reply.
     pub fn of_reply(reply: &Reply<Global>) -> Status
-        ensures { result ≡ status_of reply.now }
+        ensures { result ≡ status_of_reply reply.now }
     {
         match reply {
             Reply::Found(_) => Status::Done,

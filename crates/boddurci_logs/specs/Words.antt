@@ -1,11 +1,11 @@
 -- Steps as words of 64 bits, five a step: its kind, its file, its offset in the file, its offset in the buffer, and a length.
 use Rattle.std.specs.Prelude.{ℕ, List, [], ◌∷◌, ◌++◌}
-use Rattle.sdbm_saves.specs.declared.disk.File.{File}
-use Rattle.sdbm_saves.specs.declared.disk.File.TheVariants.{Pages, Directory, Redo}
+use Rattle.sdbm_saves.specs.declared.disk.DiskFile.{DiskFile}
+use Rattle.sdbm_saves.specs.declared.disk.DiskFile.TheVariants.{Pages, Directory, Redo}
 use Rattle.sdbm_log.specs.declared.steps.Step.{Step}
 use Rattle.sdbm_log.specs.declared.steps.Step.TheVariants.{Write, Zeros, Resize, Sync}
 
-abbrev pub number_of_file : File → ℕ
+abbrev pub number_of_file : DiskFile → ℕ
 number_of_file Pages = 0
 number_of_file Directory = 1
 number_of_file Redo = 2

@@ -6,7 +6,7 @@ ghost use Rattle.sdbm_log.specs.declared.records.LogFault.TheVariants as fault;
 
 use boddurci_handles::Status;
 use sdbm_log::{LogFault, Step};
-use sdbm_saves::File;
+use sdbm_saves::DiskFile;
 use std::alloc::{AllocError, Global};
 
 /// The words of steps: for each its kind, its file, its offset in the file, its offset in the buffer, and a length.
@@ -38,13 +38,13 @@ fn words_of_step(step: Step) -> [u64; 5]
 }
 
 // The number of a file.
-fn code_of(file: File) -> u64
+fn code_of(file: DiskFile) -> u64
     ensures { result ≡ number_of_file file }
 {
     match file {
-        File::Pages => 0,
-        File::Directory => 1,
-        File::Redo => 2,
+        DiskFile::Pages => 0,
+        DiskFile::Directory => 1,
+        DiskFile::Redo => 2,
     }
 }
 

@@ -18,8 +18,8 @@ abbrev pub IsWord : Text → List Row → Bor Text → Type 0
 IsWord id rows text = first_of id rows ≡ Some text.now
 
 -- the text is the value of the option, and `None` if the option was not given
-abbrev pub IsGiven : Text → List Row → Option (Bor Text) → Type 0
-IsGiven id rows value = option_map (λ text. text.now) value ≡ first_of id rows
+abbrev pub IsOptionGiven : Text → List Row → Option (Bor Text) → Type 0
+IsOptionGiven id rows value = option_map (λ text. text.now) value ≡ first_of id rows
 
 abbrev pub IsForm : List Row → Form → Type 0
 IsForm rows form =
@@ -27,12 +27,12 @@ IsForm rows form =
 
 abbrev pub IsNotation : List Row → NotationOptions → Type 0
 IsNotation rows notation =
-    (notation.text ≡ is_given (codes "text") rows) × IsGiven (codes "as") rows notation.layout
+    (notation.text ≡ is_given (codes "text") rows) × IsOptionGiven (codes "as") rows notation.layout
 
 -- the options for access to the files
-abbrev pub IsAccess : List Row → Access → Type 0
-IsAccess rows access =
-    IsGiven (codes "timeout") rows access.timeout × ((access.must_exist ≡ is_given (codes "must-exist") rows) × ((access.quick ≡ is_given (codes "quick") rows) × ((access.verbose ≡ is_given (codes "verbose") rows) × (access.insist ≡ is_given (codes "insist") rows))))
+abbrev pub IsAccessOf : List Row → Access → Type 0
+IsAccessOf rows access =
+    IsOptionGiven (codes "timeout") rows access.timeout × ((access.must_exist ≡ is_given (codes "must-exist") rows) × ((access.quick ≡ is_given (codes "quick") rows) × ((access.verbose ≡ is_given (codes "verbose") rows) × (access.insist ≡ is_given (codes "insist") rows))))
 
 -- every required argument was given
 abbrev pub has_words : List Rule → List Row → Bool

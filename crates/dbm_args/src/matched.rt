@@ -1,7 +1,7 @@
 //! Reads the values of shared arguments and options from what `clap` matched.
 ghost use Rattle.std.specs.Prelude.{◌≡◌, option_map};
 ghost use Rattle.clap.specs.Words.{first_of, found_of, rows_of};
-ghost use Rattle.dbm_args.specs.Given.{IsAccess, IsForm, IsNotation, is_given};
+ghost use Rattle.dbm_args.specs.Given.{IsAccessOf, IsForm, IsNotation, is_given};
 
 use crate::options::{Access, Form, NotationOptions};
 use clap::ArgMatches;
@@ -45,7 +45,7 @@ pub fn notation<'a>(matches: &ArgMatches<'a>) -> NotationOptions<'a>
 
 /// How to open the database's files.
 pub fn access<'a>(matches: &ArgMatches<'a>) -> Access<'a>
-    ensures { IsAccess (rows_of (found_of matches.now)) result }
+    ensures { IsAccessOf (rows_of (found_of matches.now)) result }
 {
     Access {
         timeout: word(matches, "timeout"),

@@ -25,14 +25,14 @@ use Rattle.dbm_script.specs.declared.shorthand.TimeOfDay.{TimeOfDay}
 use Rattle.dbm_script.proofs.Runs.{known_read}
 use Rattle.dbm_args.specs.declared.options.Form.{Form}
 use Rattle.dbm_reports.specs.declared.databases.Given.{Given}
-use Rattle.dbm_batches.specs.Batches.{AreLeft, AreShortTasks, HasBadLine, IsReady, OnTasks, batch_causes, doing_causes, ready_causes, submit_causes, task_causes, task_for, workers_of}
+use Rattle.dbm_batches.specs.Batches.{AreLeft, AreShortTasks, HasBadLine, IsBatchReady, OnTasks, batch_causes, doing_causes, ready_causes, submit_causes, task_causes, task_for, workers_of}
 use Rattle.dbm_reports.specs.declared.fault.ReportFault.{ReportFault}
 use Rattle.dbm_reports.specs.declared.fault.ReportFault.TheVariants as reports
 use Rattle.dbm_reports.specs.Causes.{Causes, IsCaused, input_causes, no_causes}
 use Rattle.dbm_records.specs.Running.{program_causes}
 use Rattle.dbm_messages.specs.Faults.{pool_fault, report_fault}
-use Rattle.dbm_batches.specs.Causes.{HasCause, IsReported}
-use Rattle.dbm_reports.specs.Databases.{Opens}
+use Rattle.dbm_batches.specs.Causes.{HasWishCause, HasReportCause}
+use Rattle.dbm_reports.specs.Databases.{CanBeOpened}
 use Rattle.dbm_reports.specs.Reports.{IsFileImage}
 
 -- a history from the pairs at the opening of a store is a history from its database
@@ -45,14 +45,14 @@ legal_from store before after entries is legal =
 -- a store that does not close
 pub closing_fault : (batch : Batch) (tasks : List (Task Global)) (store : Opened) (calls : List (CallsState Global)) (fault : ServeFault)
     → store ≡ opened_by batch.database → AreLeft batch tasks calls
-    → (reason : CloseFault) × ((fault ≡ Close reason) × IsRefusedClose store calls reason) → HasCause (doing_causes batch tasks) fault
+    → (reason : CloseFault) × ((fault ≡ Close reason) × IsRefusedClose store calls reason) → HasWishCause (doing_causes batch tasks) fault
 closing_fault batch tasks store calls fault is left bad =
-    subst (λ (f : ServeFault). HasCause (doing_causes batch tasks) f) (sym bad.1.0)
+    subst (λ (f : ServeFault). HasWishCause (doing_causes batch tasks) f) (sym bad.1.0)
     (calls, (left, subst (λ (o : Opened). IsRefusedClose o calls bad.0) is bad.1.1))
 
 -- tasks that are not all done
 pub jobs_fault : (batch : Batch) (tasks : List (Task Global)) (calls : List (CallsState Global)) (fault : PoolFault)
-    → IsPoolFault batch.database.size batch.registry.programs tasks batch.workers fault calls → HasCause (doing_causes batch tasks) (pool_fault fault)
+    → IsPoolFault batch.database.size batch.registry.programs tasks batch.workers fault calls → HasWishCause (doing_causes batch tasks) (pool_fault fault)
 jobs_fault batch tasks calls jobs.NoWorkers h = (calls, h)
 jobs_fault batch tasks calls (jobs.NoProgram task) h = (calls, h)
 jobs_fault batch tasks calls jobs.NoSession h = (calls, h)
@@ -63,15 +63,15 @@ jobs_fault batch tasks calls jobs.NoMemory h = tt
 -- tasks that are not all done, whether the store closes or not
 pub undone_fault : (batch : Batch) (tasks : List (Task Global)) (store : Opened) (calls : List (CallsState Global)) (fault : PoolFault) (result : ServeFault)
     → store ≡ opened_by batch.database → IsPoolFault batch.database.size batch.registry.programs tasks batch.workers fault calls
-    → (result ≡ pool_fault fault) ⊎ ((reason : CloseFault) × ((result ≡ Close reason) × IsRefusedClose store calls reason)) → HasCause (doing_causes batch tasks) result
+    → (result ≡ pool_fault fault) ⊎ ((reason : CloseFault) × ((result ≡ Close reason) × IsRefusedClose store calls reason)) → HasWishCause (doing_causes batch tasks) result
 undone_fault batch tasks store calls fault result is h cases =
     elim cases [
-      | inl of_jobs ↦ subst (λ (f : ServeFault). HasCause (doing_causes batch tasks) f) (sym of_jobs) (jobs_fault batch tasks calls fault h)
+      | inl of_jobs ↦ subst (λ (f : ServeFault). HasWishCause (doing_causes batch tasks) f) (sym of_jobs) (jobs_fault batch tasks calls fault h)
       | inr bad ↦ closing_fault batch tasks store calls result is (inr (fault, h)) bad
     ]
 
 -- no cause at all
-no_report : (causes : Causes) (fault : ReportFault) → IsReported no_causes fault → IsReported causes fault
+no_report : (causes : Causes) (fault : ReportFault) → HasReportCause no_causes fault → HasReportCause causes fault
 no_report causes reports.BadHex h = absurd h
 no_report causes reports.BadText h = absurd h
 no_report causes reports.BadLayout h = absurd h
@@ -87,7 +87,7 @@ no_report causes reports.NoMemory h = absurd h
 
 -- the database's files and the program's file are read after the number of workers
 pub files_before : (form : Form) (given : Given) (workers : Bor (List ℕ)) (is_image : Bool) (fault : ReportFault)
-    → IsSome (workers_of workers.now) → IsCaused (program_causes form given is_image) fault → HasCause (ready_causes form given workers is_image) (report_fault fault)
+    → IsSome (workers_of workers.now) → IsCaused (program_causes form given is_image) fault → HasWishCause (ready_causes form given workers is_image) (report_fault fault)
 files_before form given workers is_image reports.BadHex number h = absurd h
 files_before form given workers is_image reports.BadText number h = absurd h
 files_before form given workers is_image reports.BadLayout number h = absurd h
@@ -103,7 +103,7 @@ files_before form given workers is_image reports.NoMemory number h = tt
 
 -- an image whose program is refused, after the words and the files
 pub submitted_fault : (form : Form) (given : Given) (workers : Bor (List ℕ)) (is_image : Bool) (image : List ℕ) (fault : ServeFault)
-    → IsSome (workers_of workers.now) → Opens form given → IsFileImage is_image given.file.items image → HasCause (submit_causes image) fault → HasCause (ready_causes form given workers is_image) fault
+    → IsSome (workers_of workers.now) → CanBeOpened form given → IsFileImage is_image given.file.items image → HasWishCause (submit_causes image) fault → HasWishCause (ready_causes form given workers is_image) fault
 submitted_fault form given workers is_image image NotText number opens is h = h
 submitted_fault form given workers is_image image ReadFile number opens is h = h
 submitted_fault form given workers is_image image FileTooLong number opens is h = h
@@ -132,7 +132,7 @@ submitted_fault form given workers is_image image NoMemory number opens is h = h
 
 -- a batch that is not ready
 pub unready_fault : (n : Notation Global) (form : Form) (given : Given) (workers : Bor (List ℕ)) (is_image : Bool) (time : Option TimeOfDay) (input : Option (List ℕ)) (fault : ServeFault)
-    → HasCause (ready_causes form given workers is_image) fault → HasCause (batch_causes n form given workers is_image time input) fault
+    → HasWishCause (ready_causes form given workers is_image) fault → HasWishCause (batch_causes n form given workers is_image time input) fault
 unready_fault n form given workers is_image time input NotText h = h
 unready_fault n form given workers is_image time input ReadFile h = h
 unready_fault n form given workers is_image time input FileTooLong h = h
@@ -172,10 +172,10 @@ unready_fault n form given workers is_image time input NoMemory h = h
 
 -- tasks that are not all done, after the lines were read
 pub doing_fault : (n : Notation Global) (time : Option TimeOfDay) (batch : Batch) (input : List ℕ) (words : List (RunWords Global)) (tasks : List (Task Global)) (fault : ServeFault)
-    → AreShortTasks n time input words → tasks ≡ map (task_for batch.program) words → HasCause (doing_causes batch tasks) fault → HasCause (task_causes n time batch (Some input)) fault
-doing_fault n time batch input words tasks fault are is h = go fault (subst (λ (ts : List (Task Global)). HasCause (doing_causes batch ts) fault) is h)
+    → AreShortTasks n time input words → tasks ≡ map (task_for batch.program) words → HasWishCause (doing_causes batch tasks) fault → HasWishCause (task_causes n time batch (Some input)) fault
+doing_fault n time batch input words tasks fault are is h = go fault (subst (λ (ts : List (Task Global)). HasWishCause (doing_causes batch ts) fault) is h)
   where
-    go : (fault : ServeFault) → HasCause (doing_causes batch (map (task_for batch.program) words)) fault → HasCause (task_causes n time batch (Some input)) fault
+    go : (fault : ServeFault) → HasWishCause (doing_causes batch (map (task_for batch.program) words)) fault → HasWishCause (task_causes n time batch (Some input)) fault
     go NotText h = absurd h
     go ReadFile h = absurd h
     go FileTooLong h = absurd h
@@ -204,7 +204,7 @@ doing_fault n time batch input words tasks fault are is h = go fault (subst (λ 
 
 -- standard input is read once a batch is ready
 pub unread_fault : (n : Notation Global) (form : Form) (given : Given) (workers : Bor (List ℕ)) (is_image : Bool) (time : Option TimeOfDay) (input : Option (List ℕ)) (batch : Batch) (fault : ReportFault)
-    → IsReady form given workers is_image batch → IsCaused (input_causes input) fault → HasCause (batch_causes n form given workers is_image time input) (report_fault fault)
+    → IsBatchReady form given workers is_image batch → IsCaused (input_causes input) fault → HasWishCause (batch_causes n form given workers is_image time input) (report_fault fault)
 unread_fault n form given workers is_image time input batch reports.BadHex ready h = absurd h
 unread_fault n form given workers is_image time input batch reports.BadText ready h = absurd h
 unread_fault n form given workers is_image time input batch reports.BadLayout ready h = absurd h
@@ -225,8 +225,8 @@ known_tasks n time batch known read P is on = (on.0, (known_read known read (λ 
 
 -- the lines and the tasks, once a batch is ready
 pub ran_fault : (n : Notation Global) (form : Form) (given : Given) (workers : Bor (List ℕ)) (is_image : Bool) (time : Option TimeOfDay) (known : Option (List ℕ)) (read : List ℕ) (batch : Batch) (fault : ServeFault)
-    → IfSome known (λ input. read ≡ input) → IsReady form given workers is_image batch → HasCause (task_causes n time batch (Some read)) fault
-    → HasCause (batch_causes n form given workers is_image time known) fault
+    → IfSome known (λ input. read ≡ input) → IsBatchReady form given workers is_image batch → HasWishCause (task_causes n time batch (Some read)) fault
+    → HasWishCause (batch_causes n form given workers is_image time known) fault
 ran_fault n form given workers is_image time known read batch NotText is ready h = absurd h
 ran_fault n form given workers is_image time known read batch ReadFile is ready h = absurd h
 ran_fault n form given workers is_image time known read batch FileTooLong is ready h = absurd h

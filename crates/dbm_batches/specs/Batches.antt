@@ -19,7 +19,7 @@ use Rattle.worker_pool.specs.declared.task.Task.{Task}
 use Rattle.dbm_script.specs.Answers.{reply_text}
 use Rattle.dbm_script.specs.Images.{Denies}
 use Rattle.dbm_script.specs.Numbers.{number_of}
-use Rattle.dbm_script.specs.Shorthand.{spelled}
+use Rattle.dbm_script.specs.Shorthand.{spelled_text}
 use Rattle.dbm_script.specs.Tasks.{AreTasksOf, IsFirstBad}
 use Rattle.dbm_script.specs.declared.shorthand.LineKind.TheVariants.{OfBatch}
 use Rattle.dbm_script.specs.declared.shorthand.TimeOfDay.{TimeOfDay}
@@ -32,7 +32,7 @@ use Rattle.dbm_reports.specs.declared.report.Report.{Report}
 use Rattle.dbm_reports.specs.Causes.{IsLongScript, no_causes}
 use Rattle.dbm_records.specs.Running.{program_causes}
 use Rattle.dbm_batches.specs.Causes.{WishCauses, no_wish_causes, only_report}
-use Rattle.dbm_reports.specs.Databases.{IsOpened, IsShut, Opens}
+use Rattle.dbm_reports.specs.Databases.{IsOpened, IsShut, CanBeOpened}
 use Rattle.dbm_reports.specs.Reports.{IsFileImage}
 
 -- ---- before standard input is read
@@ -49,7 +49,7 @@ pub record IsSubmitted (image : List ℕ) (programs : List Accepted) (id : ProgI
   pub first : id.0 ≡ 0
 
 -- A batch is ready: the words have a number of workers, the files spell its database, and the program of the file's image is registered.
-pub record IsReady (form : Form) (given : Given) (workers : Bor (List ℕ)) (is_image : Bool) (batch : Batch) : Type 0 where
+pub record IsBatchReady (form : Form) (given : Given) (workers : Bor (List ℕ)) (is_image : Bool) (batch : Batch) : Type 0 where
   pub number : workers_of workers.now ≡ Some batch.workers
   pub opened : IsOpened form given batch.database
   pub image : List ℕ
@@ -65,12 +65,12 @@ task_for program words = record { key = words.key; prog = program; arg = words.a
 -- the input has at most 16,777,216 bytes, and its lines, with their shorthand spelled out, are just these runs
 pub record AreShortTasks (notation : Notation Global) (time : Option TimeOfDay) (bytes : List ℕ) (words : List (RunWords Global)) : Type 0 where
   pub short : length bytes ≤ 16777216
-  pub are : AreTasksOf Global notation (spelled OfBatch time bytes) words
+  pub are : AreTasksOf Global notation (spelled_text OfBatch time bytes) words
 
 -- the input has at most 16,777,216 bytes, and this is the first line that is not a task
 pub record HasBadLine (notation : Notation Global) (time : Option TimeOfDay) (bytes : List ℕ) (number : ℕ) : Type 0 where
   pub short : length bytes ≤ 16777216
-  pub is : IsFirstBad Global notation (spelled OfBatch time bytes) number
+  pub is : IsFirstBad Global notation (spelled_text OfBatch time bytes) number
 
 -- P holds of the tasks of standard input, if it is known
 abbrev pub OnTasks : Notation Global → Option TimeOfDay → Batch → Option (List ℕ) → (List (Task Global) → Type 0) → Type 0
@@ -89,7 +89,7 @@ pub record IsClosedAfter (before : Database) (calls : List (CallsState Global)) 
   pub size : after.size ≡ before.size
 
 -- All tasks are done on a database, each with its reply, and the calls of their workers lead to a new database.
-pub record LeadTo (batch : Batch) (tasks : List (Task Global)) (replies : List (Reply Global)) (after : Database) : Type 0 where
+pub record TasksLeadTo (batch : Batch) (tasks : List (Task Global)) (replies : List (Reply Global)) (after : Database) : Type 0 where
   pub calls : List (CallsState Global)
   pub done : AreDone batch.database.size batch.registry.programs tasks batch.workers replies calls
   pub closed : IsClosedAfter batch.database calls after
@@ -102,14 +102,14 @@ reply_line notation reply = reply_text notation reply ++ 10 ∷ []
 pub record DoesTasks (notation : Notation Global) (batch : Batch) (tasks : List (Task Global)) (report : Report) : Type 0 where
   pub replies : List (Reply Global)
   pub after : Database
-  pub leads : LeadTo batch tasks replies after
+  pub leads : TasksLeadTo batch tasks replies after
   pub text_is : report.text.items ≡ flat_map (reply_line notation) replies
   pub status_is : report.status ≡ 0
   pub written : report.database ≡ Some after
 
 -- P holds of a batch that is ready
 abbrev pub OnReady : Form → Given → Bor (List ℕ) → Bool → (Batch → Type 0) → Type 0
-OnReady form given workers is_image P = (batch : Batch) × (IsReady form given workers is_image batch × P batch)
+OnReady form given workers is_image P = (batch : Batch) × (IsBatchReady form given workers is_image batch × P batch)
 
 -- the result of a batch for its words, its files and standard input
 abbrev pub OnBatch : Notation Global → Form → Given → Bor (List ℕ) → Bool → Option TimeOfDay → Option (List ℕ) → Report → Type 0
@@ -130,7 +130,7 @@ ready_causes form given workers is_image = record (only_report (record no_causes
   no_text = IsSome (workers_of workers.now) × (program_causes form given is_image).no_text;
   assembling = λ fault. IsSome (workers_of workers.now) × (program_causes form given is_image).assembling fault;
 })) {
-  submitting = λ fault. IsSome (workers_of workers.now) × (Opens form given × ((image : List ℕ) × (IsFileImage is_image given.file.items image × (submit_causes image).submitting fault)));
+  submitting = λ fault. IsSome (workers_of workers.now) × (CanBeOpened form given × ((image : List ℕ) × (IsFileImage is_image given.file.items image × (submit_causes image).submitting fault)));
 }
 
 -- Not all tasks are done, for another reason than a failed allocation, which is a separate fault.

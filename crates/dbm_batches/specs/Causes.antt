@@ -38,34 +38,34 @@ abbrev pub no_wish_causes : WishCauses
 no_wish_causes = only_report no_causes
 
 -- The fault of a report has its cause. A failed allocation is a separate fault.
-abbrev pub IsReported : Causes → ReportFault → Type 0
-IsReported causes reports.NoMemory = ⊥
-IsReported causes fault = IsCaused causes fault
+abbrev pub HasReportCause : Causes → ReportFault → Type 0
+HasReportCause causes reports.NoMemory = ⊥
+HasReportCause causes fault = IsCaused causes fault
 
 -- A fault occurs only for its cause. An allocation may fail at any time; these steps have no other faults.
-abbrev pub HasCause : WishCauses → ServeFault → Type 0
-HasCause causes NotText = ⊥
-HasCause causes ReadFile = ⊥
-HasCause causes FileTooLong = ⊥
-HasCause causes WriteFile = ⊥
-HasCause causes BadRedo = ⊥
-HasCause causes Unsafe = ⊥
-HasCause causes OtherSize = ⊥
-HasCause causes ReadClock = ⊥
-HasCause causes BadBase = ⊥
-HasCause causes Absent = ⊥
-HasCause causes Exists = ⊥
-HasCause causes NoStock = ⊥
-HasCause causes Locked = ⊥
-HasCause causes (Moved file) = ⊥
-HasCause causes Changed = ⊥
-HasCause causes (Report fault) = IsReported causes.report fault
-HasCause causes (Dump fault) = causes.dump fault
-HasCause causes (Submit fault) = causes.submitting fault
-HasCause causes (BadLine number) = causes.bad_line number
-HasCause causes (CutLine line) = ⊥
-HasCause causes (Pool fault) = causes.pool fault
-HasCause causes (Close fault) = causes.closing fault
-HasCause causes Write = ⊥
-HasCause causes Saved = ⊥
-HasCause causes NoMemory = ⊤
+abbrev pub HasWishCause : WishCauses → ServeFault → Type 0
+HasWishCause causes NotText = ⊥
+HasWishCause causes ReadFile = ⊥
+HasWishCause causes FileTooLong = ⊥
+HasWishCause causes WriteFile = ⊥
+HasWishCause causes BadRedo = ⊥
+HasWishCause causes Unsafe = ⊥
+HasWishCause causes OtherSize = ⊥
+HasWishCause causes ReadClock = ⊥
+HasWishCause causes BadBase = ⊥
+HasWishCause causes Absent = ⊥
+HasWishCause causes Exists = ⊥
+HasWishCause causes NoStock = ⊥
+HasWishCause causes Locked = ⊥
+HasWishCause causes (Moved file) = ⊥
+HasWishCause causes Changed = ⊥
+HasWishCause causes (Report fault) = HasReportCause causes.report fault
+HasWishCause causes (Dump fault) = causes.dump fault
+HasWishCause causes (Submit fault) = causes.submitting fault
+HasWishCause causes (BadLine number) = causes.bad_line number
+HasWishCause causes (CutLine line) = ⊥
+HasWishCause causes (Pool fault) = causes.pool fault
+HasWishCause causes (Close fault) = causes.closing fault
+HasWishCause causes Write = ⊥
+HasWishCause causes Saved = ⊥
+HasWishCause causes NoMemory = ⊤

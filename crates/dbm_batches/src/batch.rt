@@ -5,13 +5,13 @@ ghost use Rattle.sdbm_addr.specs.Database.{Database};
 ghost use Rattle.std.specs.declared.alloc.Global.{Global};
 ghost use Rattle.store_shared.specs.Closed.{IsRefusedClose};
 ghost use Rattle.store_shared.specs.Shared.{opened_by};
-ghost use Rattle.dbm_script.specs.Shorthand.{spelled};
+ghost use Rattle.dbm_script.specs.Shorthand.{spelled_text};
 ghost use Rattle.dbm_script.specs.Tasks.{AreTasksOf, IsTasksFault};
 ghost use Rattle.dbm_script.specs.declared.shorthand.LineKind.TheVariants.{OfBatch};
-ghost use Rattle.dbm_batches.specs.Batches.{DoesTasks, IsClosedAfter, IsReady, IsSubmitted, LeadTo, OnBatch, OnTasks, batch_causes, doing_causes, ready_causes, reply_line, submit_causes, task_causes, task_for};
+ghost use Rattle.dbm_batches.specs.Batches.{DoesTasks, IsClosedAfter, IsBatchReady, IsSubmitted, TasksLeadTo, OnBatch, OnTasks, batch_causes, doing_causes, ready_causes, reply_line, submit_causes, task_causes, task_for};
 ghost use Rattle.dbm_messages.specs.declared.fault.ServeFault.TheVariants.{Close};
 ghost use Rattle.dbm_messages.specs.Faults.{pool_fault};
-ghost use Rattle.dbm_batches.specs.Causes.{HasCause};
+ghost use Rattle.dbm_batches.specs.Causes.{HasWishCause};
 ghost use Rattle.dbm_reports.specs.Served.{IsPrinted, IsUnserved};
 
 use dbm_args::Form;
@@ -65,7 +65,7 @@ pub fn serve_batch<T: Threads + Wait + Sync, R: Read, W: Write>(
     writer: &mut W,
 ) -> Result<Outcome, Unserved<ServeFault>>
     ensures ok { IfOk result (λ served. IsPrinted (OnBatch notation.now asked.entry.form given.now asked.entry.workers asked.entry.image asked.entry.time (R.remaining reader.old)) (W.contents writer.old) (W.contents writer.new) served.status served.database) }
-    ensures fault { IfErr result (IsUnserved (OnBatch notation.now asked.entry.form given.now asked.entry.workers asked.entry.image asked.entry.time (R.remaining reader.old)) (HasCause (batch_causes notation.now asked.entry.form given.now asked.entry.workers asked.entry.image asked.entry.time (R.remaining reader.old))) (W.contents writer.old) (W.contents writer.new)) }
+    ensures fault { IfErr result (IsUnserved (OnBatch notation.now asked.entry.form given.now asked.entry.workers asked.entry.image asked.entry.time (R.remaining reader.old)) (HasWishCause (batch_causes notation.now asked.entry.form given.now asked.entry.workers asked.entry.image asked.entry.time (R.remaining reader.old))) (W.contents writer.old) (W.contents writer.new)) }
     ensures database { IfOk result (λ served. is_some served.database ≡ true) }
 {
     match report_batch(rt, alloc, notation, asked, given, reader) {
@@ -90,7 +90,7 @@ pub fn report_batch<T: Threads + Wait + Sync, R: Read>(
     reader: &mut R,
 ) -> Result<Report, ServeFault>
     ensures ok { IfOk result (OnBatch notation.now asked.entry.form given.now asked.entry.workers asked.entry.image asked.entry.time (R.remaining reader.old)) }
-    ensures fault { IfErr result (HasCause (batch_causes notation.now asked.entry.form given.now asked.entry.workers asked.entry.image asked.entry.time (R.remaining reader.old))) }
+    ensures fault { IfErr result (HasWishCause (batch_causes notation.now asked.entry.form given.now asked.entry.workers asked.entry.image asked.entry.time (R.remaining reader.old))) }
 {
     let batch = ready_batch(alloc, given, asked.form, asked.workers, asked.image)?;
     let input = read_input(alloc, reader)?;
@@ -105,8 +105,8 @@ fn ready_batch(
     workers: &str,
     is_image: bool,
 ) -> Result<Batch, ServeFault>
-    ensures ok { IfOk result (IsReady form given.now workers.entry is_image) }
-    ensures fault { IfErr result (HasCause (ready_causes form given.now workers.entry is_image)) }
+    ensures ok { IfOk result (IsBatchReady form given.now workers.entry is_image) }
+    ensures fault { IfErr result (HasWishCause (ready_causes form given.now workers.entry is_image)) }
 {
     let Some(workers) = read_number(workers.as_bytes(), WORKERS_MOST) else {
         return Err(ServeFault::Report(ReportFault::BadNumber));
@@ -124,7 +124,7 @@ fn ready_batch(
 // A registry with only the program of an image, and its number.
 fn register(alloc: Global, image: &[u8]) -> Result<(Registry<Global>, ProgId), ServeFault>
     ensures ok { IfOk result (λ r. IsSubmitted image.now r.0.programs r.1) }
-    ensures fault { IfErr result (HasCause (submit_causes image.now)) }
+    ensures fault { IfErr result (HasWishCause (submit_causes image.now)) }
 {
     let mut registry = Registry::new(alloc)?;
     let program = registry.submit(image)?;
@@ -142,7 +142,7 @@ fn run_batch<T: Threads + Wait + Sync>(
 ) -> Result<Report, ServeFault>
     requires { length input.now ≤ 16777216 }
     ensures ok { IfOk result (λ report. OnTasks notation.now time batch (Some input.now) (λ tasks. DoesTasks notation.now batch tasks report)) }
-    ensures fault { IfErr result (HasCause (task_causes notation.now time batch (Some input.now))) }
+    ensures fault { IfErr result (HasWishCause (task_causes notation.now time batch (Some input.now))) }
 {
     let words = words_of_lines(alloc, notation, time, input)?;
     let tasks = tasks_for(alloc, batch.program, words)?;
@@ -162,8 +162,8 @@ fn words_of_lines(
     time: Option<TimeOfDay>,
     input: &[u8],
 ) -> Result<Vec<RunWords<Global>>, TasksFault>
-    ensures ok { IfOk result (λ words. AreTasksOf Global notation.now (spelled OfBatch time input.now) words.items) }
-    ensures fault { IfErr result (IsTasksFault Global notation.now (spelled OfBatch time input.now)) }
+    ensures ok { IfOk result (λ words. AreTasksOf Global notation.now (spelled_text OfBatch time input.now) words.items) }
+    ensures fault { IfErr result (IsTasksFault Global notation.now (spelled_text OfBatch time input.now)) }
 {
     let lines = spell_out(alloc, LineKind::OfBatch, time, input)?;
     read_tasks(alloc, notation, lines.as_slice())
@@ -204,8 +204,8 @@ fn do_tasks<T: Threads + Wait + Sync>(
     batch: Batch,
     tasks: &[Task<Global>],
 ) -> Result<Done, ServeFault>
-    ensures ok { IfOk result (λ done. LeadTo batch tasks.now done.replies.items done.database) }
-    ensures fault { IfErr result (HasCause (doing_causes batch tasks.now)) }
+    ensures ok { IfOk result (λ done. TasksLeadTo batch tasks.now done.replies.items done.database) }
+    ensures fault { IfErr result (HasWishCause (doing_causes batch tasks.now)) }
 {
     let Batch {
         workers,

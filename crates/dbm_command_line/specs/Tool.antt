@@ -29,8 +29,8 @@ abbrev pub titled : Shape
 titled = record (new_shape (codes "dbm")) { has_version = true }
 
 -- the program without its subcommands: the words do not begin with its name, and an empty command line prints the help
-abbrev pub bare : Shape
-bare = record titled {
+abbrev pub bare_shape : Shape
+bare_shape = record titled {
   no_binary_name = true;
   subcommand_required = true;
   arg_required_else_help = true;
@@ -39,6 +39,6 @@ bare = record titled {
 -- the program
 abbrev pub tool : App
 tool = record {
-  top = record bare { is_leaf = false };
+  top = record bare_shape { is_leaf = false };
   subs = fetch ∷ store ∷ delete ∷ rename ∷ list ∷ keys ∷ count ∷ check ∷ stats ∷ script ∷ session ∷ widen ∷ backup ∷ dump ∷ load ∷ asm ∷ disasm ∷ verify ∷ programs ∷ run ∷ batch ∷ [];
 }

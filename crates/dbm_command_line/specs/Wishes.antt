@@ -7,7 +7,7 @@ use Rattle.clap.specs.Words.{IsAmong, Kinds, Row, Text, kind_of}
 use Rattle.clap.specs.declared.error.kind.ErrorKind.TheVariants.{DisplayHelp, DisplayVersion, OutOfMemory}
 use Rattle.clap.specs.declared.error.Error.{Error}
 use Rattle.dbm_command_line.specs.Tool.{tool}
-use Rattle.dbm_args.specs.Given.{IsAccess, has_words}
+use Rattle.dbm_args.specs.Given.{IsAccessOf, has_words}
 use Rattle.dbm_dump.specs.Backup.{BackupAsks}
 use Rattle.dbm_dump.specs.Dump.{DumpAsks, dump_head}
 use Rattle.dbm_dump.specs.Load.{LoadAsks, load_head}
@@ -63,12 +63,12 @@ head_of (wish.Disasm disasm) = disasm_head disasm
 head_of (wish.Verify verify) = verify_head verify
 
 -- the database that a request is about
-abbrev pub base_of : Wish → Option Text
-base_of wish = option_map (λ text. text.now) (head_of wish).base
+abbrev pub wish_base : Wish → Option Text
+wish_base wish = option_map (λ text. text.now) (head_of wish).base
 
 -- the program file that a request is about
-abbrev pub file_of : Wish → Option Text
-file_of wish = option_map (λ text. text.now) (head_of wish).file
+abbrev pub wish_file : Wish → Option Text
+wish_file wish = option_map (λ text. text.now) (head_of wish).file
 
 -- the files of its database are written after it, even if nothing has changed
 abbrev pub writes_files : Wish → Bool
@@ -139,14 +139,14 @@ SubcommandAsks name rows (ask.Backup backup) = (name ≡ codes "backup") × Back
 SubcommandAsks name rows (ask.Programs programs) = (name ≡ codes "programs") × ProgramsAsks rows programs
 
 -- the matches name a subcommand, and this is its request
-abbrev pub IsAsked : Option (Text × List Row) → Ask → Type 0
-IsAsked None asked = ⊥
-IsAsked (Some matches) asked = SubcommandAsks matches.0 matches.1 asked
+abbrev pub IsRequestAsked : Option (Text × List Row) → Ask → Type 0
+IsRequestAsked None asked = ⊥
+IsRequestAsked (Some matches) asked = SubcommandAsks matches.0 matches.1 asked
 
 -- the matches name a subcommand, and these are its options for access to a database
 abbrev pub IsAccessGiven : Option (Text × List Row) → Access → Type 0
 IsAccessGiven None access = ⊥
-IsAccessGiven (Some matches) access = IsAccess matches.1 access
+IsAccessGiven (Some matches) access = IsAccessOf matches.1 access
 
 -- the matches name no subcommand of the program, or a required word is missing
 abbrev pub lacks_word : Option (Text × List Row) → Bool

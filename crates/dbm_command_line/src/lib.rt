@@ -4,7 +4,7 @@
 ghost use Rattle.std.specs.Prelude.{◌≡◌, IfOk, IfErr, IsErrOf, true, false, [], map};
 ghost use Rattle.clap.specs.Words.{fault_of, subcommand_of};
 ghost use Rattle.dbm_command_line.specs.Tool.{tool};
-ghost use Rattle.dbm_command_line.specs.Wishes.{IsAccessGiven, IsAsked, IsRefusedFor, lacks_word};
+ghost use Rattle.dbm_command_line.specs.Wishes.{IsAccessGiven, IsRequestAsked, IsRefusedFor, lacks_word};
 
 mod fault;
 mod matched;
@@ -24,7 +24,7 @@ use std::alloc::Global;
 /// `Refused` if the words do not fit the command line, or if they request help or the version; its error has the text for the
 /// user. `NoWord` only if a required word of the subcommand is missing. `NoMemory` if allocation fails.
 pub fn read_words<'a>(alloc: Global, words: &'a [&'a str]) -> Result<Request<'a>, ToolFault>
-    ensures wish { IfOk result (λ request. IsAsked (subcommand_of tool (map (λ word. word.now) words.now)) request.ask) }
+    ensures wish { IfOk result (λ request. IsRequestAsked (subcommand_of tool (map (λ word. word.now) words.now)) request.ask) }
     ensures access { IfOk result (λ request. IsAccessGiven (subcommand_of tool (map (λ word. word.now) words.now)) request.access) }
     ensures accepted { IfOk result (λ _. fault_of tool (map (λ word. word.now) words.now) ≡ []) }
     ensures refused { IfErr result (IsRefusedFor (fault_of tool (map (λ word. word.now) words.now))) }

@@ -76,7 +76,7 @@ fn titled_command<'a>(alloc: Global) -> Command<'a>
 
 // The program without its subcommands.
 fn bare_command<'a>(alloc: Global) -> Result<Command<'a>, AllocError>
-    ensures { IfOk result (IsSubcommand spec.bare) }
+    ensures { IfOk result (IsSubcommand spec.bare_shape) }
 {
     titled_command(alloc)
         .no_binary_name(true)

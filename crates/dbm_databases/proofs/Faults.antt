@@ -13,13 +13,13 @@ use Rattle.dbm_databases.specs.declared.script.Script.{Script}
 use Rattle.dbm_reports.specs.declared.databases.Given.{Given}
 use Rattle.dbm_reports.specs.declared.fault.ReportFault.{ReportFault}
 use Rattle.dbm_reports.specs.declared.fault.ReportFault.TheVariants.{BadHex, BadText, BadLayout, BadNumber, Open, NotText, Assemble, Decode, Read, TooLong, OutputTooLong, NoMemory}
-use Rattle.dbm_reports.specs.Databases.{Opens}
+use Rattle.dbm_reports.specs.Databases.{CanBeOpened}
 use Rattle.dbm_databases.specs.Playing.{output_limit, IsOverlong, alone_causes, numbered_causes, play_causes, script_causes}
 use Rattle.dbm_reports.specs.Causes.{Causes, IsCaused, input_causes, lines_fault}
 use Rattle.dbm_databases.specs.Script.{script_in}
 
 -- standard input is read after the files are opened
-pub input_fault : (n : Notation Global) (form : Form) (given : Given) (time : Option TimeOfDay) (input : Option (List ℕ)) (most : ℕ) (fault : ReportFault) → Opens form given → IsCaused (input_causes input) fault → IsCaused (script_causes n form given time input most) fault
+pub input_fault : (n : Notation Global) (form : Form) (given : Given) (time : Option TimeOfDay) (input : Option (List ℕ)) (most : ℕ) (fault : ReportFault) → CanBeOpened form given → IsCaused (input_causes input) fault → IsCaused (script_causes n form given time input most) fault
 input_fault n form given time input most BadHex opens h = h
 input_fault n form given time input most BadText opens h = h
 input_fault n form given time input most BadLayout opens h = h

@@ -8,13 +8,13 @@ use Rattle.std.specs.Borrow.{Bor}
 use Rattle.sdbm_addr.specs.Pairs.{Pair}
 use Rattle.sdbm_files.specs.Lent.{pair_lent, pairs_lent}
 use Rattle.dbm_script.specs.declared.notations.Notation.{Notation}
-use Rattle.dbm_databases.specs.Rows.{chosen, row_of, rows}
+use Rattle.dbm_databases.specs.Rows.{chosen, listing_row, rows}
 use Rattle.dbm_databases.specs.declared.rows.Listing.{Listing}
 
 rows-append : {A : Type 0} (n : Notation A) (listing : Listing) (prefix : List ℕ) (xs ys : List Pair) → rows n listing prefix (xs ++ ys) ≡ rows n listing prefix xs ++ rows n listing prefix ys
 rows-append n listing prefix xs ys =
-    ap (flat_map (row_of n listing)) (filter-append (λ (e : Pair). starts_with nat_eq e.0 prefix) xs ys)
-    ∙ flat_map-append (row_of n listing) (chosen prefix xs) (chosen prefix ys)
+    ap (flat_map (listing_row n listing)) (filter-append (λ (e : Pair). starts_with nat_eq e.0 prefix) xs ys)
+    ∙ flat_map-append (listing_row n listing) (chosen prefix xs) (chosen prefix ys)
 
 -- the default past the end of a list of borrowed pairs
 abbrev pub nothing_lent : Bor (List ℕ) × Bor (List ℕ)

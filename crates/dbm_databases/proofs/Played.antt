@@ -4,21 +4,21 @@ use Rattle.std.specs.declared.alloc.Global.{Global}
 use Rattle.sdbm_addr.specs.Database.{Database}
 use Rattle.dbm_script.specs.Script.{AnswersExceed, IsScriptRun}
 use Rattle.dbm_script.proofs.Runs.{known_read}
-use Rattle.dbm_script.specs.Shorthand.{spelled}
+use Rattle.dbm_script.specs.Shorthand.{spelled_text}
 use Rattle.dbm_script.specs.declared.notations.Notation.{Notation}
 use Rattle.dbm_script.specs.declared.shorthand.LineKind.TheVariants.{OfScript}
 use Rattle.dbm_script.specs.declared.shorthand.TimeOfDay.{TimeOfDay}
 use Rattle.dbm_reports.specs.declared.report.Report.{Report}
 use Rattle.dbm_databases.specs.declared.script.Script.{Script}
 use Rattle.dbm_reports.specs.declared.databases.Given.{Given}
-use Rattle.dbm_databases.specs.Playing.{output_limit, IsOverlong, Plays, PlaysAlone, PlaysOn, PlaysAs, has_bad_line, spelled_input}
+use Rattle.dbm_databases.specs.Playing.{output_limit, IsOverlong, PlaysScript, PlaysAlone, PlaysOn, PlaysAs, has_bad_line, spelled_input}
 use Rattle.dbm_reports.specs.Reports.{OnDatabase}
 use Rattle.dbm_databases.specs.Script.{script_in}
 use Rattle.dbm_reports.proofs.Asked.{within}
 
 -- from the bytes that were read to the known bytes
 pub plays_known : (n : Notation Global) (before : Database) (known : Option (List ℕ)) (read : List ℕ) (most : ℕ) (after : Database) (report : Report)
-    → IfSome known (λ input. read ≡ input) → Plays n before (Some read) most after report → Plays n before known most after report
+    → IfSome known (λ input. read ≡ input) → PlaysScript n before (Some read) most after report → PlaysScript n before known most after report
 plays_known n before known read most after report is plays = record {
   runs = known_read known read (λ bytes. IsScriptRun Global n before bytes report.text.items after) is plays.runs;
   short = plays.short;
@@ -28,14 +28,14 @@ plays_known n before known read most after report is plays = record {
 }
 
 -- the same for the expanded script
-pub spelled_read : (time : Option TimeOfDay) (known : Option (List ℕ)) (read script : List ℕ) → IfSome known (λ input. read ≡ input) → script ≡ spelled OfScript time read
+pub spelled_read : (time : Option TimeOfDay) (known : Option (List ℕ)) (read script : List ℕ) → IfSome known (λ input. read ≡ input) → script ≡ spelled_text OfScript time read
     → IfSome (spelled_input time known) (λ input. script ≡ input)
 spelled_read time None read script is spells = tt
-spelled_read time (Some input) read script is spells = spells ∙ ap (spelled OfScript time) is
+spelled_read time (Some input) read script is spells = spells ∙ ap (spelled_text OfScript time) is
 
 -- another report with the same text and status
 pub plays_text : (n : Notation Global) (before : Database) (known : Option (List ℕ)) (most : ℕ) (after : Database) (report other : Report)
-    → other.text.items ≡ report.text.items → other.status ≡ report.status → Plays n before known most after report → Plays n before known most after other
+    → other.text.items ≡ report.text.items → other.status ≡ report.status → PlaysScript n before known most after report → PlaysScript n before known most after other
 plays_text n before known most after report other text status plays = record {
   runs = subst (λ (t : List ℕ). IfSome known (λ bytes. IsScriptRun Global n before bytes t after)) (sym text) plays.runs;
   short = subst (λ (t : List ℕ). length t ≤ most) (sym text) plays.short;

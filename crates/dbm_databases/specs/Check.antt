@@ -7,7 +7,7 @@ use Rattle.dbm_reports.specs.declared.databases.Given.{Given}
 use Rattle.dbm_reports.specs.Causes.{opening_causes}
 use Rattle.dbm_reports.specs.Known.{Known}
 use Rattle.dbm_reports.specs.Reports.{OnDatabase}
-use Rattle.dbm_databases.specs.Listings.{Counts}
+use Rattle.dbm_databases.specs.Listings.{PrintsCount}
 use Rattle.dbm_args.specs.CommandLine.{required_word, flag, subcommand, reading_options}
 use Rattle.dbm_args.specs.Heads.{head_on}
 use Rattle.dbm_args.specs.declared.options.Head.{Head}
@@ -21,7 +21,7 @@ CheckAsks rows check =
 
 abbrev pub check_in : Check → Given → Known
 check_in check given = record {
-  reports = λ report. OnDatabase check.form given (Counts check.json report);
+  reports = λ report. OnDatabase check.form given (PrintsCount check.json report);
   causes = opening_causes check.form given;
 }
 

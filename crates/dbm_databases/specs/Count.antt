@@ -5,7 +5,7 @@ use Rattle.std.specs.declared.alloc.Global.{Global}
 use Rattle.clap.specs.Words.{Shape, Row}
 use Rattle.sdbm_addr.specs.Database.{Database, map_of}
 use Rattle.dbm_args.specs.CommandLine.{required_word, flag, valued_option, subcommand, reading_options}
-use Rattle.dbm_args.specs.Given.{IsForm, IsGiven, IsNotation, IsWord}
+use Rattle.dbm_args.specs.Given.{IsForm, IsOptionGiven, IsNotation, IsWord}
 use Rattle.dbm_args.specs.Heads.{head_on}
 use Rattle.dbm_args.specs.declared.options.Head.{Head}
 use Rattle.dbm_script.specs.declared.notations.Notation.{Notation}
@@ -22,7 +22,7 @@ count = subcommand (codes "count") (required_word (codes "BASE") ∷ valued_opti
 
 abbrev pub CountAsks : List Row → Count → Type 0
 CountAsks rows count =
-    IsWord (codes "BASE") rows count.base × (IsForm rows count.form × (IsNotation rows count.notation × IsGiven (codes "prefix") rows count.prefix))
+    IsWord (codes "BASE") rows count.base × (IsForm rows count.form × (IsNotation rows count.notation × IsOptionGiven (codes "prefix") rows count.prefix))
 
 -- the line `count N`, as a script answers `count`
 abbrev pub count_line : ℕ → List ℕ

@@ -1,7 +1,7 @@
 -- The arguments of `keys`, its possible reports, and the conditions of its faults.
 use Rattle.std.specs.Prelude.{◌≡◌, List, ◌∷◌, codes, IsSomeAnd, Some}
 use Rattle.clap.specs.Words.{Shape, Row}
-use Rattle.dbm_args.specs.Given.{IsForm, IsGiven, IsNotation, IsWord, is_given}
+use Rattle.dbm_args.specs.Given.{IsForm, IsOptionGiven, IsNotation, IsWord, is_given}
 use Rattle.dbm_databases.specs.declared.keys.Keys.{Keys}
 use Rattle.std.specs.declared.alloc.Global.{Global}
 use Rattle.dbm_script.specs.declared.notations.Notation.{Notation}
@@ -19,7 +19,7 @@ keys = subcommand (codes "keys") (required_word (codes "BASE") ∷ valued_option
 
 abbrev pub KeysAsks : List Row → Keys → Type 0
 KeysAsks rows keys =
-    IsWord (codes "BASE") rows keys.base × (IsForm rows keys.form × (IsNotation rows keys.notation × (IsGiven (codes "prefix") rows keys.prefix × (keys.null ≡ is_given (codes "null") rows))))
+    IsWord (codes "BASE") rows keys.base × (IsForm rows keys.form × (IsNotation rows keys.notation × (IsOptionGiven (codes "prefix") rows keys.prefix × (keys.null ≡ is_given (codes "null") rows))))
 
 abbrev pub keys_in : Notation Global → Keys → Given → Known
 keys_in n keys given = record {

@@ -1,7 +1,7 @@
 -- The arguments of `list`, its possible reports, and the conditions of its faults.
 use Rattle.std.specs.Prelude.{◌≡◌, List, ◌∷◌, codes, IsSomeAnd, Some}
 use Rattle.clap.specs.Words.{Shape, Row}
-use Rattle.dbm_args.specs.Given.{IsForm, IsGiven, IsNotation, IsWord, is_given}
+use Rattle.dbm_args.specs.Given.{IsForm, IsOptionGiven, IsNotation, IsWord, is_given}
 use Rattle.dbm_databases.specs.declared.list.List.{List as Listed}
 use Rattle.std.specs.declared.alloc.Global.{Global}
 use Rattle.dbm_script.specs.declared.notations.Notation.{Notation}
@@ -19,7 +19,7 @@ list = with_alias (codes "ls") (subcommand (codes "list") (required_word (codes 
 
 abbrev pub ListAsks : List Row → Listed → Type 0
 ListAsks rows list =
-    IsWord (codes "BASE") rows list.base × (IsForm rows list.form × (IsNotation rows list.notation × (IsGiven (codes "prefix") rows list.prefix × ((list.null ≡ is_given (codes "null") rows) × (list.json ≡ is_given (codes "json") rows)))))
+    IsWord (codes "BASE") rows list.base × (IsForm rows list.form × (IsNotation rows list.notation × (IsOptionGiven (codes "prefix") rows list.prefix × ((list.null ≡ is_given (codes "null") rows) × (list.json ≡ is_given (codes "json") rows)))))
 
 abbrev pub list_in : Notation Global → Listed → Given → Known
 list_in n list given = record {

@@ -28,8 +28,8 @@ abbrev pub count_shown : Bool → ℕ → List ℕ
 count_shown json n = cond json (count_object (codes "ok") n) (ok_line n)
 
 -- prints the number of pairs
-abbrev pub Counts : Bool → Report → Database → Type 0
-Counts json report db = Prints (count_shown json (map.len (map_of db))) report
+abbrev pub PrintsCount : Bool → Report → Database → Type 0
+PrintsCount json report db = Prints (count_shown json (map.len (map_of db))) report
 
 -- the statistics of a database, as text or as an object
 abbrev pub figures_shown : Bool → Stats Global → List ℕ

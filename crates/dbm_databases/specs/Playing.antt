@@ -8,22 +8,22 @@ use Rattle.std.specs.declared.alloc.Global.{Global}
 use Rattle.sdbm_addr.specs.Database.{Database, empty_database}
 use Rattle.dbm_script.specs.declared.notations.Notation.{Notation}
 use Rattle.dbm_script.specs.Script.{IsScriptRun, AnswersExceed}
-use Rattle.dbm_script.specs.Shorthand.{spelled}
+use Rattle.dbm_script.specs.Shorthand.{spelled_text}
 use Rattle.dbm_script.specs.declared.shorthand.LineKind.TheVariants.{OfScript}
 use Rattle.dbm_script.specs.declared.shorthand.TimeOfDay.{TimeOfDay}
 use Rattle.dbm_args.specs.declared.options.Form.{Form}
 use Rattle.dbm_reports.specs.declared.report.Report.{Report}
 use Rattle.dbm_reports.specs.declared.databases.Given.{Given}
-use Rattle.dbm_reports.specs.Databases.{IsOpened, key_bytes_of, page_size_of, IsShut, Opens}
+use Rattle.dbm_reports.specs.Databases.{IsOpened, key_bytes_of, page_size_of, IsShut, CanBeOpened}
 use Rattle.dbm_script.specs.Numbers.{number_of}
 use Rattle.dbm_reports.specs.Causes.{Causes, no_causes, IsLongScript, input_causes}
 
 -- the script on standard input with its shorthand expanded, if its bytes are known
 abbrev pub spelled_input : Option TimeOfDay → Option (List ℕ) → Option (List ℕ)
-spelled_input time input = option_map (spelled OfScript time) input
+spelled_input time input = option_map (spelled_text OfScript time) input
 
 -- the answers to a script, and the database after it; the answers have at most `most` bytes
-pub record Plays (notation : Notation Global) (before : Database) (input : Option (List ℕ)) (most : ℕ) (after : Database) (report : Report) : Type 0 where
+pub record PlaysScript (notation : Notation Global) (before : Database) (input : Option (List ℕ)) (most : ℕ) (after : Database) (report : Report) : Type 0 where
   pub runs : IfSome input (λ bytes. IsScriptRun Global notation before bytes report.text.items after)
   pub short : length report.text.items ≤ most
   pub kind : after.kind ≡ before.kind
@@ -46,9 +46,9 @@ pub record IsBarred (before after : Database) (report : Report) : Type 0 where
 
 -- a script that may be strict; a strict script with a bad line does not run
 abbrev pub PlaysAs : Bool → Notation Global → Database → Option (List ℕ) → ℕ → Database → Report → Type 0
-PlaysAs false notation before input most after report = Plays notation before input most after report
+PlaysAs false notation before input most after report = PlaysScript notation before input most after report
 PlaysAs true notation before input most after report =
-    (IfSome input (λ bytes. has_bad_line notation bytes ≡ false) × Plays notation before input most after report)
+    (IfSome input (λ bytes. has_bad_line notation bytes ≡ false) × PlaysScript notation before input most after report)
     ⊎ (IfSome input (λ bytes. has_bad_line notation bytes ≡ true) × IsBarred before after report)
 
 -- a script on an empty database, which is then dropped
@@ -83,8 +83,8 @@ alone_causes notation form time input most = record (input_causes input) {
 abbrev pub script_causes : Notation Global → Form → Given → Option TimeOfDay → Option (List ℕ) → ℕ → Causes
 script_causes notation form given time input most = record no_causes {
   opening = IsShut form given;
-  reading = Opens form given;
-  long = Opens form given × IsLongScript input;
+  reading = CanBeOpened form given;
+  long = CanBeOpened form given × IsLongScript input;
   overlong = (db : Database) × (IsOpened form given db × IsOverlong notation db (spelled_input time input) most);
 }
 

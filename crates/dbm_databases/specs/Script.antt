@@ -2,7 +2,7 @@
 use Rattle.std.specs.Prelude.{◌≡◌, List, ◌∷◌, Some, codes, Option, ℕ, None, IsSomeAnd, is_some}
 use Rattle.clap.specs.Words.{Shape, Row}
 use Rattle.std.specs.Borrow.{Bor}
-use Rattle.dbm_args.specs.Given.{IsForm, IsGiven, IsNotation, is_given}
+use Rattle.dbm_args.specs.Given.{IsForm, IsOptionGiven, IsNotation, is_given}
 use Rattle.dbm_databases.specs.declared.script.Script.{Script}
 use Rattle.std.specs.declared.alloc.Global.{Global}
 use Rattle.dbm_script.specs.declared.notations.Notation.{Notation}
@@ -19,7 +19,7 @@ script = subcommand (codes "script") (valued_option (codes "base") ∷ valued_op
 
 abbrev pub ScriptAsks : List Row → Script → Type 0
 ScriptAsks rows script =
-    IsGiven (codes "base") rows script.base × (IsGiven (codes "max-output") rows script.max_output × (IsForm rows script.form × (IsNotation rows script.notation × ((script.strict ≡ is_given (codes "strict") rows) × ((script.clock ≡ is_given (codes "clock") rows) × (script.time ≡ None))))))
+    IsOptionGiven (codes "base") rows script.base × (IsOptionGiven (codes "max-output") rows script.max_output × (IsForm rows script.form × (IsNotation rows script.notation × ((script.strict ≡ is_given (codes "strict") rows) × ((script.clock ≡ is_given (codes "clock") rows) × (script.time ≡ None))))))
 
 -- the possible reports of a script, and its faults; it may have a base or not
 abbrev pub script_in : Notation Global → Option (Bor (List ℕ)) → Script → Given → Option (List ℕ) → Known

@@ -5,7 +5,7 @@ ghost use Rattle.dbm_args.specs.CommandLine.{IsSubcommand};
 ghost use Rattle.dbm_args.specs.Given.{has_words};
 ghost use Rattle.dbm_databases.specs.Check as spec;
 ghost use Rattle.dbm_databases.specs.Check.{CheckAsks, check_head};
-ghost use Rattle.dbm_databases.specs.Listings.{Counts};
+ghost use Rattle.dbm_databases.specs.Listings.{PrintsCount};
 
 use clap::{ArgMatches, Command};
 use dbm_args::arguments::{base, insist, json, timeout, unsigned, verbose, wide};
@@ -104,7 +104,7 @@ impl Subcommand for Check<'_> {
 
 // Reports the number of pairs, as a line or as a JSON object.
 fn counted(alloc: Global, image: &Image<Global>, json: bool) -> Result<Report, AllocError>
-    ensures { IfOk result (λ report. Counts json report image.now) }
+    ensures { IfOk result (λ report. PrintsCount json report image.now) }
 {
     if json {
         return Ok(printed(show_count_object(alloc, b"ok", image.count() as u64)?));

@@ -1,10 +1,10 @@
 //! Runs a script on a database.
 ghost use Rattle.std.specs.Prelude.{◌≡◌, Some, IfOk, IfErr, true};
 ghost use Rattle.sdbm_addr.specs.Database.{Database};
-ghost use Rattle.dbm_script.specs.Shorthand.{spelled};
+ghost use Rattle.dbm_script.specs.Shorthand.{spelled_text};
 ghost use Rattle.dbm_reports.specs.Causes.{IsCaused};
 ghost use Rattle.dbm_reports.specs.Reports.{OnDatabase};
-ghost use Rattle.dbm_databases.specs.Playing.{Plays, PlaysAs, PlaysAlone, PlaysOn, alone_causes, output_limit, play_causes, script_causes, spelled_input};
+ghost use Rattle.dbm_databases.specs.Playing.{PlaysScript, PlaysAs, PlaysAlone, PlaysOn, alone_causes, output_limit, play_causes, script_causes, spelled_input};
 
 use crate::strict::{find_bad_lines, has_bad_line};
 use dbm_args::Form;
@@ -109,8 +109,8 @@ fn play_as(
     most: u64,
     strict: bool,
 ) -> Result<Report, ReportFault>
-    ensures ok { IfOk result (λ report. (after : Database) × (PlaysAs strict notation.now image (Some (spelled LineKind.OfScript time script.now)) most after report × (report.database ≡ Some after))) }
-    ensures fault { IfErr result (IsCaused (play_causes notation.now image (Some (spelled LineKind.OfScript time script.now)) most)) }
+    ensures ok { IfOk result (λ report. (after : Database) × (PlaysAs strict notation.now image (Some (spelled_text LineKind.OfScript time script.now)) most after report × (report.database ≡ Some after))) }
+    ensures fault { IfErr result (IsCaused (play_causes notation.now image (Some (spelled_text LineKind.OfScript time script.now)) most)) }
 {
     if strict {
         return play_strictly(alloc, notation, image, time, script, most);
@@ -127,8 +127,8 @@ fn play_strictly(
     script: &[u8],
     most: u64,
 ) -> Result<Report, ReportFault>
-    ensures ok { IfOk result (λ report. (after : Database) × (PlaysAs true notation.now image (Some (spelled LineKind.OfScript time script.now)) most after report × (report.database ≡ Some after))) }
-    ensures fault { IfErr result (IsCaused (play_causes notation.now image (Some (spelled LineKind.OfScript time script.now)) most)) }
+    ensures ok { IfOk result (λ report. (after : Database) × (PlaysAs true notation.now image (Some (spelled_text LineKind.OfScript time script.now)) most after report × (report.database ≡ Some after))) }
+    ensures fault { IfErr result (IsCaused (play_causes notation.now image (Some (spelled_text LineKind.OfScript time script.now)) most)) }
 {
     let lines = spell_out(alloc, LineKind::OfScript, time, script)?;
     let bad = has_bad_line(alloc, notation, lines.as_slice())?;
@@ -153,8 +153,8 @@ fn play(
     script: &[u8],
     most: u64,
 ) -> Result<Report, ReportFault>
-    ensures ok { IfOk result (λ report. (after : Database) × (Plays notation.now image (Some (spelled LineKind.OfScript time script.now)) most after report × (report.database ≡ Some after))) }
-    ensures fault { IfErr result (IsCaused (play_causes notation.now image (Some (spelled LineKind.OfScript time script.now)) most)) }
+    ensures ok { IfOk result (λ report. (after : Database) × (PlaysScript notation.now image (Some (spelled_text LineKind.OfScript time script.now)) most after report × (report.database ≡ Some after))) }
+    ensures fault { IfErr result (IsCaused (play_causes notation.now image (Some (spelled_text LineKind.OfScript time script.now)) most)) }
 {
     let ScriptRun {
         image,

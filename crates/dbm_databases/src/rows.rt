@@ -1,6 +1,6 @@
 //! Rows for pairs and keys.
 ghost use Rattle.std.specs.Prelude.{◌≡◌, ◌++◌, ◌∷◌, ◌<◌, [], length, IfOk, OnOk, OnErr};
-ghost use Rattle.dbm_databases.specs.Rows.{key_line, keys_listing, pair_line, pair_object, pairs_listing, raw, row_of, rows};
+ghost use Rattle.dbm_databases.specs.Rows.{key_line, keys_listing, pair_line, pair_object, pairs_listing, raw, listing_row, rows};
 ghost use Rattle.sdbm_files.specs.Lent.{pair_lent, pairs_lent};
 ghost use Rattle.dbm_stats.specs.Json.{quoted};
 ghost use Rattle.dbm_script.specs.Notation.{shown, value_shown};
@@ -98,7 +98,7 @@ fn show_row<A: Allocator + Copy>(
     value: &[u8],
     text: &mut Vec<u8, A>,
 ) -> Result<(), AllocError>
-    ensures { OnOk result (text.new.items ≡ text.old.items ++ row_of notation.now listing (key.now, value.now)) }
+    ensures { OnOk result (text.new.items ≡ text.old.items ++ listing_row notation.now listing (key.now, value.now)) }
 {
     match listing {
         Listing::Pairs => show_line(alloc, notation, key, value, text),

@@ -5,14 +5,14 @@ use Rattle.std.proofs.lemmas.List.{take-append-le, take_all}
 use Rattle.std.proofs.Math.Seq.{take-length}
 use Rattle.std.proofs.lemmas.Option.{same_Some}
 use Rattle.sdbm_addr.specs.Pairs.{Pair}
-use Rattle.dbm_script.specs.LineInput.{Gives, Unread, lines_left}
+use Rattle.dbm_script.specs.LineInput.{GivesNextLine, Unread, lines_left}
 use Rattle.dbm_script.proofs.LinesGiven.{is_over}
 use Rattle.dbm_dump.specs.declared.stage.Stage.{Stage}
 use Rattle.dbm_dump.specs.declared.stage.Stage.TheVariants.{First, Title, Keys, Pages, Count, Gap, Pairs, Between, Within, Over}
 use Rattle.dbm_dump.specs.declared.stage.Next.{Next}
 use Rattle.dbm_dump.specs.Loading.{GivesLine, IsEmptyEnd}
-use Rattle.dbm_dump.specs.Reading.{Read, before_read, dump_lines, kept, pair_list, read, read_on, whole, without_empty_end}
-use Rattle.dbm_dump.specs.Steps.{is_end, step}
+use Rattle.dbm_dump.specs.Reading.{Read, before_read, dump_lines, kept_lines, pair_list, read, read_on, whole, without_empty_end}
+use Rattle.dbm_dump.specs.Steps.{is_end, line_step}
 
 -- ---- an empty last line changes no pairs
 
@@ -47,10 +47,10 @@ whole_empty (Within seen role len text) = refl
 whole_empty Over = refl
 
 whole_kept : (s : Stage) (line : List ℕ) (lines : List (List ℕ)) → ((t : Stage) → whole (read t (without_empty_end lines)) ≡ whole (read t lines))
-    → whole (read s (kept lines line (without_empty_end lines))) ≡ whole (read s (line ∷ lines))
+    → whole (read s (kept_lines lines line (without_empty_end lines))) ≡ whole (read s (line ∷ lines))
 whole_kept s [] [] same = whole_empty s
 whole_kept s (c ∷ cs) [] same = refl
-whole_kept s line (other ∷ others) same = whole_on (step s line) (λ t. read t (without_empty_end (other ∷ others))) (λ t. read t (other ∷ others)) same
+whole_kept s line (other ∷ others) same = whole_on (line_step s line) (λ t. read t (without_empty_end (other ∷ others))) (λ t. read t (other ∷ others)) same
 
 whole_without : (s : Stage) (lines : List (List ℕ)) → whole (read s (without_empty_end lines)) ≡ whole (read s lines)
 whole_without s [] = refl
@@ -58,7 +58,7 @@ whole_without s (line ∷ lines) = whole_kept s line lines (λ t. whole_without 
 
 pub whole_lines : (s : Stage) (pieces : List (List ℕ)) → whole (read s (dump_lines pieces)) ≡ whole (read s pieces)
 whole_lines s [] = refl
-whole_lines s (first ∷ others) = whole_on (step s first) (λ t. read t (without_empty_end others)) (λ t. read t others) (λ t. whole_without t others)
+whole_lines s (first ∷ others) = whole_on (line_step s first) (λ t. read t (without_empty_end others)) (λ t. read t others) (λ t. whole_without t others)
 
 -- ---- the remaining lines
 
@@ -67,7 +67,7 @@ lines_after [] pieces = dump_lines pieces
 lines_after (line ∷ lines) pieces = without_empty_end pieces
 
 -- a piece is a line, unless it is empty and the last
-kept_line : (line : List ℕ) (behind : List (List ℕ)) → (line ∷ behind ≡ [] ∷ [] → ⊥) → kept behind line (without_empty_end behind) ≡ line ∷ without_empty_end behind
+kept_line : (line : List ℕ) (behind : List (List ℕ)) → (line ∷ behind ≡ [] ∷ [] → ⊥) → kept_lines behind line (without_empty_end behind) ≡ line ∷ without_empty_end behind
 kept_line [] [] h = absurd (h refl)
 kept_line (c ∷ cs) [] h = refl
 kept_line line (other ∷ others) h = refl
@@ -94,12 +94,12 @@ empty_after (d ∷ ds) h = refl
 -- ---- reading the next line
 
 -- the first line, or a line that is not the empty end
-pub gives_first : (number : ℕ) (left : Option (List (List ℕ))) (line : List ℕ) (left' : Option (List (List ℕ))) → number ≡ 1 → Gives left true line left' → GivesLine number left true line left'
+pub gives_first : (number : ℕ) (left : Option (List (List ℕ))) (line : List ℕ) (left' : Option (List (List ℕ))) → number ≡ 1 → GivesNextLine left true line left' → GivesLine number left true line left'
 gives_first number left line left' first gives = (gives, λ is. first)
 
 -- the empty end
-empty_first : (left : Option (List (List ℕ))) (line : List ℕ) (left' : Option (List (List ℕ))) → left ≡ Some ([] ∷ []) → Gives left true line left' → (line ≡ []) × (left' ≡ Some [])
-empty_first left line left' is gives = subst (λ (l : Option (List (List ℕ))). Gives l true line left') is gives
+empty_first : (left : Option (List (List ℕ))) (line : List ℕ) (left' : Option (List (List ℕ))) → left ≡ Some ([] ∷ []) → GivesNextLine left true line left' → (line ≡ []) × (left' ≡ Some [])
+empty_first left line left' is gives = subst (λ (l : Option (List (List ℕ))). GivesNextLine l true line left') is gives
 
 abbrev pub IsEnd : Unread → List ℕ → Bool
 IsEnd unread line = cond unread.ended (eqb (length line) 0) false
@@ -109,7 +109,7 @@ is_end_of ended line now none =
     ap (λ (b : Bool). cond b (eqb (length line) 0) false) now ∙ ap (λ (l : List ℕ). eqb (length l) 0) none
 
 -- a line that is not the empty end
-pub gives_more : (number : ℕ) (left : Option (List (List ℕ))) (line : List ℕ) (u : Unread) (known : Option (List ℕ)) → Gives left true line (lines_left u known) → IsEnd u line ≡ false
+pub gives_more : (number : ℕ) (left : Option (List (List ℕ))) (line : List ℕ) (u : Unread) (known : Option (List ℕ)) → GivesNextLine left true line (lines_left u known) → IsEnd u line ≡ false
     → GivesLine number left true line (lines_left u known)
 gives_more number left line u known gives more = (gives, λ is. absurd (no is))
   where
@@ -119,7 +119,7 @@ gives_more number left line u known gives more = (gives, λ is. absurd (no is))
         false≢true (sym more ∙ is_end_of u.ended line (is_over u.ended u.rest known first.1) first.0)
 
 -- the last piece is the empty end
-last_piece : (left : Option (List (List ℕ))) (line : List ℕ) (left' : Option (List (List ℕ))) → line ≡ [] → (left' ≡ Some []) → Gives left true line left' → IsEmptyEnd left
+last_piece : (left : Option (List (List ℕ))) (line : List ℕ) (left' : Option (List (List ℕ))) → line ≡ [] → (left' ≡ Some []) → GivesNextLine left true line left' → IsEmptyEnd left
 last_piece None line left' none last gives = tt
 last_piece (Some []) line left' none last gives = absurd gives
 last_piece (Some (l ∷ ls)) line left' none last gives =
@@ -138,14 +138,14 @@ both_true : (ended : Bool) (line : List ℕ) → cond ended (eqb (length line) 0
 both_true true line h = (refl, no_bytes line h)
 both_true false line h = absurd (false≢true h)
 
-pub gives_end : (number : ℕ) (left : Option (List (List ℕ))) (line : List ℕ) (u : Unread) (known : Option (List ℕ)) → 1 < number → Gives left true line (lines_left u known) → IsEnd u line ≡ true
+pub gives_end : (number : ℕ) (left : Option (List (List ℕ))) (line : List ℕ) (u : Unread) (known : Option (List ℕ)) → 1 < number → GivesNextLine left true line (lines_left u known) → IsEnd u line ≡ true
     → GivesLine number left false line (lines_left u known)
 gives_end number left line u known more gives end =
     let is = both_true u.ended line end in
     inr (more, last_piece left line (lines_left u known) is.1 (none_left u.ended u.rest known is.0) gives)
 
 -- a piece after the first, by cases on whether it is the empty end
-pub gives_rest : (number : ℕ) (left : Option (List (List ℕ))) (line : List ℕ) (u : Unread) (known : Option (List ℕ)) (b : Bool) → 1 < number → Gives left true line (lines_left u known) → IsEnd u line ≡ b
+pub gives_rest : (number : ℕ) (left : Option (List (List ℕ))) (line : List ℕ) (u : Unread) (known : Option (List ℕ)) (b : Bool) → 1 < number → GivesNextLine left true line (lines_left u known) → IsEnd u line ≡ b
     → GivesLine number left (not b) line (lines_left u known)
 gives_rest number left line u known true more gives is = gives_end number left line u known more gives is
 gives_rest number left line u known false more gives is = gives_more number left line u known gives is

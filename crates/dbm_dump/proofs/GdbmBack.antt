@@ -15,9 +15,9 @@ use Rattle.sdbm_addr.specs.Pairs.{Pair}
 use Rattle.dbm_script.specs.Pieces.{pieces_of}
 use Rattle.byte_text.proofs.Decimals.{number_is}
 use Rattle.dbm_dump.specs.Texts.{◌⏎◌, datum_lines, gdbm_end, gdbm_header, gdbm_pair, gdbm_text}
-use Rattle.dbm_dump.specs.Marks.{count_mark, len_mark, mark_of, sign_of}
-use Rattle.dbm_dump.specs.Steps.{between_step, closed, decoded, goes, goes_if, grown, is_full, step, within_step}
-use Rattle.dbm_dump.specs.Reading.{IsGood, Read, before_read, pairs_of, read, read_on, read_so, whole}
+use Rattle.dbm_dump.specs.Marks.{count_mark, len_mark, line_mark, sign_mark}
+use Rattle.dbm_dump.specs.Steps.{between_step, datum_closed, decoded, goes, goes_if, grown, is_full, line_step, within_step}
+use Rattle.dbm_dump.specs.Reading.{IsGood, Read, before_read, pairs_in_dump, read, read_on, read_so, whole}
 use Rattle.dbm_dump.specs.Symbols.{is_open}
 use Rattle.dbm_dump.specs.declared.marks.Mark.TheVariants as mark
 use Rattle.dbm_dump.specs.declared.stage.Next.{Next}
@@ -35,7 +35,7 @@ abbrev reads_on : Option Next → List ℕ → Option Read
 reads_on steps rest = read_on steps (λ s. read s (pieces_of 10 rest))
 
 -- reading the first line of a text
-line_steps : (stage : Stage) (line rest : List ℕ) (steps : Option Next) → IsFree 10 line → step stage line ≡ steps → read stage (pieces_of 10 (line ++ 10 ∷ rest)) ≡ reads_on steps rest
+line_steps : (stage : Stage) (line rest : List ℕ) (steps : Option Next) → IsFree 10 line → line_step stage line ≡ steps → read stage (pieces_of 10 (line ++ 10 ∷ rest)) ≡ reads_on steps rest
 line_steps stage line rest steps whole is = ap (read stage) (piece_first line rest whole) ∙ ap (λ (o : Option Next). reads_on o rest) is
 
 -- a line without a pair
@@ -51,10 +51,10 @@ goes_on next rest = none (read next (pieces_of 10 rest))
 len_line : ℕ → List ℕ
 len_line n = codes "#:len=" ++ decimal n
 
-len_mark_of : (n : ℕ) → n < 2 ^ 64 → mark_of (codes "#:len=" ++ decimal n) ≡ mark.Len n
+len_mark_of : (n : ℕ) → n < 2 ^ 64 → line_mark (codes "#:len=" ++ decimal n) ≡ mark.Len n
 len_mark_of n h = ap len_mark (sym (number_is 18446744073709551615 (decimal n) n h (omega arith) refl))
 
-count_mark_of : (n : ℕ) → n < 2 ^ 64 → mark_of (codes "#:count=" ++ decimal n) ≡ mark.Count n
+count_mark_of : (n : ℕ) → n < 2 ^ 64 → line_mark (codes "#:count=" ++ decimal n) ≡ mark.Count n
 count_mark_of n h = ap count_mark (sym (number_is 18446744073709551615 (decimal n) n h (omega arith) refl))
 
 len_free : (n : ℕ) → n < 2 ^ 64 → IsFree 10 (codes "#:len=" ++ decimal n)
@@ -62,9 +62,9 @@ len_free n h = free-append 10 (codes "#:len=") (decimal n) (free 10 (codes "#:le
 
 -- ---- its text
 
-text_mark : (text : List ℕ) → 0 < length text → IsFree 35 text → mark_of text ≡ mark.Text
+text_mark : (text : List ℕ) → 0 < length text → IsFree 35 text → line_mark text ≡ mark.Text
 text_mark [] h none = absurd (omega arith)
-text_mark (c ∷ cs) h none = ap (λ (b : Bool). cond b (sign_of (c ∷ cs)) mark.Text) (All-head (λ b. eqb b 35 ≡ false) c cs none)
+text_mark (c ∷ cs) h none = ap (λ (b : Bool). cond b (sign_mark (c ∷ cs)) mark.Text) (All-head (λ b. eqb b 35 ≡ false) c cs none)
 
 encoded_length : (bytes : List ℕ) → length (encode_of standard bytes) ≡ unpadded_len (length bytes) + padding_len (length bytes)
 encoded_length bytes =
@@ -83,15 +83,15 @@ encoded_full bytes = nat_le_true (length bytes) (length (encode_of standard byte
 encoded_some : (bytes : List ℕ) → 0 < length bytes → 0 < length (encode_of standard bytes)
 encoded_some bytes h = omega (arith, encoded_length bytes)
 
-decodes : (seen : ℕ) (role : Role) (bytes : List ℕ) → IsBytes bytes → decoded seen role (length bytes) (decode_of standard (encode_of standard bytes)) ≡ closed seen role bytes
+decodes : (seen : ℕ) (role : Role) (bytes : List ℕ) → IsBytes bytes → decoded seen role (length bytes) (decode_of standard (encode_of standard bytes)) ≡ datum_closed seen role bytes
 decodes seen role bytes h =
     ap (decoded seen role (length bytes)) (decode_of-encode_of standard bytes refl h)
     ∙ same (length bytes)
   where
-    same : (n : ℕ) → cond (eqb n n) (closed seen role bytes) None ≡ closed seen role bytes
+    same : (n : ℕ) → cond (eqb n n) (datum_closed seen role bytes) None ≡ datum_closed seen role bytes
     same n = grind arith
 
-encoded_grown : (seen : ℕ) (role : Role) (bytes : List ℕ) → IsBytes bytes → grown seen role (length bytes) (encode_of standard bytes) ≡ closed seen role bytes
+encoded_grown : (seen : ℕ) (role : Role) (bytes : List ℕ) → IsBytes bytes → grown seen role (length bytes) (encode_of standard bytes) ≡ datum_closed seen role bytes
 encoded_grown seen role bytes h =
     ap (λ (b : Bool). cond b (decoded seen role (length bytes) (decode_of standard (encode_of standard bytes))) (Some (goes (Within seen role (length bytes) (encode_of standard bytes))))) (encoded_full bytes)
     ∙ decodes seen role bytes h
@@ -105,12 +105,12 @@ begun : (seen : ℕ) (role : Role) (n : ℕ) → 0 < n → grown seen role n [] 
 begun seen role n h = ap (λ (b : Bool). cond b (decoded seen role n (decode_of standard [])) (Some (goes (Within seen role n [])))) (nat_le_false n 0 h)
 
 datum_reads : (seen : ℕ) (role : Role) (bytes rest : List ℕ) → length bytes < 2 ^ 64 → IsBytes bytes
-    → read (Between seen role) (pieces_of 10 (datum_lines bytes ++ rest)) ≡ reads_on (closed seen role bytes) rest
+    → read (Between seen role) (pieces_of 10 (datum_lines bytes ++ rest)) ≡ reads_on (datum_closed seen role bytes) rest
 datum_reads seen role [] rest short h =
     ap (λ (t : List ℕ). read (Between seen role) (pieces_of 10 t)) (append_assoc (codes "#:len=" ++ decimal 0) (10 ∷ []) rest)
-    ∙ line_steps (Between seen role) (codes "#:len=" ++ decimal 0) rest (closed seen role []) (len_free 0 (omega arith)) empty
+    ∙ line_steps (Between seen role) (codes "#:len=" ++ decimal 0) rest (datum_closed seen role []) (len_free 0 (omega arith)) empty
   where
-    empty : step (Between seen role) (codes "#:len=" ++ decimal 0) ≡ closed seen role []
+    empty : line_step (Between seen role) (codes "#:len=" ++ decimal 0) ≡ datum_closed seen role []
     empty = ap (between_step seen role) (len_mark_of 0 (omega arith)) ∙ ap (decoded seen role 0) (ap (decode_of standard) (sym (encode_of-nil standard)) ∙ decode_of-encode_of standard [] refl h)
 datum_reads seen role (b ∷ bs) rest short h =
     let bytes : List ℕ = b ∷ bs in
@@ -122,7 +122,7 @@ datum_reads seen role (b ∷ bs) rest short h =
     ap (λ (t : List ℕ). read (Between seen role) (pieces_of 10 t)) lines
     ∙ line_steps (Between seen role) (codes "#:len=" ++ decimal n) (text ⏎ rest) (Some (goes (Within seen role n []))) (len_free n short) (ap (between_step seen role) (len_mark_of n short) ∙ begun seen role n (omega arith))
     ∙ goes_on (Within seen role n []) (text ⏎ rest)
-    ∙ line_steps (Within seen role n []) text rest (closed seen role bytes) (free-base64 10 (omega arith) refl refl bytes)
+    ∙ line_steps (Within seen role n []) text rest (datum_closed seen role bytes) (free-base64 10 (omega arith) refl refl bytes)
     (ap (within_step seen role n [] text) (text_mark text some (free-base64 35 (omega arith) refl refl bytes))
     ∙ ap (λ (b : Bool). cond (b || is_open [] text) (grown seen role n text) None) (encoded_full bytes) ∙ encoded_grown seen role bytes h)
 
@@ -132,7 +132,7 @@ key_reads : (seen : ℕ) (key rest : List ℕ) → length key < 2 ^ 64 → IsByt
     → read (Between seen Key) (pieces_of 10 (datum_lines key ++ rest)) ≡ read (Between seen (Value key)) (pieces_of 10 rest)
 key_reads seen key rest short h = datum_reads seen Key key rest short h ∙ goes_on (Between seen (Value key)) rest
 
-value_closed : (seen : ℕ) (key value : List ℕ) → seen < 18446744073709551615 → closed seen (Value key) value ≡ Some (record { stage = Between (seen + 1) Key; pair = Some (key, value) })
+value_closed : (seen : ℕ) (key value : List ℕ) → seen < 18446744073709551615 → datum_closed seen (Value key) value ≡ Some (record { stage = Between (seen + 1) Key; pair = Some (key, value) })
 value_closed seen key value h =
     ap (λ (b : Bool). cond b None (Some (record { stage = Between (seen + 1) Key; pair = Some (key, value) }))) (ne_eqb seen 18446744073709551615 (λ is. omega arith))
 
@@ -168,7 +168,7 @@ body_reads (e ∷ es) seen room h =
     ∙ ap (λ (t : List ℕ). read (Between seen Key) (pieces_of 10 t)) (append_assoc (gdbm_pair e) (flat_map gdbm_pair es) (gdbm_end ((seen + 1) + length es)))
     ∙ pair_reads seen e rest (read_so es Over) (omega arith) (All-head IsGood e es h) (body_reads es (seen + 1) (omega arith) (All-tail IsGood e es h))
 
-pub gdbm_reads : (pairs : List Pair) → length pairs < 2 ^ 64 → All IsGood pairs → pairs_of First (gdbm_text pairs) ≡ Some pairs
+pub gdbm_reads : (pairs : List Pair) → length pairs < 2 ^ 64 → All IsGood pairs → pairs_in_dump First (gdbm_text pairs) ≡ Some pairs
 gdbm_reads pairs short h =
     let body = flat_map gdbm_pair pairs ++ gdbm_end (length pairs) in
     let r : Read = read_so pairs Over in

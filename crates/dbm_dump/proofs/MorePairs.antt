@@ -20,9 +20,9 @@ use Rattle.dbm_dump.specs.declared.fault.DumpFault.{DumpFault}
 use Rattle.dbm_dump.specs.declared.fault.DumpFault.TheVariants as fault
 use Rattle.dbm_dump.specs.declared.loading.Loading.{Loading}
 use Rattle.dbm_dump.specs.declared.stage.Next.{Next}
-use Rattle.dbm_dump.specs.Steps.{step}
+use Rattle.dbm_dump.specs.Steps.{line_step}
 use Rattle.dbm_dump.specs.Reading.{pair_list}
-use Rattle.dbm_dump.specs.Loading.{IsLargePair, IsStepFault, IsStoreFault, StoresAll, StoresOne, answered, is_done}
+use Rattle.dbm_dump.specs.Loading.{IsLargePair, IsLoadStepFault, IsStoreFault, StoresAll, StoresOne, store_entry, is_pair_done}
 
 pub StoresAll-append : (mode : Mode) (db mid db' : Database) (pairs more : List Pair) → StoresAll mode db pairs mid → StoresAll mode mid more db' → StoresAll mode db (pairs ++ more) db'
 StoresAll-append mode db mid db' [] more p q = subst (λ (d : Database). StoresAll mode d more db') p q
@@ -32,7 +32,7 @@ StoresAll-append mode db mid db' (e ∷ pairs) more p q = (p.0, (p.1.0, StoresAl
 pub StoresAll-unique : (mode : Mode) (db a b : Database) (pairs : List Pair) → StoresAll mode db pairs a → StoresAll mode db pairs b → b ≡ a
 StoresAll-unique mode db a b [] p q = q ∙ sym p
 StoresAll-unique mode db a b (e ∷ pairs) p q =
-    let same = Acts-unique db (answered mode p.1.0.0 e) (answered mode q.1.0.0 e) p.0 q.0 refl refl p.1.0.1.1 q.1.0.1.1 in
+    let same = Acts-unique db (store_entry mode p.1.0.0 e) (store_entry mode q.1.0.0 e) p.0 q.0 refl refl p.1.0.1.1 q.1.0.1.1 in
     StoresAll-unique mode q.0 a b pairs (subst (λ (d : Database). StoresAll mode d pairs a) same.1 p.1.1) q.1.1
 
 -- a fault that equals e, for which Q holds
@@ -42,13 +42,13 @@ as_err Q (Err fault) is q = subst Q (sym is) q
 
 -- the log entry of a store that was answered
 pub entry_of : (mode : Mode) (db after : Database) (answer : Answer Global) (e : Entry Global) (key value : List ℕ) → IsAnswerTo Global db (Store key value mode) answer after → answer ≡ Replied e
-    → Acts db (answered mode e.reply (key, value)) after
+    → Acts db (store_entry mode e.reply (key, value)) after
 entry_of mode db after answer e key value is replied =
     let h : IsAnswerTo Global db (Store key value mode) (Replied e) after = subst (λ (a : Answer Global). IsAnswerTo Global db (Store key value mode) a after) replied is in
     subst (λ (x : Entry Global). Acts db x after) (λ i. record { session = h.1.0 i; command = h.1.1.0 i; reply = e.reply }) h.1.1.1
 
 -- a store has no further replies
-pub no_other : (mode : Mode) (db after : Database) (key value : List ℕ) (r : Reply Global) → Acts db (answered mode r (key, value)) after → (r ≡ reply.Stored → ⊥) → (r ≡ reply.Exists → ⊥)
+pub no_other : (mode : Mode) (db after : Database) (key value : List ℕ) (r : Reply Global) → Acts db (store_entry mode r (key, value)) after → (r ≡ reply.Stored → ⊥) → (r ≡ reply.Exists → ⊥)
     → (r ≡ reply.Crowded → ⊥) → ⊥
 no_other mode db after key value reply.Stored acts p q s = p refl
 no_other mode db after key value reply.Exists acts p q s = q refl
@@ -66,22 +66,22 @@ no_other Replace db after key value (reply.Count n) acts p q s = acts.move.chang
 
 -- the reply Crowded to a pair
 pub crowded : (mode : Mode) (db after : Database) (answer : Answer Global) (e : Entry Global) (key value : List ℕ) → IsAnswerTo Global db (Store key value mode) answer after → answer ≡ Replied e
-    → e.reply ≡ reply.Crowded → Acts db (answered mode reply.Crowded (key, value)) after
+    → e.reply ≡ reply.Crowded → Acts db (store_entry mode reply.Crowded (key, value)) after
 crowded mode db after answer e key value is replied full =
-    subst (λ (r : Reply Global). Acts db (answered mode r (key, value)) after) full (entry_of mode db after answer e key value is replied)
+    subst (λ (r : Reply Global). Acts db (store_entry mode r (key, value)) after) full (entry_of mode db after answer e key value is replied)
 
 -- the reply to a pair that is stored, or whose key exists
 pub stores : (mode : Mode) (db after : Database) (answer : Answer Global) (e : Entry Global) (key value : List ℕ) (r : Reply Global) → IsAnswerTo Global db (Store key value mode) answer after
-    → answer ≡ Replied e → e.reply ≡ r → is_done r ≡ true → StoresOne mode db (key, value) after
+    → answer ≡ Replied e → e.reply ≡ r → is_pair_done r ≡ true → StoresOne mode db (key, value) after
 stores mode db after answer e key value r is replied same done =
-    (r, (done, subst (λ (x : Reply Global). Acts db (answered mode x (key, value)) after) same (entry_of mode db after answer e key value is replied)))
+    (r, (done, subst (λ (x : Reply Global). Acts db (store_entry mode x (key, value)) after) same (entry_of mode db after answer e key value is replied)))
 
 some_and : (o : Option Pair) (e : Pair) (P : Pair → Type 0) → o ≡ Some e → P e → IsSomeAnd o P
 some_and o e P is holds = subst (λ (x : Option Pair). IsSomeAnd x P) (sym is) holds
 
 -- the fault of a line whose pair is not stored
-pub step_store_fault : (mode : Mode) (loading : Loading) (line : List ℕ) (number : ℕ) (next : Next) (e : Pair) (f : DumpFault) → step loading.stage line ≡ Some next → next.pair ≡ Some e
-    → IsStoreFault mode loading.image e number f → IsStepFault mode loading line number f
+pub step_store_fault : (mode : Mode) (loading : Loading) (line : List ℕ) (number : ℕ) (next : Next) (e : Pair) (f : DumpFault) → line_step loading.stage line ≡ Some next → next.pair ≡ Some e
+    → IsStoreFault mode loading.image e number f → IsLoadStepFault mode loading line number f
 step_store_fault mode loading line number next e fault.BadFormat steps pair h = absurd h
 step_store_fault mode loading line number next e fault.Read steps pair h = absurd h
 step_store_fault mode loading line number next e (fault.BadDump n) steps pair h = absurd h

@@ -10,7 +10,7 @@ use Rattle.base64.specs.GeneralPurpose.{encode_of}
 use Rattle.sdbm_addr.specs.declared.KeyBytes.{KeyBytes}
 use Rattle.sdbm_addr.specs.declared.PageSize.{PageSize}
 use Rattle.sdbm_addr.specs.Pairs.{Pair}
-use Rattle.dbm_dump.specs.Texts.{datum_lines, gdbm_end, gdbm_header, gdbm_pair, gdbm_text, pair_line, plain_end, plain_header, plain_text, text_lines}
+use Rattle.dbm_dump.specs.Texts.{datum_lines, gdbm_end, gdbm_header, gdbm_pair, gdbm_text, dump_pair_line, plain_end, plain_header, plain_text, text_lines}
 
 pub texts_more : (f : Pair → List ℕ) (pairs : List Pair) (i : ℕ) (e : Pair) → i < length pairs → e ≡ get_or pairs i e → flat_map f (take (i + 1) pairs) ≡ flat_map f (take i pairs) ++ f e
 texts_more f pairs i e h is =
@@ -52,11 +52,11 @@ good_all P pairs i h good = subst (λ (es : List Pair). All P es) (take_all i pa
 -- ---- whole texts
 
 pub plain_whole : (kind : KeyBytes) (size : PageSize) (pairs : List Pair) (i : ℕ) (old text : List ℕ) → length pairs ≤ i
-    → old ≡ plain_header kind size (length pairs) ++ flat_map pair_line (take i pairs) → text ≡ old ++ (plain_end ++ 10 ∷ []) → text ≡ plain_text kind size pairs
+    → old ≡ plain_header kind size (length pairs) ++ flat_map dump_pair_line (take i pairs) → text ≡ old ++ (plain_end ++ 10 ∷ []) → text ≡ plain_text kind size pairs
 plain_whole kind size pairs i old text h p q =
     let header : List ℕ = plain_header kind size (length pairs) in
-    let all : old ≡ header ++ flat_map pair_line pairs = p ∙ ap (λ (es : List Pair). header ++ flat_map pair_line es) (take_all i pairs h) in
-    q ∙ ap (λ (t : List ℕ). t ++ (plain_end ++ 10 ∷ [])) all ∙ append_assoc header (flat_map pair_line pairs) (plain_end ++ 10 ∷ [])
+    let all : old ≡ header ++ flat_map dump_pair_line pairs = p ∙ ap (λ (es : List Pair). header ++ flat_map dump_pair_line es) (take_all i pairs h) in
+    q ∙ ap (λ (t : List ℕ). t ++ (plain_end ++ 10 ∷ [])) all ∙ append_assoc header (flat_map dump_pair_line pairs) (plain_end ++ 10 ∷ [])
 
 pub gdbm_whole : (pairs : List Pair) (i : ℕ) (zero one two text : List ℕ) → length pairs ≤ i → zero ≡ gdbm_header ++ flat_map gdbm_pair (take i pairs)
     → one ≡ zero ++ codes "#:count=" → two ≡ one ++ decimal (length pairs) → text ≡ two ++ (10 ∷ (codes "# End of data" ++ 10 ∷ [])) → text ≡ gdbm_text pairs

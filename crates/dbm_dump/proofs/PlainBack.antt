@@ -18,10 +18,10 @@ use Rattle.sdbm_addr.specs.Pairs.{Pair}
 use Rattle.dbm_script.specs.Notation.{hex_bytes, hex_shown}
 use Rattle.dbm_script.specs.Pieces.{pieces_of}
 use Rattle.byte_text.proofs.Decimals.{number_is}
-use Rattle.dbm_dump.specs.Texts.{◌⏎◌, keys_line, pages_line, pair_line, pair_words, plain_end, plain_header, plain_text, title}
+use Rattle.dbm_dump.specs.Texts.{◌⏎◌, keys_line, pages_line, dump_pair_line, pair_words, plain_end, plain_header, plain_text, title}
 use Rattle.dbm_dump.specs.Marks.{pair_of, pair_in}
-use Rattle.dbm_dump.specs.Steps.{closes, counted, goes, listed, pairs_step, step}
-use Rattle.dbm_dump.specs.Reading.{AreBytes, Read, before_read, pairs_of, read, read_on, read_so, whole}
+use Rattle.dbm_dump.specs.Steps.{closes, counted, goes, listed, pairs_step, line_step}
+use Rattle.dbm_dump.specs.Reading.{AreBytePair, Read, before_read, pairs_in_dump, read, read_on, read_so, whole}
 use Rattle.dbm_dump.specs.declared.stage.Next.{Next}
 use Rattle.dbm_dump.specs.declared.stage.Stage.{Stage}
 use Rattle.dbm_dump.specs.declared.stage.Stage.TheVariants.{First, Keys, Pages, Count, Gap, Pairs, Over}
@@ -51,7 +51,7 @@ no_space bytes = free-shown 32 (omega arith) refl (free 32 lower_digits refl) by
 no_end : (bytes : List ℕ) → IsFree 10 (hex_shown bytes)
 no_end bytes = free-shown 10 (omega arith) refl (free 10 lower_digits refl) bytes
 
-pair_reads : (e : Pair) → AreBytes e → pair_of (pair_words e) ≡ Some e
+pair_reads : (e : Pair) → AreBytePair e → pair_of (pair_words e) ≡ Some e
 pair_reads e h =
     let words : pieces_of 32 (pair_words e) ≡ hex_shown e.0 ∷ (hex_shown e.1 ∷ [])
     = slice_split_at (λ b. eqb b 32) (hex_shown e.0) 32 (hex_shown e.1) (no_space e.0) refl
@@ -73,7 +73,7 @@ differs a b h = go (bytes_eq a b) refl
 end_is_none : pair_of plain_end ≡ None
 end_is_none = ap pair_in (slice_split_none (λ b. eqb b 32) plain_end (free 32 plain_end refl))
 
-not_end : (e : Pair) → AreBytes e → bytes_eq (pair_words e) plain_end ≡ false
+not_end : (e : Pair) → AreBytePair e → bytes_eq (pair_words e) plain_end ≡ false
 not_end e h = differs (pair_words e) plain_end (λ same. none-some e (sym end_is_none ∙ ap pair_of same ∙ pair_reads e h))
 
 step_on : (left : ℕ) (line : List ℕ) → 0 < length line → pairs_step left line ≡ cond (bytes_eq line plain_end) (closes left) (listed left (pair_of line))
@@ -83,7 +83,7 @@ step_on left (c ∷ cs) h = refl
 some_words : (e : Pair) → 0 < length (pair_words e)
 some_words e = omega (arith, length-append (hex_shown e.0) (32 ∷ hex_shown e.1))
 
-pair_step : (left : ℕ) (e : Pair) → AreBytes e → step (Pairs (left + 1)) (pair_words e) ≡ Some (record { stage = Pairs left; pair = Some e })
+pair_step : (left : ℕ) (e : Pair) → AreBytePair e → line_step (Pairs (left + 1)) (pair_words e) ≡ Some (record { stage = Pairs left; pair = Some e })
 pair_step left e h =
     step_on (left + 1) (pair_words e) (some_words e)
     ∙ ap (λ (b : Bool). cond b (closes (left + 1)) (listed (left + 1) (pair_of (pair_words e)))) (not_end e h)
@@ -95,7 +95,7 @@ pair_step left e h =
         ∙ ap (λ (n : ℕ). Some (record { stage = Pairs n; pair = Some e })) (let is : left + 1 - 1 ≡ left = omega arith in is)
 
 -- reading the next line
-pub line_reads : (stage next : Stage) (line rest : List ℕ) → IsFree 10 line → step stage line ≡ Some (goes next) → (r : Read) → read next (pieces_of 10 rest) ≡ Some r
+pub line_reads : (stage next : Stage) (line rest : List ℕ) → IsFree 10 line → line_step stage line ≡ Some (goes next) → (r : Read) → read next (pieces_of 10 rest) ≡ Some r
     → read stage (pieces_of 10 (line ++ 10 ∷ rest)) ≡ Some (read_so r.pairs r.stage)
 line_reads stage next line rest whole steps r reads =
     ap (read stage) (piece_first line rest whole)
@@ -104,29 +104,29 @@ line_reads stage next line rest whole steps r reads =
 
 -- ---- all pairs, and the last line
 
-pub body_reads : (pairs : List Pair) → All AreBytes pairs → read (Pairs (length pairs)) (pieces_of 10 (flat_map pair_line pairs ++ (plain_end ⏎ []))) ≡ Some (read_so pairs Over)
+pub body_reads : (pairs : List Pair) → All AreBytePair pairs → read (Pairs (length pairs)) (pieces_of 10 (flat_map dump_pair_line pairs ++ (plain_end ⏎ []))) ≡ Some (read_so pairs Over)
 body_reads [] h = line_reads (Pairs 0) Over plain_end [] (free 10 plain_end refl) refl (read_so [] Over) refl
 body_reads (e ∷ es) h =
-    let here : AreBytes e = All-head AreBytes e es h in
-    let rest : List ℕ = flat_map pair_line es ++ (plain_end ⏎ []) in
-    let lines : pieces_of 10 (flat_map pair_line (e ∷ es) ++ (plain_end ⏎ [])) ≡ pair_words e ∷ pieces_of 10 rest
-    = ap (pieces_of 10) (append_assoc (pair_line e) (flat_map pair_line es) (plain_end ⏎ []) ∙ append_assoc (pair_words e) (10 ∷ []) rest) ∙ piece_first (pair_words e) rest (whole_words e) in
-    ap (λ (n : ℕ). read (Pairs n) (pieces_of 10 (flat_map pair_line (e ∷ es) ++ (plain_end ⏎ [])))) (let is : length (e ∷ es) ≡ length es + 1 = omega arith in is)
+    let here : AreBytePair e = All-head AreBytePair e es h in
+    let rest : List ℕ = flat_map dump_pair_line es ++ (plain_end ⏎ []) in
+    let lines : pieces_of 10 (flat_map dump_pair_line (e ∷ es) ++ (plain_end ⏎ [])) ≡ pair_words e ∷ pieces_of 10 rest
+    = ap (pieces_of 10) (append_assoc (dump_pair_line e) (flat_map dump_pair_line es) (plain_end ⏎ []) ∙ append_assoc (pair_words e) (10 ∷ []) rest) ∙ piece_first (pair_words e) rest (whole_words e) in
+    ap (λ (n : ℕ). read (Pairs n) (pieces_of 10 (flat_map dump_pair_line (e ∷ es) ++ (plain_end ⏎ [])))) (let is : length (e ∷ es) ≡ length es + 1 = omega arith in is)
     ∙ ap (read (Pairs (length es + 1))) lines
     ∙ ap (λ (o : Option Next). read_on o (λ s. read s (pieces_of 10 rest))) (pair_step (length es) e here)
-    ∙ ap (before_read (Some e)) (body_reads es (All-tail AreBytes e es h))
+    ∙ ap (before_read (Some e)) (body_reads es (All-tail AreBytePair e es h))
 
 -- ---- the header
 
-keys_reads : (kind : KeyBytes) → step Keys (keys_line kind) ≡ Some (goes Pages)
+keys_reads : (kind : KeyBytes) → line_step Keys (keys_line kind) ≡ Some (goes Pages)
 keys_reads Signed = refl
 keys_reads Unsigned = refl
 
-pages_reads : (size : PageSize) → step Pages (pages_line size) ≡ Some (goes Count)
+pages_reads : (size : PageSize) → line_step Pages (pages_line size) ≡ Some (goes Count)
 pages_reads Small = refl
 pages_reads Wide = refl
 
-count_reads : (n : ℕ) → n < 2 ^ 64 → step Count (codes "count " ++ decimal n) ≡ Some (goes (Gap n))
+count_reads : (n : ℕ) → n < 2 ^ 64 → line_step Count (codes "count " ++ decimal n) ≡ Some (goes (Gap n))
 count_reads n h = ap counted (sym (number_is 18446744073709551615 (decimal n) n h (omega arith) refl))
 
 keys_free : (kind : KeyBytes) → IsFree 10 (keys_line kind)
@@ -141,9 +141,9 @@ header_is : (kind : KeyBytes) (size : PageSize) (n : ℕ) (rest : List ℕ)
     → plain_header kind size n ++ rest ≡ title ⏎ keys_line kind ⏎ pages_line size ⏎ (codes "count " ++ decimal n) ⏎ [] ⏎ rest
 header_is kind size n rest = simp append_assoc
 
-pub plain_reads : (kind : KeyBytes) (size : PageSize) (pairs : List Pair) → length pairs < 2 ^ 64 → All AreBytes pairs → pairs_of First (plain_text kind size pairs) ≡ Some pairs
+pub plain_reads : (kind : KeyBytes) (size : PageSize) (pairs : List Pair) → length pairs < 2 ^ 64 → All AreBytePair pairs → pairs_in_dump First (plain_text kind size pairs) ≡ Some pairs
 plain_reads kind size pairs short h =
-    let body = flat_map pair_line pairs ++ (plain_end ⏎ []) in
+    let body = flat_map dump_pair_line pairs ++ (plain_end ⏎ []) in
     let n = length pairs in
     let r : Read = read_so pairs Over in
     let five : read (Gap n) (pieces_of 10 ([] ⏎ body)) ≡ Some r = line_reads (Gap n) (Pairs n) [] body (free 10 [] refl) refl r (body_reads pairs h) in

@@ -12,8 +12,8 @@ use Rattle.dbm_dump.specs.declared.loading.Loading.{Loading}
 use Rattle.dbm_dump.specs.declared.stage.Stage.{Stage}
 use Rattle.dbm_dump.specs.Steps.{is_end}
 use Rattle.dbm_dump.specs.Reading.{lines_of, pair_list, read, read_so, whole, without_empty_end}
-use Rattle.dbm_dump.specs.Loading.{AtLine, GivesLine, IsBad, IsCrowded, IsCutOff, IsLineFault, IsLoadFault, IsLoaded, IsOversized, IsStepFault, StoresAll, TakesLine, line_limit}
-use Rattle.dbm_script.specs.LineInput.{Gives, IsLongNext, Unread, lines_left}
+use Rattle.dbm_dump.specs.Loading.{AtLine, GivesLine, IsBad, IsLineCrowded, IsCutOff, IsLineFault, IsLoadFault, IsLoaded, IsOversized, IsLoadStepFault, StoresAll, TakesLine, line_limit}
+use Rattle.dbm_script.specs.LineInput.{GivesNextLine, IsLongNext, Unread, lines_left}
 use Rattle.dbm_script.proofs.CutTexts.{unread}
 use Rattle.dbm_script.proofs.LinesGiven.{known, next_line, no_line}
 use Rattle.dbm_dump.proofs.Ends.{after_line, empty_after, line_after, lines_after, none_after}
@@ -41,7 +41,7 @@ pub record NextLine (done : List (List ℕ)) (pieces : List (List ℕ)) (line : 
 pub given_next : (start : Stage) (mode : Mode) (db : Database) (input : List ℕ) (number : ℕ) (left : Option (List (List ℕ))) (loading : Loading) (line : List ℕ) (left' : Option (List (List ℕ)))
     → (p : Progress start mode db input number left loading) → GivesLine number left true line left' → NextLine p.done p.pieces line left'
 given_next start mode db input number left loading line left' p gives =
-    let next = next_line p.pieces line left' (subst (λ (l : Option (List (List ℕ))). Gives l true line left') p.left_is gives.0) in
+    let next = next_line p.pieces line left' (subst (λ (l : Option (List (List ℕ))). GivesNextLine l true line left') p.left_is gives.0) in
     record {
       behind = next.0;
       behind_is = next.1.1;
@@ -116,7 +116,7 @@ at_line start mode db input number n left loading line behind P p next same hold
 }
 
 pub step_fault : (start : Stage) (mode : Mode) (db : Database) (input : List ℕ) (number : ℕ) (left : Option (List (List ℕ))) (loading : Loading) (line : List ℕ) (left' : Option (List (List ℕ))) (f : DumpFault)
-    → Progress start mode db input number left loading → GivesLine number left true line left' → loading.image.size ≡ db.size → IsStepFault mode loading line number f → IsLoadFault start mode db input f
+    → Progress start mode db input number left loading → GivesLine number left true line left' → loading.image.size ≡ db.size → IsLoadStepFault mode loading line number f → IsLoadFault start mode db input f
 step_fault start mode db input number left loading line left' fault.BadFormat p gives size is = absurd is
 step_fault start mode db input number left loading line left' fault.Read p gives size is = absurd is
 step_fault start mode db input number left loading line left' (fault.BadDump n) p gives size is =
@@ -128,7 +128,7 @@ step_fault start mode db input number left loading line left' (fault.TooLarge n 
     (at_line start mode db input number n left loading line (without_empty_end next.behind) (IsOversized loading.image.size key) p next.line_is is.0 (inr is.1))
 step_fault start mode db input number left loading line left' (fault.Crowded n key) p gives size is =
     let next = given_next start mode db input number left loading line left' p gives in
-    at_line start mode db input number n left loading line (without_empty_end next.behind) (IsCrowded mode key) p next.line_is is.0 is.1
+    at_line start mode db input number n left loading line (without_empty_end next.behind) (IsLineCrowded mode key) p next.line_is is.0 is.1
 step_fault start mode db input number left loading line left' fault.CutOff p gives size is = absurd is
 step_fault start mode db input number left loading line left' fault.NoMemory p gives size is = tt
 
@@ -200,7 +200,7 @@ all_cut_off start mode db bytes number left loading line left' all gives end =
     known bytes (λ input. Progress start mode db input number left loading) (λ input. IsCutOff start mode db input) (λ input p. cut_off start mode db input number left loading line left' p gives end) all
 
 pub all_step_fault : (start : Stage) (mode : Mode) (db : Database) (bytes : Option (List ℕ)) (number : ℕ) (left : Option (List (List ℕ))) (loading : Loading) (line : List ℕ) (left' : Option (List (List ℕ))) (f : DumpFault)
-    → AllProgress start mode db bytes number left loading → GivesLine number left true line left' → loading.image.size ≡ db.size → IsStepFault mode loading line number f → IfSome bytes (λ input. IsLoadFault start mode db input f)
+    → AllProgress start mode db bytes number left loading → GivesLine number left true line left' → loading.image.size ≡ db.size → IsLoadStepFault mode loading line number f → IfSome bytes (λ input. IsLoadFault start mode db input f)
 all_step_fault start mode db bytes number left loading line left' f all gives size is =
     known bytes (λ input. Progress start mode db input number left loading) (λ input. IsLoadFault start mode db input f) (λ input p. step_fault start mode db input number left loading line left' f p gives size is) all
 

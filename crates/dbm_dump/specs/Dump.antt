@@ -4,7 +4,7 @@ use Rattle.std.specs.FinMap as map
 use Rattle.clap.specs.Words.{Shape, Row}
 use Rattle.sdbm_addr.specs.Database.{Database, map_of}
 use Rattle.dbm_args.specs.CommandLine.{required_word, valued_option, subcommand, reading_options}
-use Rattle.dbm_args.specs.Given.{IsForm, IsGiven, IsWord}
+use Rattle.dbm_args.specs.Given.{IsForm, IsOptionGiven, IsWord}
 use Rattle.dbm_dump.specs.Formats.{format_of}
 use Rattle.dbm_dump.specs.Texts.{dump_text}
 use Rattle.dbm_dump.specs.declared.format.Format.{Format}
@@ -22,7 +22,7 @@ abbrev pub dump : Shape
 dump = subcommand (codes "dump") (required_word (codes "BASE") ∷ valued_option (codes "format") ∷ reading_options)
 
 abbrev pub DumpAsks : List Row → Dump → Type 0
-DumpAsks rows dump = IsWord (codes "BASE") rows dump.base × (IsForm rows dump.form × IsGiven (codes "format") rows dump.format)
+DumpAsks rows dump = IsWord (codes "BASE") rows dump.base × (IsForm rows dump.form × IsOptionGiven (codes "format") rows dump.format)
 
 -- all pairs, sorted by their keys
 abbrev pub Dumps : Format → Report → Database → Type 0

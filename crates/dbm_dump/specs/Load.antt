@@ -5,7 +5,7 @@ use Rattle.sdbm_addr.specs.Database.{Database}
 use Rattle.sdbm_addr.specs.declared.Mode.{Mode}
 use Rattle.sdbm_addr.specs.declared.Mode.TheVariants.{Insert, Replace}
 use Rattle.dbm_args.specs.CommandLine.{flag, required_word, valued_option, subcommand, writing_options}
-use Rattle.dbm_args.specs.Given.{IsForm, IsGiven, IsWord, is_given}
+use Rattle.dbm_args.specs.Given.{IsForm, IsOptionGiven, IsWord, is_given}
 use Rattle.dbm_args.specs.declared.options.Form.{Form}
 use Rattle.dbm_dump.specs.Formats.{start_of}
 use Rattle.dbm_dump.specs.Loading.{IsLoadFault, IsLoaded}
@@ -13,7 +13,7 @@ use Rattle.dbm_dump.specs.declared.fault.DumpFault.{DumpFault}
 use Rattle.dbm_dump.specs.declared.fault.DumpFault.TheVariants as dump
 use Rattle.dbm_dump.specs.declared.stage.Stage.{Stage}
 use Rattle.dbm_reports.specs.Causes.{no_causes}
-use Rattle.dbm_reports.specs.Databases.{IsOpened, IsShut, Opens}
+use Rattle.dbm_reports.specs.Databases.{IsOpened, IsShut, CanBeOpened}
 use Rattle.dbm_reports.specs.Reports.{OnDatabase}
 use Rattle.dbm_reports.specs.declared.databases.Given.{Given}
 use Rattle.dbm_reports.specs.declared.report.Report.{Report}
@@ -27,7 +27,7 @@ load = subcommand (codes "load") (required_word (codes "BASE") ∷ valued_option
 
 abbrev pub LoadAsks : List Row → Load → Type 0
 LoadAsks rows load =
-    IsWord (codes "BASE") rows load.base × (IsForm rows load.form × (IsGiven (codes "format") rows load.format × (load.keep ≡ is_given (codes "keep") rows)))
+    IsWord (codes "BASE") rows load.base × (IsForm rows load.form × (IsOptionGiven (codes "format") rows load.format × (load.keep ≡ is_given (codes "keep") rows)))
 
 -- existing pairs stay, or are replaced
 abbrev pub mode_of : Bool → Mode
@@ -58,7 +58,7 @@ IsUnloaded start mode db bytes reason = IsLoadFault start mode db bytes reason
 abbrev pub load_causes : Option Stage → Mode → Form → Given → Option (List ℕ) → DumpCauses
 load_causes None mode form given input = bad_format
 load_causes (Some start) mode form given input = record {
-  report = record no_causes { opening = IsShut form given; reading = Opens form given };
+  report = record no_causes { opening = IsShut form given; reading = CanBeOpened form given };
   dump = λ reason. (db : Database) × (IsOpened form given db × IfSome input (λ bytes. IsUnloaded start mode db bytes reason));
 }
 

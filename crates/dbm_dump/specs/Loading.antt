@@ -10,9 +10,9 @@ use Rattle.store_cmd.specs.declared.Entry.{Entry}
 use Rattle.store_cmd.specs.declared.Reply.{Reply}
 use Rattle.store_cmd.specs.declared.Reply.TheVariants as reply
 use Rattle.store_moves.specs.Acts.{Acts}
-use Rattle.dbm_script.specs.LineInput.{Gives, IsLongNext}
-use Rattle.dbm_dump.specs.Steps.{is_end, step}
-use Rattle.dbm_dump.specs.Reading.{Read, lines_of, pair_list, pairs_of, read}
+use Rattle.dbm_script.specs.LineInput.{GivesNextLine, IsLongNext}
+use Rattle.dbm_dump.specs.Steps.{is_end, line_step}
+use Rattle.dbm_dump.specs.Reading.{Read, lines_of, pair_list, pairs_in_dump, read}
 use Rattle.dbm_dump.specs.declared.fault.DumpFault.{DumpFault}
 use Rattle.dbm_dump.specs.declared.fault.DumpFault.TheVariants as fault
 use Rattle.dbm_dump.specs.declared.loading.Loading.{Loading}
@@ -31,18 +31,18 @@ line_limit = 16384
 -- ---- storing pairs
 
 -- the log entry for storing a pair
-abbrev pub answered : Mode → Reply Global → Pair → Entry Global
-answered mode answer e = record { session = 0; command = Store e.0 e.1 mode; reply = answer }
+abbrev pub store_entry : Mode → Reply Global → Pair → Entry Global
+store_entry mode answer e = record { session = 0; command = Store e.0 e.1 mode; reply = answer }
 
 -- the pair is stored, or its key exists and the mode keeps existing pairs
-abbrev pub is_done : Reply Global → Bool
-is_done reply.Stored = true
-is_done reply.Exists = true
-is_done _ = false
+abbrev pub is_pair_done : Reply Global → Bool
+is_pair_done reply.Stored = true
+is_pair_done reply.Exists = true
+is_pair_done _ = false
 
 -- A pair is stored as by `replace` or `insert`, with its reply.
 abbrev pub StoresOne : Mode → Database → Pair → Database → Type 0
-StoresOne mode before e after = (answer : Reply Global) × ((is_done answer ≡ true) × Acts before (answered mode answer e) after)
+StoresOne mode before e after = (answer : Reply Global) × ((is_pair_done answer ≡ true) × Acts before (store_entry mode answer e) after)
 
 -- The pairs are stored in order: the database after them.
 abbrev pub StoresAll : Mode → Database → List Pair → Database → Type 0
@@ -52,7 +52,7 @@ StoresAll mode before (e ∷ es) after = (mid : Database) × (StoresOne mode bef
 -- The text is a dump, and its `count` pairs were stored. The resulting database is unique.
 pub record IsLoaded (start : Stage) (mode : Mode) (before : Database) (input : List ℕ) (count : ℕ) (after : Database) : Type 0 where
   pub pairs : List Pair
-  pub reads : pairs_of start input ≡ Some pairs
+  pub reads : pairs_in_dump start input ≡ Some pairs
   pub stores : StoresAll mode before pairs after
   pub count_is : count ≡ length pairs
   pub only : (other : Database) → StoresAll mode before pairs other → other ≡ after
@@ -97,10 +97,10 @@ pub record AtLine (start : Stage) (mode : Mode) (db : Database) (input : List �
 
 -- the line is invalid at this stage
 abbrev pub IsBad : Stage → Database → List ℕ → Type 0
-IsBad stage mid line = step stage line ≡ None
+IsBad stage mid line = line_step stage line ≡ None
 
 abbrev pub IsOversized : PageSize → Option KeyHead → Stage → Database → List ℕ → Type 0
-IsOversized size key stage mid line = ((line_limit < length line) × (key ≡ None)) ⊎ ((s : Next) × ((step stage line ≡ Some s) × IsLarge size key s))
+IsOversized size key stage mid line = ((line_limit < length line) × (key ≡ None)) ⊎ ((s : Next) × ((line_step stage line ≡ Some s) × IsLarge size key s))
 
 -- the pair of a line does not fit in the database, and the fault reports its key
 pub record FindsNoRoom (mode : Mode) (db : Database) (key : KeyHead) (next : Next) : Type 0 where
@@ -108,11 +108,11 @@ pub record FindsNoRoom (mode : Mode) (db : Database) (key : KeyHead) (next : Nex
   pub pair_is : next.pair ≡ Some pair
   pub key_is : IsHead pair.0 key
   pub after : Database
-  pub refused : Acts db (answered mode reply.Crowded pair) after
+  pub refused : Acts db (store_entry mode reply.Crowded pair) after
 
 -- the pair of a line does not fit in the database
-abbrev pub IsCrowded : Mode → KeyHead → Stage → Database → List ℕ → Type 0
-IsCrowded mode key stage mid line = (next : Next) × ((step stage line ≡ Some next) × FindsNoRoom mode mid key next)
+abbrev pub IsLineCrowded : Mode → KeyHead → Stage → Database → List ℕ → Type 0
+IsLineCrowded mode key stage mid line = (next : Next) × ((line_step stage line ≡ Some next) × FindsNoRoom mode mid key next)
 
 -- The dump is truncated. The pairs of all its lines were stored.
 pub record IsCutOff (start : Stage) (mode : Mode) (db : Database) (input : List ℕ) : Type 0 where
@@ -127,7 +127,7 @@ IsLoadFault start mode db input fault.BadFormat = ⊥
 IsLoadFault start mode db input fault.Read = ⊤
 IsLoadFault start mode db input (fault.BadDump number) = AtLine start mode db input number IsBad
 IsLoadFault start mode db input (fault.TooLarge number key) = AtLine start mode db input number (IsOversized db.size key)
-IsLoadFault start mode db input (fault.Crowded number key) = AtLine start mode db input number (IsCrowded mode key)
+IsLoadFault start mode db input (fault.Crowded number key) = AtLine start mode db input number (IsLineCrowded mode key)
 IsLoadFault start mode db input fault.CutOff = IsCutOff start mode db input
 IsLoadFault start mode db input fault.NoMemory = ⊤
 
@@ -140,8 +140,8 @@ IsEmptyEnd (Some pieces) = pieces ≡ [] ∷ []
 
 -- returns the next piece as a line, except for an empty last piece after the first line
 abbrev pub GivesLine : ℕ → Option (List (List ℕ)) → Bool → List ℕ → Option (List (List ℕ)) → Type 0
-GivesLine number left true line left' = Gives left true line left' × (left ≡ Some ([] ∷ []) → number ≡ 1)
-GivesLine number left false line left' = Gives left false line left' ⊎ ((1 < number) × IsEmptyEnd left)
+GivesLine number left true line left' = GivesNextLine left true line left' × (left ≡ Some ([] ∷ []) → number ≡ 1)
+GivesLine number left false line left' = GivesNextLine left false line left' ⊎ ((1 < number) × IsEmptyEnd left)
 
 -- the line is too long, or reading failed for another reason
 abbrev pub IsLineFault : ℕ → Option (List (List ℕ)) → DumpFault → Type 0
@@ -156,7 +156,7 @@ IsLineFault number left fault.NoMemory = ⊤
 -- a line was read, and its pair was stored if it has one
 pub record TakesLine (mode : Mode) (old : Loading) (line : List ℕ) (new : Loading) : Type 0 where
   pub next : Next
-  pub steps : step old.stage line ≡ Some next
+  pub steps : line_step old.stage line ≡ Some next
   pub stage_is : new.stage ≡ next.stage
   pub stores : StoresAll mode old.image (pair_list next.pair) new.image
   pub count_is : new.count ≡ old.count + length (pair_list next.pair)
@@ -169,17 +169,17 @@ IsStoreFault mode db e number fault.BadFormat = ⊥
 IsStoreFault mode db e number fault.Read = ⊥
 IsStoreFault mode db e number (fault.BadDump n) = ⊥
 IsStoreFault mode db e number (fault.TooLarge n key) = (n ≡ number) × IsLargePair db.size key e
-IsStoreFault mode db e number (fault.Crowded n key) = (n ≡ number) × (IsHead e.0 key × ((after : Database) × Acts db (answered mode reply.Crowded e) after))
+IsStoreFault mode db e number (fault.Crowded n key) = (n ≡ number) × (IsHead e.0 key × ((after : Database) × Acts db (store_entry mode reply.Crowded e) after))
 IsStoreFault mode db e number fault.CutOff = ⊥
 IsStoreFault mode db e number fault.NoMemory = ⊤
 
 -- a line is invalid at this stage, or its pair is too large or does not fit
-abbrev pub IsStepFault : Mode → Loading → List ℕ → ℕ → DumpFault → Type 0
-IsStepFault mode loading line number fault.BadFormat = ⊥
-IsStepFault mode loading line number fault.Read = ⊥
-IsStepFault mode loading line number (fault.BadDump n) = (n ≡ number) × (step loading.stage line ≡ None)
-IsStepFault mode loading line number (fault.TooLarge n key) =
-    (n ≡ number) × ((next : Next) × ((step loading.stage line ≡ Some next) × IsLarge loading.image.size key next))
-IsStepFault mode loading line number (fault.Crowded n key) = (n ≡ number) × IsCrowded mode key loading.stage loading.image line
-IsStepFault mode loading line number fault.CutOff = ⊥
-IsStepFault mode loading line number fault.NoMemory = ⊤
+abbrev pub IsLoadStepFault : Mode → Loading → List ℕ → ℕ → DumpFault → Type 0
+IsLoadStepFault mode loading line number fault.BadFormat = ⊥
+IsLoadStepFault mode loading line number fault.Read = ⊥
+IsLoadStepFault mode loading line number (fault.BadDump n) = (n ≡ number) × (line_step loading.stage line ≡ None)
+IsLoadStepFault mode loading line number (fault.TooLarge n key) =
+    (n ≡ number) × ((next : Next) × ((line_step loading.stage line ≡ Some next) × IsLarge loading.image.size key next))
+IsLoadStepFault mode loading line number (fault.Crowded n key) = (n ≡ number) × IsLineCrowded mode key loading.stage loading.image line
+IsLoadStepFault mode loading line number fault.CutOff = ⊥
+IsLoadStepFault mode loading line number fault.NoMemory = ⊤

@@ -12,13 +12,13 @@ use Rattle.dbm_dump.specs.declared.marks.Mark.TheVariants.{Len, Count, Note, Tex
 abbrev pub behind : List ℕ → List ℕ → Option (List ℕ)
 behind front line = cond (bytes_eq (take (length front) line) front) (Some (drop (length front) line)) None
 
-abbrev pub number_in : Option (List ℕ) → Option ℕ
-number_in None = None
-number_in (Some digits) = number_of 18446744073709551615 digits
+abbrev pub number_marked : Option (List ℕ) → Option ℕ
+number_marked None = None
+number_marked (Some digits) = number_of 18446744073709551615 digits
 
 -- the number after `front`, if the line begins with it
 abbrev pub number_behind : List ℕ → List ℕ → Option ℕ
-number_behind front line = number_in (behind front line)
+number_behind front line = number_marked (behind front line)
 
 -- ---- our own format
 
@@ -49,16 +49,16 @@ count_mark (Some n) = Count n
 
 abbrev pub count_or_note : Option (List ℕ) → Mark
 count_or_note None = Note
-count_or_note (Some digits) = count_mark (number_in (Some digits))
+count_or_note (Some digits) = count_mark (number_marked (Some digits))
 
 abbrev pub len_or : Option (List ℕ) → Mark → Mark
 len_or None other = other
-len_or (Some digits) other = len_mark (number_in (Some digits))
+len_or (Some digits) other = len_mark (number_marked (Some digits))
 
-abbrev pub sign_of : List ℕ → Mark
-sign_of line = len_or (behind (codes "#:len=") line) (count_or_note (behind (codes "#:count=") line))
+abbrev pub sign_mark : List ℕ → Mark
+sign_mark line = len_or (behind (codes "#:len=") line) (count_or_note (behind (codes "#:count=") line))
 
 -- the kind of a line: a length, a count, any other line that begins with '#' or is empty, or text in base64
-abbrev pub mark_of : List ℕ → Mark
-mark_of [] = Note
-mark_of (c ∷ cs) = cond (c == 35) (sign_of (c ∷ cs)) Text
+abbrev pub line_mark : List ℕ → Mark
+line_mark [] = Note
+line_mark (c ∷ cs) = cond (c == 35) (sign_mark (c ∷ cs)) Text

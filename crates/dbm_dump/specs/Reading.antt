@@ -8,7 +8,7 @@ use Rattle.dbm_dump.specs.declared.format.Format.TheVariants.{Plain, Gdbm, Redis
 use Rattle.dbm_dump.specs.declared.stage.Stage.{Stage}
 use Rattle.dbm_dump.specs.declared.stage.Stage.TheVariants.{First}
 use Rattle.dbm_dump.specs.declared.stage.Next.{Next}
-use Rattle.dbm_dump.specs.Steps.{step, is_end}
+use Rattle.dbm_dump.specs.Steps.{line_step, is_end}
 
 -- the pairs of some lines, and the stage after them
 pub record Read : Type 0 where
@@ -34,7 +34,7 @@ read_on (Some s) rest = before_read s.pair (rest s.stage)
 -- the result of reading lines in order, if each is valid at its stage
 abbrev pub read : Stage → List (List ℕ) → Option Read
 read stage [] = Some (read_so [] stage)
-read stage (line ∷ lines) = read_on (step stage line) (λ (s : Stage). read s lines)
+read stage (line ∷ lines) = read_on (line_step stage line) (λ (s : Stage). read s lines)
 
 abbrev pub whole : Option Read → Option (List Pair)
 whole None = None
@@ -43,15 +43,15 @@ whole (Some r) = cond (is_end r.stage) (Some r.pairs) None
 -- ---- the lines of a text
 
 -- prepends a line to `rest`, its followers after filtering; drops the line if it is empty and the last
-abbrev pub kept : List (List ℕ) → List ℕ → List (List ℕ) → List (List ℕ)
-kept [] [] rest = []
-kept [] (c ∷ cs) rest = (c ∷ cs) ∷ []
-kept (other ∷ others) line rest = line ∷ rest
+abbrev pub kept_lines : List (List ℕ) → List ℕ → List (List ℕ) → List (List ℕ)
+kept_lines [] [] rest = []
+kept_lines [] (c ∷ cs) rest = (c ∷ cs) ∷ []
+kept_lines (other ∷ others) line rest = line ∷ rest
 
 -- the lines, except an empty last one
 abbrev pub without_empty_end : List (List ℕ) → List (List ℕ)
 without_empty_end [] = []
-without_empty_end (line ∷ lines) = kept lines line (without_empty_end lines)
+without_empty_end (line ∷ lines) = kept_lines lines line (without_empty_end lines)
 
 -- The same, except that the first line always stays.
 abbrev pub dump_lines : List (List ℕ) → List (List ℕ)
@@ -63,21 +63,21 @@ abbrev pub lines_of : List ℕ → List (List ℕ)
 lines_of text = dump_lines (pieces_of 10 text)
 
 -- the pairs of a text, if it is a dump
-abbrev pub pairs_of : Stage → List ℕ → Option (List Pair)
-pairs_of start text = whole (read start (lines_of text))
+abbrev pub pairs_in_dump : Stage → List ℕ → Option (List Pair)
+pairs_in_dump start text = whole (read start (lines_of text))
 
 -- ---- written dumps
 
 -- key and value consist of bytes
-abbrev pub AreBytes : Pair → Type 0
-AreBytes e = IsBytes e.0 × IsBytes e.1
+abbrev pub AreBytePair : Pair → Type 0
+AreBytePair e = IsBytes e.0 × IsBytes e.1
 
 -- and their lengths fit in 64 bits
 abbrev pub IsGood : Pair → Type 0
-IsGood e = ((length e.0 < 2 ^ 64) × (length e.1 < 2 ^ 64)) × AreBytes e
+IsGood e = ((length e.0 < 2 ^ 64) × (length e.1 < 2 ^ 64)) × AreBytePair e
 
 -- reading the dump returns these pairs; commands for Redis cannot be read
 abbrev pub ReadsBack : Format → List ℕ → List Pair → Type 0
-ReadsBack Plain text pairs = pairs_of First text ≡ Some pairs
-ReadsBack Gdbm text pairs = pairs_of First text ≡ Some pairs
+ReadsBack Plain text pairs = pairs_in_dump First text ≡ Some pairs
+ReadsBack Gdbm text pairs = pairs_in_dump First text ≡ Some pairs
 ReadsBack Redis text pairs = ⊤

@@ -6,7 +6,7 @@ use Rattle.base64.specs.GeneralPurpose.{decode_of}
 use Rattle.base64.specs.declared.decode.DecodeError.{DecodeError}
 use Rattle.sdbm_addr.specs.Pairs.{Pair}
 use Rattle.dbm_dump.specs.Texts.{plain_end, title}
-use Rattle.dbm_dump.specs.Marks.{mark_of, number_behind, pair_of}
+use Rattle.dbm_dump.specs.Marks.{line_mark, number_behind, pair_of}
 use Rattle.dbm_dump.specs.Symbols.{is_open}
 use Rattle.dbm_dump.specs.declared.marks.Mark.{Mark}
 use Rattle.dbm_dump.specs.declared.marks.Mark.TheVariants as mark
@@ -66,14 +66,14 @@ abbrev pub is_full : ℕ → List ℕ → Bool
 is_full len text = holds len (length text)
 
 -- a complete datum: a key, or the value for a key
-abbrev pub closed : ℕ → Role → List ℕ → Option Next
-closed seen Key bytes = Some (goes (Between seen (Value bytes)))
-closed seen (Value key) bytes =
+abbrev pub datum_closed : ℕ → Role → List ℕ → Option Next
+datum_closed seen Key bytes = Some (goes (Between seen (Value bytes)))
+datum_closed seen (Value key) bytes =
     cond (seen == 18446744073709551615) None (Some (record { stage = Between (seen + 1) Key; pair = Some (key, bytes) }))
 
 -- a decoded datum, if it has exactly `len` bytes
 abbrev pub decoded : ℕ → Role → ℕ → Result (List ℕ) DecodeError → Option Next
-decoded seen role len (Ok bytes) = cond (length bytes == len) (closed seen role bytes) None
+decoded seen role len (Ok bytes) = cond (length bytes == len) (datum_closed seen role bytes) None
 decoded seen role len (Err error) = None
 
 -- a datum of `len` bytes after some of its text was read
@@ -81,14 +81,14 @@ abbrev pub grown : ℕ → Role → ℕ → List ℕ → Option Next
 grown seen role len text = cond (is_full len text) (decoded seen role len (decode_of standard text)) (Some (goes (Within seen role len text)))
 
 -- the end of the dump, if its count is right
-abbrev pub ended : ℕ → Role → ℕ → Option Next
-ended seen Key n = goes_if (n == seen) Over
-ended seen (Value key) n = None
+abbrev pub dump_ended : ℕ → Role → ℕ → Option Next
+dump_ended seen Key n = goes_if (n == seen) Over
+dump_ended seen (Value key) n = None
 
 -- a line between two data
 abbrev pub between_step : ℕ → Role → Mark → Option Next
 between_step seen role (mark.Len n) = grown seen role n []
-between_step seen role (mark.Count n) = ended seen role n
+between_step seen role (mark.Count n) = dump_ended seen role n
 between_step seen role mark.Note = Some (goes (Between seen role))
 between_step seen role mark.Text = None
 between_step seen role mark.Bad = None
@@ -118,20 +118,20 @@ over_step mark.Bad = None
 -- in gdbm's format, the first line begins with '#'
 abbrev pub first_step : List ℕ → Option Next
 first_step [] = title_step []
-first_step (c ∷ cs) = cond (c == 35) (between_step 0 Key (mark_of (c ∷ cs))) (title_step (c ∷ cs))
+first_step (c ∷ cs) = cond (c == 35) (between_step 0 Key (line_mark (c ∷ cs))) (title_step (c ∷ cs))
 
 -- the effect of a line, if it is valid at this stage
-abbrev pub step : Stage → List ℕ → Option Next
-step First line = first_step line
-step Title line = title_step line
-step Keys line = keys_step line
-step Pages line = pages_step line
-step Count line = counted (number_behind (codes "count ") line)
-step (Gap left) line = gap_step left line
-step (Pairs left) line = pairs_step left line
-step (Between seen role) line = between_step seen role (mark_of line)
-step (Within seen role len text) line = within_step seen role len text line (mark_of line)
-step Over line = over_step (mark_of line)
+abbrev pub line_step : Stage → List ℕ → Option Next
+line_step First line = first_step line
+line_step Title line = title_step line
+line_step Keys line = keys_step line
+line_step Pages line = pages_step line
+line_step Count line = counted (number_behind (codes "count ") line)
+line_step (Gap left) line = gap_step left line
+line_step (Pairs left) line = pairs_step left line
+line_step (Between seen role) line = between_step seen role (line_mark line)
+line_step (Within seen role len text) line = within_step seen role len text line (line_mark line)
+line_step Over line = over_step (line_mark line)
 
 -- the dump may end at this stage
 abbrev pub is_end : Stage → Bool

@@ -35,8 +35,8 @@ abbrev pub pair_words : Pair → List ℕ
 pair_words e = hex_shown e.0 ++ (32 ∷ hex_shown e.1)
 
 -- the line of a pair
-abbrev pub pair_line : Pair → List ℕ
-pair_line e = pair_words e ⏎ []
+abbrev pub dump_pair_line : Pair → List ℕ
+dump_pair_line e = pair_words e ⏎ []
 
 -- the header: the hash of keys, the page size and the number of pairs
 abbrev pub plain_header : KeyBytes → PageSize → ℕ → List ℕ
@@ -48,7 +48,7 @@ plain_end = codes "end"
 
 -- the header, the pairs and the last line
 abbrev pub plain_text : KeyBytes → PageSize → List Pair → List ℕ
-plain_text kind size pairs = plain_header kind size (length pairs) ++ (flat_map pair_line pairs ++ (plain_end ⏎ []))
+plain_text kind size pairs = plain_header kind size (length pairs) ++ (flat_map dump_pair_line pairs ++ (plain_end ⏎ []))
 
 -- ---- gdbm's
 

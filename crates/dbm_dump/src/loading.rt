@@ -1,8 +1,8 @@
 //! Loads a dump into a database, line by line.
 ghost use Rattle.std.specs.Prelude.{◌≡◌, ◌<◌, ◌==◌, cond, length, true, false, IfOk, IfErr, IfSome};
-ghost use Rattle.dbm_script.specs.LineInput.{Gives, lines_left};
+ghost use Rattle.dbm_script.specs.LineInput.{GivesNextLine, lines_left};
 ghost use Rattle.dbm_dump.specs.Steps.{is_end};
-ghost use Rattle.dbm_dump.specs.Loading.{GivesLine, IsLineFault, IsLoadFault, IsLoaded, IsStepFault, IsStoreFault, StoresOne, TakesLine};
+ghost use Rattle.dbm_dump.specs.Loading.{GivesLine, IsLineFault, IsLoadFault, IsLoaded, IsLoadStepFault, IsStoreFault, StoresOne, TakesLine};
 
 use crate::fault::DumpFault;
 use crate::key_head::KeyHead;
@@ -107,7 +107,7 @@ fn next_piece<R: Read>(
     line: &mut Vec<u8>,
     number: u64,
 ) -> Result<bool, DumpFault>
-    ensures given { IfOk result (λ found. Gives (lines_left lines.old (R.remaining reader.old)) found line.new.items (lines_left lines.new (R.remaining reader.new))) }
+    ensures given { IfOk result (λ found. GivesNextLine (lines_left lines.old (R.remaining reader.old)) found line.new.items (lines_left lines.new (R.remaining reader.new))) }
     ensures fault { IfErr result (IsLineFault number (lines_left lines.old (R.remaining reader.old))) }
 {
     match lines.next(reader, line, LINE_LIMIT) {
@@ -144,7 +144,7 @@ fn take_line(
 ) -> Result<Loading, DumpFault>
     requires { loading.count < number }
     ensures ok { IfOk result (λ after. TakesLine mode loading line.now after) }
-    ensures fault { IfErr result (IsStepFault mode loading line.now number) }
+    ensures fault { IfErr result (IsLoadStepFault mode loading line.now number) }
 {
     let Loading {
         image,

@@ -1,7 +1,7 @@
 //! Parses the lines of a dump.
 ghost use Rattle.std.specs.Prelude.{◌≡◌, IfOk, Some, option_map};
 ghost use Rattle.dbm_script.specs.Notation.{hex_bytes};
-ghost use Rattle.dbm_dump.specs.Marks.{behind, both, count_mark, len_mark, mark_of, number_behind, number_in, pair_of, sign_of};
+ghost use Rattle.dbm_dump.specs.Marks.{behind, both, count_mark, len_mark, line_mark, number_behind, number_marked, pair_of, sign_mark};
 
 use dbm_script::{Notation, first_piece, read_bytes, read_number};
 use sdbm_addr::Bytes;
@@ -24,7 +24,7 @@ pub enum Mark {
 
 /// The kind of a line in gdbm's format.
 pub fn mark_of(line: &[u8]) -> Mark
-    ensures { result ≡ mark_of line.now }
+    ensures { result ≡ line_mark line.now }
 {
     if line.is_empty() {
         return Mark::Note;
@@ -37,7 +37,7 @@ pub fn mark_of(line: &[u8]) -> Mark
 
 // The kind of a line that begins with '#'.
 fn sign_of(line: &[u8]) -> Mark
-    ensures { result ≡ sign_of line.now }
+    ensures { result ≡ sign_mark line.now }
 {
     if let Some(digits) = behind(b"#:len=", line) {
         return len_mark(number_in(digits));
@@ -67,7 +67,7 @@ fn count_mark(count: Option<u64>) -> Mark
 }
 
 fn number_in(digits: &[u8]) -> Option<u64>
-    ensures { result ≡ number_in (Some digits.now) }
+    ensures { result ≡ number_marked (Some digits.now) }
 {
     read_number(digits, u64::MAX)
 }

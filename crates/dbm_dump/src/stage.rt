@@ -2,7 +2,7 @@
 ghost use Rattle.std.specs.Prelude.{◌≡◌, ◌++◌, IfOk, Some};
 ghost use Rattle.dbm_dump.specs.Heads.{IsReported};
 ghost use Rattle.dbm_dump.specs.Loading.{open_key, open_len};
-ghost use Rattle.dbm_dump.specs.Marks.{mark_of};
+ghost use Rattle.dbm_dump.specs.Marks.{line_mark};
 ghost use Rattle.dbm_dump.specs.Steps as spec;
 
 use crate::key_head::KeyHead;
@@ -118,7 +118,7 @@ impl Stage {
 /// # Errors
 /// `AllocError` if allocation fails. The stage is then dropped.
 pub fn step(alloc: Global, stage: Stage, line: &[u8]) -> Result<Option<Next>, AllocError>
-    ensures { IfOk result (λ s. s ≡ spec.step stage line.now) }
+    ensures { IfOk result (λ s. s ≡ spec.line_step stage line.now) }
 {
     match stage {
         Stage::First => first_step(alloc, line),
@@ -272,7 +272,7 @@ fn between_step(
 
 // The line with the number of pairs.
 fn ended(seen: u64, role: Role, count: u64) -> Option<Next>
-    ensures { result ≡ spec.ended seen role count }
+    ensures { result ≡ spec.dump_ended seen role count }
 {
     match role {
         Role::Key => {
@@ -294,7 +294,7 @@ fn within_step(
     text: Part,
     line: &[u8],
 ) -> Result<Option<Next>, AllocError>
-    ensures { IfOk result (λ s. s ≡ spec.within_step seen role len text line.now (mark_of line.now)) }
+    ensures { IfOk result (λ s. s ≡ spec.within_step seen role len text line.now (line_mark line.now)) }
 {
     match mark_of(line) {
         Mark::Note => {
@@ -376,7 +376,7 @@ fn grown(
 
 // A complete key, or the complete value of a key.
 fn closed(seen: u64, role: Role, bytes: Bytes<Global>) -> Option<Next>
-    ensures { result ≡ spec.closed seen role bytes }
+    ensures { result ≡ spec.datum_closed seen role bytes }
 {
     match role {
         Role::Key => {

@@ -2,8 +2,8 @@
 ghost use Rattle.std.specs.Prelude.{◌≡◌, ◌<◌, ◌^◌, ◌++◌, IfOk, OnOk, Some, decimal, length};
 ghost use Rattle.std.specs.List.{flat_map};
 ghost use Rattle.hex.specs.Hex.{IsBytes};
-ghost use Rattle.dbm_dump.specs.Reading.{AreBytes, IsGood, ReadsBack, pairs_of};
-ghost use Rattle.dbm_dump.specs.Texts.{dump_text, pair_line};
+ghost use Rattle.dbm_dump.specs.Reading.{AreBytePair, IsGood, ReadsBack, pairs_in_dump};
+ghost use Rattle.dbm_dump.specs.Texts.{dump_text, dump_pair_line};
 ghost use Rattle.dbm_dump.specs.Texts as spec;
 
 use crate::format::Format;
@@ -47,7 +47,7 @@ fn plain_dump(
     pairs: &[(Bytes<Global>, Bytes<Global>)],
 ) -> Result<Vec<u8>, AllocError>
     ensures text { IfOk result (λ text. text.items ≡ spec.plain_text kind size pairs.now) }
-    ensures reads { IfOk result (λ text. pairs_of Stage.First text.items ≡ Some pairs.now) }
+    ensures reads { IfOk result (λ text. pairs_in_dump Stage.First text.items ≡ Some pairs.now) }
 {
     let mut text = plain_header(alloc, kind, size, pairs.len())?;
     for pair in pairs {
@@ -105,8 +105,8 @@ fn show_number(number: usize, text: &mut Vec<u8>) -> Result<(), AllocError>
 
 // Appends the line of a pair to `text`.
 fn show_pair(key: &[u8], value: &[u8], text: &mut Vec<u8>) -> Result<(), AllocError>
-    ensures text { OnOk result (text.new.items ≡ text.old.items ++ pair_line (key.now, value.now)) }
-    ensures bytes { AreBytes (key.now, value.now) }
+    ensures text { OnOk result (text.new.items ≡ text.old.items ++ dump_pair_line (key.now, value.now)) }
+    ensures bytes { AreBytePair (key.now, value.now) }
 {
     show_bytes(&Notation::Hex, key, text)?;
     text.push(b' ')?;
@@ -117,7 +117,7 @@ fn show_pair(key: &[u8], value: &[u8], text: &mut Vec<u8>) -> Result<(), AllocEr
 // gdbm's format: a header, the pairs, and their number.
 fn gdbm_dump(alloc: Global, pairs: &[(Bytes<Global>, Bytes<Global>)]) -> Result<Vec<u8>, AllocError>
     ensures text { IfOk result (λ text. text.items ≡ spec.gdbm_text pairs.now) }
-    ensures reads { IfOk result (λ text. pairs_of Stage.First text.items ≡ Some pairs.now) }
+    ensures reads { IfOk result (λ text. pairs_in_dump Stage.First text.items ≡ Some pairs.now) }
 {
     let mut text = Vec::new(alloc);
     text.extend_from_slice(GDBM_HEADER)?;

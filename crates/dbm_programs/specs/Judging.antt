@@ -6,7 +6,7 @@ use Rattle.prog_registry.specs.Registry.{IsAccepted}
 use Rattle.prog_registry.specs.declared.fault.RegFault.{RegFault}
 use Rattle.dbm_script.specs.Images.{Denies}
 use Rattle.dbm_reports.specs.declared.report.Report.{Report}
-use Rattle.dbm_reports.specs.Reports.{Prints, IsFileImage, Refuses}
+use Rattle.dbm_reports.specs.Reports.{Prints, IsFileImage, ReportsRefusal}
 
 -- a line with the number of units of an accepted program
 abbrev pub accepted_line : ℕ → List ℕ
@@ -15,7 +15,7 @@ accepted_line units = codes "accepted " ++ (decimal units ++ 10 ∷ [])
 -- Reports that the image is an accepted program, or the reason why an empty registry refuses it.
 abbrev pub Judges : List ℕ → Report → Type 0
 Judges image report =
-    (IsAccepted image × Prints (accepted_line (length image / 8)) report) ⊎ ((fault : RegFault) × (Denies [] image fault × Refuses fault 1 None report))
+    (IsAccepted image × Prints (accepted_line (length image / 8)) report) ⊎ ((fault : RegFault) × (Denies [] image fault × ReportsRefusal fault 1 None report))
 
 -- reports the verdict on the image of a program's file
 abbrev pub Verifies : Bool → List ℕ → Report → Type 0

@@ -16,12 +16,12 @@ use Rattle.dbm_script.specs.declared.answers.Answer.{Answer}
 use Rattle.dbm_script.specs.declared.answers.Answer.TheVariants.{Replied, Refused}
 use Rattle.dbm_script.specs.Answers.{IsAnswerTo}
 use Rattle.dbm_reports.specs.declared.report.Report.{Report}
-use Rattle.dbm_reports.specs.Reports.{Changes, Looks, IsCommandReport}
+use Rattle.dbm_reports.specs.Reports.{ChangesFiles, Looks, IsCommandReport}
 use Rattle.dbm_records.specs.Fetch.{FetchShows, ShowsValue}
 use Rattle.dbm_records.specs.Running.{RunsImage}
 use Rattle.dbm_records.specs.declared.page_request.PageRequest.{PageRequest}
 use Rattle.dbm_records.specs.declared.page_request.PageRequest.TheVariants as asked
-use Rattle.dbm_records.specs.PageRequests.{Answers, IsKeyed, key_in}
+use Rattle.dbm_records.specs.PageRequests.{AnswersRequest, IsKeyed, request_key}
 use Rattle.store_parts.proofs.PartOf.{changed_kind, changed_size}
 
 -- the same report, with another database
@@ -61,7 +61,7 @@ module _ (n : Notation Global) (part db : Database) (ok : IsDatabase db) (number
   size_of part' after changed = ap (λ (d : Database). d.size) changed.db_is ∙ changed_size number db changed.change
 
   changes : (command : Command Global) → HasKey command → (place : Place) → IsPlaceOf part (key_of command) place → place.page ≡ number
-      → (expect : Option ℕ) (report : Report) → Changes n part command expect report → IsReportedAlike number part db (Changes n db command expect) report
+      → (expect : Option ℕ) (report : Report) → ChangesFiles n part command expect report → IsReportedAlike number part db (ChangesFiles n db command expect) report
   changes command keyed place leads page expect report (part', (told, is)) =
       let done = answered command keyed place leads page told.answer part' told.answers in
       record {
@@ -119,8 +119,8 @@ module _ (n : Notation Global) (part db : Database) (ok : IsDatabase db) (number
       )
 
   -- a result on the part is also the result on the whole
-  pub alike_answers : (asked : PageRequest) → IsKeyed asked → (place : Place) → IsPlaceOf part (key_in asked) place → place.page ≡ number → (report : Report) → Answers n asked part report
-      → ((report.database ≡ None) × Answers n asked db report) ⊎ IsReportedAlike number part db (Answers n asked db) report
+  pub alike_answers : (asked : PageRequest) → IsKeyed asked → (place : Place) → IsPlaceOf part (request_key asked) place → place.page ≡ number → (report : Report) → AnswersRequest n asked part report
+      → ((report.database ≡ None) × AnswersRequest n asked db report) ⊎ IsReportedAlike number part db (AnswersRequest n asked db) report
   alike_answers (asked.Fetch command raw) keyed place leads page report told = inl (shows raw command keyed place leads page report told)
   alike_answers (asked.Change command) keyed place leads page report told = inr (changes command keyed place leads page None report told)
   alike_answers (asked.Run words program expect) keyed place leads page report (inl (p, (is, told))) =

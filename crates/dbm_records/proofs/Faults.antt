@@ -1,7 +1,7 @@
 -- Words that are not a command.
 use Rattle.std.proofs.Common.{◌≡◌, ℕ, List, None, Bool, true, false, cond, refl}
 use Rattle.std.specs.declared.alloc.Global.{Global}
-use Rattle.dbm_script.specs.Commands.{command_of}
+use Rattle.dbm_script.specs.Commands.{command_of_words}
 use Rattle.dbm_script.specs.Notation.{reads_hex}
 use Rattle.dbm_args.specs.declared.options.Form.{Form}
 use Rattle.dbm_script.specs.declared.notations.Notation.{Notation}
@@ -11,7 +11,7 @@ use Rattle.dbm_reports.specs.Causes.{IsCaused}
 use Rattle.dbm_records.specs.Commands.{command_causes}
 
 -- words that are not a command, in hex or as text
-pub no_command : (n : Notation Global) (form : Form) (given : Given) (words : List (List ℕ)) → command_of n words ≡ None → IsCaused (command_causes n form given words) (cond (reads_hex n) BadHex BadText)
+pub no_command : (n : Notation Global) (form : Form) (given : Given) (words : List (List ℕ)) → command_of_words n words ≡ None → IsCaused (command_causes n form given words) (cond (reads_hex n) BadHex BadText)
 no_command n form given words none = by_reading (reads_hex n) refl
   where
     by_reading : (hex : Bool) → reads_hex n ≡ hex → IsCaused (command_causes n form given words) (cond hex BadHex BadText)

@@ -10,7 +10,7 @@ use Rattle.dbm_script.specs.Script.{run_command}
 use Rattle.bpf_verify.specs.Verified.{Accepted}
 use Rattle.prog_registry.specs.Judged.{IsProgramOf}
 use Rattle.prog_registry.specs.Programs.{StandsAt}
-use Rattle.prog_registry.specs.Registry.{Registered, Gives, Refuses}
+use Rattle.prog_registry.specs.Registry.{Registered, GivesNumber, RefusesImage}
 use Rattle.prog_registry.specs.declared.fault.RegFault.{RegFault}
 use Rattle.prog_registry.specs.declared.fault.RegFault.TheVariants as reg
 use Rattle.dbm_script.specs.Images.{Denies}
@@ -18,7 +18,7 @@ use Rattle.dbm_args.specs.declared.options.Form.{Form}
 use Rattle.dbm_reports.specs.declared.databases.Given.{Given}
 use Rattle.dbm_reports.specs.declared.fault.ReportFault.{ReportFault}
 use Rattle.dbm_reports.specs.declared.fault.ReportFault.TheVariants.{BadHex, BadText, BadLayout, BadNumber, Open, NotText, Assemble, Decode, Read, TooLong, OutputTooLong, NoMemory}
-use Rattle.dbm_reports.specs.Databases.{IsOpened, Opens}
+use Rattle.dbm_reports.specs.Databases.{IsOpened, CanBeOpened}
 use Rattle.dbm_reports.specs.Causes.{Causes, IsCaused, no_causes, file_causes}
 use Rattle.dbm_records.specs.Running.{program_causes, RunsImage}
 use Rattle.dbm_script.specs.declared.notations.Notation.{Notation}
@@ -41,7 +41,7 @@ no_fault causes OutputTooLong h = absurd h
 no_fault causes NoMemory h = h
 
 -- the program's file, after the opening
-pub opened_fault : (form : Form) (given : Given) (is_image : Bool) (fault : ReportFault) → Opens form given → IsCaused (file_causes is_image given.file.items) fault → IsCaused (program_causes form given is_image) fault
+pub opened_fault : (form : Form) (given : Given) (is_image : Bool) (fault : ReportFault) → CanBeOpened form given → IsCaused (file_causes is_image given.file.items) fault → IsCaused (program_causes form given is_image) fault
 opened_fault form given true fault opens h = no_fault (program_causes form given true) fault h
 opened_fault form given false BadHex opens h = h
 opened_fault form given false BadText opens h = h
@@ -66,7 +66,7 @@ same_opened form given other db dir pag o = record {
 }
 
 -- the program that gets the first number in an empty registry
-pub given_program : (old new : Registered) (image : List ℕ) (id : ℕ) → old.programs ≡ [] → Gives old image id new → (p : Accepted) × (IsProgramOf image p × (slice_get new.programs id ≡ Some p))
+pub given_program : (old new : Registered) (image : List ℕ) (id : ℕ) → old.programs ≡ [] → GivesNumber old image id new → (p : Accepted) × (IsProgramOf image p × (slice_get new.programs id ≡ Some p))
 given_program old new image id empty (inl there) = absurd (nothing_there id (subst (λ (programs : List Accepted). StandsAt programs image id) empty there.0))
   where
     nothing_there : (id : ℕ) → StandsAt [] image id → ⊥
@@ -91,7 +91,7 @@ ran_program programs key prog arg blank now command is = by_program (slice_get p
     by_program (Some p) at e = (p, (at, same_Some command (Run key p.code arg blank now) e))
 
 -- why an empty registry refuses an image
-pub denied : (old new : Registered) (image : List ℕ) (fault : RegFault) → old.programs ≡ [] → fault ≢ reg.NoMemory → Refuses old image fault new → Denies [] image fault
+pub denied : (old new : Registered) (image : List ℕ) (fault : RegFault) → old.programs ≡ [] → fault ≢ reg.NoMemory → RefusesImage old image fault new → Denies [] image fault
 denied old new image reg.NoMemory empty told refuses = absurd (told refl)
 denied old new image (reg.Decode fault) empty told refuses = refuses.1.0
 denied old new image (reg.Verify fault) empty told refuses = refuses.1.0

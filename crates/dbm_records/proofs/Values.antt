@@ -4,7 +4,7 @@ use Rattle.std.proofs.lemmas.Option.{none-some}
 use Rattle.std.specs.declared.alloc.Global.{Global}
 use Rattle.sdbm_addr.specs.Database.{Database}
 use Rattle.store_cmd.specs.declared.Command.{Command}
-use Rattle.dbm_script.specs.Commands.{command_of}
+use Rattle.dbm_script.specs.Commands.{command_of_words}
 use Rattle.dbm_script.specs.declared.notations.Notation.{Notation}
 use Rattle.dbm_reports.specs.Causes.{IsCaused, input_causes}
 use Rattle.dbm_reports.specs.Known.{Known}
@@ -38,16 +38,16 @@ input_fault n store given input NoMemory opens h = tt
 
 -- the command in three words, after replacing equal words
 pub asked_by : (n : Notation Global) (name named key keyed value valued : List ℕ) (command : Command Global) → named ≡ name → keyed ≡ key → valued ≡ value
-    → command_of n (named ∷ (keyed ∷ (valued ∷ []))) ≡ Some command → command_of n (name ∷ (key ∷ (value ∷ []))) ≡ Some command
+    → command_of_words n (named ∷ (keyed ∷ (valued ∷ []))) ≡ Some command → command_of_words n (name ∷ (key ∷ (value ∷ []))) ≡ Some command
 asked_by n name named key keyed value valued command names keys values is =
-    subst (λ (word : List ℕ). command_of n (name ∷ (key ∷ (word ∷ []))) ≡ Some command) values
-    (subst (λ (word : List ℕ). command_of n (name ∷ (word ∷ (valued ∷ []))) ≡ Some command) keys
-    (subst (λ (word : List ℕ). command_of n (word ∷ (keyed ∷ (valued ∷ []))) ≡ Some command) names is))
+    subst (λ (word : List ℕ). command_of_words n (name ∷ (key ∷ (word ∷ []))) ≡ Some command) values
+    (subst (λ (word : List ℕ). command_of_words n (name ∷ (word ∷ (valued ∷ []))) ≡ Some command) keys
+    (subst (λ (word : List ℕ). command_of_words n (word ∷ (keyed ∷ (valued ∷ []))) ≡ Some command) names is))
 
 -- a property of a store, by cases on whether its value is standard input
 pub known_by : (takes : Bool) (n : Notation Global) (store : Store) (given : Given) (input : Option (List ℕ)) (P : Known → Type 0) → takes_input store ≡ takes → P (store_by takes n store given input) → P (store_in n store given input)
 known_by takes n store given input P is holds = subst (λ (t : Bool). P (store_by t n store given input)) (sym is) holds
 
 -- words with a command are not invalid
-pub means : (n : Notation Global) (words : List (List ℕ)) (command : Command Global) → command_of n words ≡ Some command → command_of n words ≢ None
+pub means : (n : Notation Global) (words : List (List ℕ)) (command : Command Global) → command_of_words n words ≡ Some command → command_of_words n words ≢ None
 means n words command is none = none-some command (sym none ∙ is)

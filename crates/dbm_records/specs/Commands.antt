@@ -8,7 +8,7 @@ use Rattle.store_cmd.specs.declared.Reply.{Reply}
 use Rattle.store_cmd.specs.declared.Reply.TheVariants.{Found}
 use Rattle.dbm_script.specs.declared.answers.Answer.{Answer}
 use Rattle.dbm_script.specs.declared.answers.Answer.TheVariants.{Replied, Refused}
-use Rattle.dbm_script.specs.Commands.{command_of}
+use Rattle.dbm_script.specs.Commands.{command_of_words}
 use Rattle.dbm_args.specs.declared.options.Form.{Form}
 use Rattle.dbm_reports.specs.declared.databases.Given.{Given}
 use Rattle.dbm_reports.specs.Databases.{IsOpened, IsShut}
@@ -20,18 +20,18 @@ pub record OnCommand (notation : Notation Global) (form : Form) (given : Given) 
   pub before : Database
   pub opened : IsOpened form given before
   pub command : Command Global
-  pub is : command_of notation words ≡ Some command
+  pub is : command_of_words notation words ≡ Some command
   pub holds : P before command
 
 -- the words of the subcommands, like those of a line
 abbrev pub fetch_words : List ℕ → List (List ℕ)
 fetch_words key = codes "fetch" ∷ (key ∷ [])
 
-abbrev pub store_name : Bool → List ℕ
-store_name insert = cond insert (codes "insert") (codes "replace")
+abbrev pub store_command_name : Bool → List ℕ
+store_command_name insert = cond insert (codes "insert") (codes "replace")
 
 abbrev pub store_words : List ℕ → List ℕ → Bool → List (List ℕ)
-store_words key value insert = store_name insert ∷ (key ∷ (value ∷ []))
+store_words key value insert = store_command_name insert ∷ (key ∷ (value ∷ []))
 
 abbrev pub delete_words : List ℕ → List (List ℕ)
 delete_words key = codes "delete" ∷ (key ∷ [])
@@ -39,9 +39,9 @@ delete_words key = codes "delete" ∷ (key ∷ [])
 -- the faults of a command: its words are checked before the files
 abbrev pub command_causes : Notation Global → Form → Given → List (List ℕ) → Causes
 command_causes notation form given words = record no_causes {
-  words = (reads_hex notation ≡ true) × (command_of notation words ≡ None);
-  texts = (reads_hex notation ≡ false) × (command_of notation words ≡ None);
-  opening = λ reason. (command_of notation words ≢ None) × IsShut form given reason;
+  words = (reads_hex notation ≡ true) × (command_of_words notation words ≡ None);
+  texts = (reads_hex notation ≡ false) × (command_of_words notation words ≡ None);
+  opening = λ reason. (command_of_words notation words ≢ None) × IsShut form given reason;
 }
 
 -- the value in a reply, and in an answer

@@ -9,7 +9,7 @@ use Rattle.dbm_reports.specs.declared.databases.Given.{Given}
 use Rattle.dbm_records.specs.Commands.{command_causes, OnCommand, delete_words}
 use Rattle.dbm_reports.specs.Known.{Known}
 use Rattle.dbm_reports.specs.Words.{word_asked}
-use Rattle.dbm_reports.specs.Reports.{Changes}
+use Rattle.dbm_reports.specs.Reports.{ChangesFiles}
 use Rattle.dbm_args.specs.CommandLine.{flag, required_word, subcommand, with_alias, writing_in}
 use Rattle.dbm_args.specs.Heads.{head_on}
 use Rattle.dbm_args.specs.declared.options.Head.{Head}
@@ -23,7 +23,7 @@ DeleteAsks rows delete =
 
 abbrev pub delete_in : Notation Global → Delete → Given → Known
 delete_in n delete given = record {
-  reports = λ report. OnCommand n delete.form given (delete_words (word_asked delete.raw_key n delete.key.now)) (λ db command. Changes n db command None report);
+  reports = λ report. OnCommand n delete.form given (delete_words (word_asked delete.raw_key n delete.key.now)) (λ db command. ChangesFiles n db command None report);
   causes = command_causes n delete.form given (delete_words (word_asked delete.raw_key n delete.key.now));
 }
 

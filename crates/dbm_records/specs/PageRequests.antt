@@ -8,7 +8,7 @@ use Rattle.dbm_args.specs.declared.options.Form.{Form}
 use Rattle.dbm_reports.specs.declared.report.Report.{Report}
 use Rattle.dbm_reports.specs.declared.databases.Given.{Given}
 use Rattle.dbm_reports.specs.Databases.{IsOpened}
-use Rattle.dbm_reports.specs.Reports.{Changes}
+use Rattle.dbm_reports.specs.Reports.{ChangesFiles}
 use Rattle.dbm_records.specs.Fetch.{FetchShows, fetch_in}
 use Rattle.dbm_records.specs.Store.{store_in}
 use Rattle.dbm_records.specs.Delete.{delete_in}
@@ -28,22 +28,22 @@ IsKeyed (asked.Change command) = HasKey command
 IsKeyed (asked.Run words program expect) = Unit {0}
 
 -- the key
-abbrev pub key_in : PageRequest → List ℕ
-key_in (asked.Fetch command raw) = key_of command
-key_in (asked.Change command) = key_of command
-key_in (asked.Run words program expect) = words.key
+abbrev pub request_key : PageRequest → List ℕ
+request_key (asked.Fetch command raw) = key_of command
+request_key (asked.Change command) = key_of command
+request_key (asked.Run words program expect) = words.key
 
 -- its result on a database
-abbrev pub Answers : Notation Global → PageRequest → Database → Report → Type 0
-Answers n (asked.Fetch command raw) db report = FetchShows raw n db command report
-Answers n (asked.Change command) db report = Changes n db command None report
-Answers n (asked.Run words program expect) db report = RunsImage n db words expect program.items report
+abbrev pub AnswersRequest : Notation Global → PageRequest → Database → Report → Type 0
+AnswersRequest n (asked.Fetch command raw) db report = FetchShows raw n db command report
+AnswersRequest n (asked.Change command) db report = ChangesFiles n db command None report
+AnswersRequest n (asked.Run words program expect) db report = RunsImage n db words expect program.items report
 
 -- The request matches the words: it is about a key, and its result on the database of the files is also the result of the words on these
 -- files.
 pub record IsMeant (form : Form) (file : List ℕ) (n : Notation Global) (comes : Given → Report → Type 0) (asked : PageRequest) : Type 0 where
   pub keyed : IsKeyed asked
-  pub same : (given : Given) (db : Database) (report : Report) → given.file.items ≡ file → IsOpened form given db → Answers n asked db report → comes given report
+  pub same : (given : Given) (db : Database) (report : Report) → given.file.items ≡ file → IsOpened form given db → AnswersRequest n asked db report → comes given report
 
 -- the result of each subcommand, with files and without standard input
 abbrev pub FetchComes : Notation Global → Fetch → Given → Report → Type 0

@@ -11,7 +11,7 @@ use Rattle.dbm_script.specs.declared.notations.Notation.{Notation}
 use Rattle.dbm_reports.specs.declared.report.Report.{Report}
 use Rattle.dbm_records.specs.declared.page_request.PageRequest.{PageRequest}
 use Rattle.dbm_records.specs.declared.page_result.PageResult.{PageResult}
-use Rattle.dbm_records.specs.PageRequests.{Answers}
+use Rattle.dbm_records.specs.PageRequests.{AnswersRequest}
 
 -- the report: its text, its status, its notes, and the database that has to be saved
 abbrev pub report_with : PageResult → Option Database → Report
@@ -19,12 +19,12 @@ report_with quick after = record { text = quick.text; status = quick.status; dat
 
 -- On the whole files the text and the status are the same. On files that a save has left, the plan turns them into those of the database
 -- that has to be saved then.
-pub record ComesTo (n : Notation Global) (asked : PageRequest) (quick : PageResult) (db : Database) (pag dir : List ℕ) : Type 0 where
+pub record PageComesTo (n : Notation Global) (asked : PageRequest) (quick : PageResult) (db : Database) (pag dir : List ℕ) : Type 0 where
   pub after : Option Database
-  pub answers : Answers n asked db (report_with quick after)
+  pub answers : AnswersRequest n asked db (report_with quick after)
   pub saves : AreFilesFor db pag dir → SavesAs after quick.plan pag dir
 
 -- the same for all whole files that contain this part
 abbrev pub IsPageResult : Notation Global → PageRequest → Part → KeyBytes → PageSize → PageResult → Type 0
 IsPageResult n asked part kind size quick =
-    (db : Database) (pag : List ℕ) → db.kind ≡ kind → db.size ≡ size → AreWhole part quick.numbers.items db pag → ComesTo n asked quick db pag part.directory.now
+    (db : Database) (pag : List ℕ) → db.kind ≡ kind → db.size ≡ size → AreWhole part quick.numbers.items db pag → PageComesTo n asked quick db pag part.directory.now

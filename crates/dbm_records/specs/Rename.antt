@@ -67,9 +67,9 @@ Renames n before key new mode after text status =
     ⊎ ((value : List ℕ) × ((value_in answer ≡ Some value) × (IsAnswerTo Global before (Fetch key) answer found × StoresAnew n found key new value mode after text status)))))
 
 -- a store command
-abbrev pub is_store : {A : Type 0} → Command A → Bool
-is_store (Store key value mode) = true
-is_store _ = false
+abbrev pub is_store_command : {A : Type 0} → Command A → Bool
+is_store_command (Store key value mode) = true
+is_store_command _ = false
 
 -- The keys are read like the words of a store, with the new key as its value.
 abbrev pub RenamesBy : Notation Global → Database → Command Global → Report → Type 0

@@ -1,7 +1,7 @@
 -- The arguments of `run`, its results and its errors.
 use Rattle.std.specs.Prelude.{◌≡◌, ℕ, List, ◌∷◌, codes, Some, true}
 use Rattle.clap.specs.Words.{Shape, Row}
-use Rattle.dbm_args.specs.Given.{IsForm, IsGiven, IsNotation, IsWord, is_given}
+use Rattle.dbm_args.specs.Given.{IsForm, IsOptionGiven, IsNotation, IsWord, is_given}
 use Rattle.dbm_records.specs.declared.run.Run.{Run}
 use Rattle.std.specs.declared.alloc.Global.{Global}
 use Rattle.dbm_script.specs.declared.notations.Notation.{Notation}
@@ -18,7 +18,7 @@ run = subcommand (codes "run") (required_word (codes "BASE") ∷ required_word (
 
 abbrev pub RunAsks : List Row → Run → Type 0
 RunAsks rows run =
-    IsWord (codes "BASE") rows run.base × (IsForm rows run.form × (IsNotation rows run.notation × (IsWord (codes "KEY") rows run.key × (IsWord (codes "FILE") rows run.file × (IsWord (codes "ARG") rows run.arg × (IsWord (codes "BLANK") rows run.blank × (IsWord (codes "NOW") rows run.now × (IsGiven (codes "expect") rows run.expect × ((run.image ≡ is_given (codes "image") rows) × (run.raw_key ≡ is_given (codes "raw-key") rows))))))))))
+    IsWord (codes "BASE") rows run.base × (IsForm rows run.form × (IsNotation rows run.notation × (IsWord (codes "KEY") rows run.key × (IsWord (codes "FILE") rows run.file × (IsWord (codes "ARG") rows run.arg × (IsWord (codes "BLANK") rows run.blank × (IsWord (codes "NOW") rows run.now × (IsOptionGiven (codes "expect") rows run.expect × ((run.image ≡ is_given (codes "image") rows) × (run.raw_key ≡ is_given (codes "raw-key") rows))))))))))
 
 -- the words of a run, given the bytes of its key
 abbrev pub texts_by : List ℕ → Run → RunTexts

@@ -13,11 +13,11 @@ use Rattle.dbm_args.specs.declared.options.Form.{Form}
 use Rattle.dbm_reports.specs.declared.report.Report.{Report}
 use Rattle.dbm_reports.specs.declared.databases.Given.{Given}
 use Rattle.dbm_script.specs.declared.run_words.RunWords.{RunWords}
-use Rattle.dbm_reports.specs.Databases.{IsOpened, IsShut, Opens}
+use Rattle.dbm_reports.specs.Databases.{IsOpened, IsShut, CanBeOpened}
 use Rattle.dbm_script.specs.Notation.{reads_hex}
 use Rattle.dbm_script.specs.Tasks.{HasBadBytes, HasBadNumber, run_words_of}
 use Rattle.dbm_script.specs.Numbers.{number_of}
-use Rattle.dbm_reports.specs.Reports.{Changes, IsFileImage, Refuses}
+use Rattle.dbm_reports.specs.Reports.{ChangesFiles, IsFileImage, ReportsRefusal}
 use Rattle.dbm_reports.specs.Causes.{Causes, no_causes, file_causes}
 
 -- the words of a run, and its expected code, as they were given
@@ -41,8 +41,8 @@ run_asked notation texts = run_words_of notation texts.key texts.arg texts.blank
 abbrev pub AreRunWords : Notation Global → RunTexts → RunWords Global → Option ℕ → Type 0
 AreRunWords notation texts words expect = (run_asked notation texts ≡ Some words) × (expected_code texts.expect ≡ Some expect)
 
-abbrev pub Means : Notation Global → RunTexts → Type 0
-Means notation texts = (words : RunWords Global) × ((expect : Option ℕ) × AreRunWords notation texts words expect)
+abbrev pub MeansRun : Notation Global → RunTexts → Type 0
+MeansRun notation texts = (words : RunWords Global) × ((expect : Option ℕ) × AreRunWords notation texts words expect)
 
 -- the words are valid, but the code is not a number
 abbrev pub HasBadCode : Notation Global → RunTexts → Type 0
@@ -59,8 +59,8 @@ word_causes notation texts = record no_causes {
 abbrev pub program_causes : Form → Given → Bool → Causes
 program_causes form given is_image = record no_causes {
   opening = IsShut form given;
-  no_text = Opens form given × (file_causes is_image given.file.items).no_text;
-  assembling = λ fault. Opens form given × (file_causes is_image given.file.items).assembling fault;
+  no_text = CanBeOpened form given × (file_causes is_image given.file.items).no_text;
+  assembling = λ fault. CanBeOpened form given × (file_causes is_image given.file.items).assembling fault;
 }
 
 -- a run checks its words before it opens files
@@ -69,9 +69,9 @@ run_causes notation form given texts is_image = record no_causes {
   words = (word_causes notation texts).words;
   texts = (word_causes notation texts).texts;
   numbers = (word_causes notation texts).numbers;
-  opening = λ reason. Means notation texts × IsShut form given reason;
-  no_text = Means notation texts × (program_causes form given is_image).no_text;
-  assembling = λ fault. Means notation texts × (program_causes form given is_image).assembling fault;
+  opening = λ reason. MeansRun notation texts × IsShut form given reason;
+  no_text = MeansRun notation texts × (program_causes form given is_image).no_text;
+  assembling = λ fault. MeansRun notation texts × (program_causes form given is_image).assembling fault;
 }
 
 -- the status if the program is refused: 3 if a code is expected
@@ -83,8 +83,8 @@ refusal_status (Some code) = 3
 -- refuses the image, and the files are written with the database unchanged.
 abbrev pub RunsImage : Notation Global → Database → RunWords Global → Option ℕ → List ℕ → Report → Type 0
 RunsImage notation before words expect image report =
-    ((p : Accepted) × (IsProgramOf image p × Changes notation before (Run words.key p.code words.arg words.blank words.now) expect report))
-    ⊎ ((fault : RegFault) × (Denies [] image fault × Refuses fault (refusal_status expect) (Some before) report))
+    ((p : Accepted) × (IsProgramOf image p × ChangesFiles notation before (Run words.key p.code words.arg words.blank words.now) expect report))
+    ⊎ ((fault : RegFault) × (Denies [] image fault × ReportsRefusal fault (refusal_status expect) (Some before) report))
 
 -- the result of a run on the database of the files, with the program of a file
 pub record OnRun (notation : Notation Global) (form : Form) (given : Given) (texts : RunTexts) (is_image : Bool) (report : Report) : Type 0 where

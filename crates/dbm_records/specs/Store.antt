@@ -4,18 +4,18 @@ use Rattle.std.specs.Str.{bytes_eq}
 use Rattle.store_cmd.specs.declared.Command.{Command}
 use Rattle.store_cmd.specs.declared.Command.TheVariants as asked
 use Rattle.dbm_reports.specs.Causes.{Causes, IsLongScript}
-use Rattle.dbm_reports.specs.Databases.{Opens}
+use Rattle.dbm_reports.specs.Databases.{CanBeOpened}
 use Rattle.clap.specs.Words.{Shape, Row}
 use Rattle.dbm_args.specs.Given.{IsForm, IsNotation, IsWord, is_given}
 use Rattle.dbm_records.specs.declared.store.Store.{Store}
 use Rattle.std.specs.declared.alloc.Global.{Global}
-use Rattle.dbm_script.specs.Commands.{command_of}
+use Rattle.dbm_script.specs.Commands.{command_of_words}
 use Rattle.dbm_script.specs.declared.notations.Notation.{Notation}
 use Rattle.dbm_reports.specs.declared.databases.Given.{Given}
 use Rattle.dbm_records.specs.Commands.{command_causes, OnCommand, store_words}
 use Rattle.dbm_reports.specs.Known.{Known}
 use Rattle.dbm_reports.specs.Words.{word_asked}
-use Rattle.dbm_reports.specs.Reports.{Changes}
+use Rattle.dbm_reports.specs.Reports.{ChangesFiles}
 use Rattle.dbm_args.specs.CommandLine.{required_word, flag, subcommand, with_alias, writing_in}
 use Rattle.dbm_args.specs.Heads.{head_on}
 use Rattle.dbm_args.specs.declared.options.Head.{Head}
@@ -32,9 +32,9 @@ abbrev pub takes_input : Store → Bool
 takes_input store = store.raw_value && bytes_eq store.value.now (codes "-")
 
 -- replaces the value of a store
-abbrev pub with_value : List ℕ → Command Global → Command Global
-with_value value (asked.Store key old mode) = asked.Store key value mode
-with_value value command = command
+abbrev pub with_store_value : List ℕ → Command Global → Command Global
+with_store_value value (asked.Store key old mode) = asked.Store key value mode
+with_store_value value command = command
 
 -- the words of a store, given the word of its value
 abbrev pub words_by : Notation Global → Store → List ℕ → List (List ℕ)
@@ -42,7 +42,7 @@ words_by n store value = store_words (word_asked store.raw_key n store.key.now) 
 
 -- the words are a store, and the files can be opened
 abbrev pub MayRead : Notation Global → Store → Given → Type 0
-MayRead n store given = (command_of n (words_by n store (codes ".")) ≢ None) × Opens store.form given
+MayRead n store given = (command_of_words n (words_by n store (codes ".")) ≢ None) × CanBeOpened store.form given
 
 -- standard input is read after checking the words and opening the files
 abbrev pub input_store_causes : Notation Global → Store → Given → Option (List ℕ) → Causes
@@ -54,11 +54,11 @@ input_store_causes n store given input = record (command_causes n store.form giv
 -- the possible reports of a store, and its faults; the flag says whether its value is standard input
 abbrev pub store_by : Bool → Notation Global → Store → Given → Option (List ℕ) → Known
 store_by false n store given input = record {
-  reports = λ report. OnCommand n store.form given (words_by n store (word_asked store.raw_value n store.value.now)) (λ db command. Changes n db command None report);
+  reports = λ report. OnCommand n store.form given (words_by n store (word_asked store.raw_value n store.value.now)) (λ db command. ChangesFiles n db command None report);
   causes = command_causes n store.form given (words_by n store (word_asked store.raw_value n store.value.now));
 }
 store_by true n store given input = record {
-  reports = λ report. OnCommand n store.form given (words_by n store (codes ".")) (λ db command. IfSome input (λ value. Changes n db (with_value value command) None report));
+  reports = λ report. OnCommand n store.form given (words_by n store (codes ".")) (λ db command. IfSome input (λ value. ChangesFiles n db (with_store_value value command) None report));
   causes = input_store_causes n store given input;
 }
 

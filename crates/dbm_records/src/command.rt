@@ -1,6 +1,6 @@
 //! One command on the database of the files.
 ghost use Rattle.std.specs.Prelude.{◌≡◌, ◌∷◌, map, IfOk, IfErr, None, Some};
-ghost use Rattle.dbm_script.specs.Commands.{command_of};
+ghost use Rattle.dbm_script.specs.Commands.{command_of_words};
 ghost use Rattle.dbm_args.specs.declared.options.Form.{Form};
 ghost use Rattle.dbm_reports.specs.Causes.{IsCaused};
 ghost use Rattle.dbm_reports.specs.Databases.{IsOpened};
@@ -27,7 +27,7 @@ pub fn command_on(
     name: &[u8],
     args: &[&[u8]],
 ) -> Result<(Image<Global>, Command<Global>), ReportFault>
-    ensures ok { IfOk result (λ r. IsOpened form given.now r.0 × (command_of notation.now (name.now ∷ map (λ x. x.now) args.now) ≡ Some r.1)) }
+    ensures ok { IfOk result (λ r. IsOpened form given.now r.0 × (command_of_words notation.now (name.now ∷ map (λ x. x.now) args.now) ≡ Some r.1)) }
     ensures fault { IfErr result (IsCaused (command_causes notation.now form given.now (name.now ∷ map (λ x. x.now) args.now))) }
 {
     let command = command_in(alloc, notation, name, args)?;
@@ -45,7 +45,7 @@ pub fn command_in(
     name: &[u8],
     args: &[&[u8]],
 ) -> Result<Command<Global>, ReportFault>
-    ensures ok { IfOk result (λ command. command_of notation.now (name.now ∷ map (λ x. x.now) args.now) ≡ Some command) }
+    ensures ok { IfOk result (λ command. command_of_words notation.now (name.now ∷ map (λ x. x.now) args.now) ≡ Some command) }
     ensures fault { (form : Form) → (given : Given) → IfErr result (IsCaused (command_causes notation.now form given (name.now ∷ map (λ x. x.now) args.now))) }
 {
     let Some(command) = read_command(alloc, notation, name, args)? else {

@@ -1,7 +1,7 @@
 //! A request that may need only the page of its key.
 ghost use Rattle.std.specs.Prelude.{◌≡◌, ℕ, List, IfOk, IfSome, true};
 ghost use Rattle.store_moves.specs.Works.{HasKey};
-ghost use Rattle.dbm_records.specs.PageRequests.{Answers, IsMeant, key_in, FetchComes, StoreComes, DeleteComes, RunComes};
+ghost use Rattle.dbm_records.specs.PageRequests.{AnswersRequest, IsMeant, request_key, FetchComes, StoreComes, DeleteComes, RunComes};
 
 use crate::{
     Delete, Fetch, Run, Store, command_in, look_as, run_image, run_words, store_name, takes_input,
@@ -36,7 +36,7 @@ pub enum PageRequest {
 impl PageRequest {
     /// The key of the request.
     pub fn key(&self) -> &[u8]
-        ensures { result.now ≡ key_in self.now }
+        ensures { result.now ≡ request_key self.now }
     {
         match self {
             PageRequest::Fetch { command, .. } | PageRequest::Change { command } =>
@@ -55,7 +55,7 @@ impl PageRequest {
         notation: &Notation<Global>,
         image: Image<Global>,
     ) -> Result<Report, AllocError>
-        ensures { IfOk result (Answers notation.now self image) }
+        ensures { IfOk result (AnswersRequest notation.now self image) }
     {
         match self {
             PageRequest::Fetch { command, raw } => look_as(alloc, notation, image, command, raw),

@@ -3,7 +3,7 @@ ghost use Rattle.std.specs.Prelude.{◌≡◌, ◌%◌, ℕ, List, length, IfSom
 ghost use Rattle.sdbm_addr.specs.Pairs.{page_bytes};
 ghost use Rattle.sdbm_saves.specs.Redo.{IsPlan, Knows};
 ghost use Rattle.sdbm_saves.specs.Parts.{IsReadSo};
-ghost use Rattle.dbm_records.specs.PageRequests.{IsKeyed, key_in};
+ghost use Rattle.dbm_records.specs.PageRequests.{IsKeyed, request_key};
 ghost use Rattle.dbm_records.specs.PageResults.{IsPageResult};
 
 use crate::page_request::PageRequest;

@@ -1,6 +1,6 @@
 //! Changes the key of a pair.
 ghost use Rattle.std.specs.Prelude.{◌≡◌, IfOk, IfErr, None, Some, true};
-ghost use Rattle.dbm_records.specs.Rename.{RenamesBy, Renames, StoresAnew, is_stored, is_store};
+ghost use Rattle.dbm_records.specs.Rename.{RenamesBy, Renames, StoresAnew, is_stored, is_store_command};
 
 use crate::command::value_of;
 use dbm_reports::{Notes, Report, answer_status, shown};
@@ -20,7 +20,7 @@ pub fn rename(
     image: Image<Global>,
     keys: Command<Global>,
 ) -> Result<Report, AllocError>
-    requires { is_store keys ≡ true }
+    requires { is_store_command keys ≡ true }
     ensures { IfOk result (RenamesBy notation.now image keys) }
 {
     let Command::Store { key, value, mode } = keys else {

@@ -4,7 +4,7 @@ ghost use Rattle.bpf_verify.specs.Verified.{Accepted};
 ghost use Rattle.store_cmd.specs.declared.Command.TheVariants as command;
 ghost use Rattle.dbm_reports.specs.Causes.{IsCaused};
 ghost use Rattle.dbm_reports.specs.Databases.{IsOpened};
-ghost use Rattle.dbm_reports.specs.Reports.{Changes, IsFileImage};
+ghost use Rattle.dbm_reports.specs.Reports.{ChangesFiles, IsFileImage};
 ghost use Rattle.dbm_records.specs.Running.{RunsImage, program_causes, refusal_status};
 
 use dbm_args::Form;
@@ -82,7 +82,7 @@ fn run_program(
     expect: Option<u64>,
 ) -> Result<Report, AllocError>
     requires { IsSome (slice_get registry.now.programs run.prog) }
-    ensures { IfOk result (λ report. (p : Accepted) × ((slice_get registry.now.programs run.prog ≡ Some p) × Changes notation.now database (command.Run run.key p.code run.arg run.blank run.now) expect report)) }
+    ensures { IfOk result (λ report. (p : Accepted) × ((slice_get registry.now.programs run.prog ≡ Some p) × ChangesFiles notation.now database (command.Run run.key p.code run.arg run.blank run.now) expect report)) }
 {
     let Some(command) = command_of_run(registry, run)? else {
         unreachable!()

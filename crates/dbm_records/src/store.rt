@@ -4,9 +4,9 @@ ghost use Rattle.clap.specs.Words.{found_of, rows_of};
 ghost use Rattle.dbm_args.specs.CommandLine.{IsSubcommand};
 ghost use Rattle.dbm_args.specs.Given.{has_words};
 ghost use Rattle.dbm_records.specs.Store as spec;
-ghost use Rattle.dbm_records.specs.Store.{StoreAsks, store_by, takes_input, with_value, store_head};
+ghost use Rattle.dbm_records.specs.Store.{StoreAsks, store_by, takes_input, with_store_value, store_head};
 ghost use Rattle.dbm_reports.specs.Causes.{IsCaused};
-ghost use Rattle.dbm_records.specs.Commands.{store_name};
+ghost use Rattle.dbm_records.specs.Commands.{store_command_name};
 
 use crate::command::{command_on, named_key};
 use clap::{ArgMatches, Command};
@@ -168,7 +168,7 @@ impl Subcommand for Store<'_> {
 
 /// The name of the command of a store.
 pub fn store_name(insert: bool) -> &'static [u8]
-    ensures { result.now ≡ store_name insert }
+    ensures { result.now ≡ store_command_name insert }
 {
     if insert { b"insert" } else { b"replace" }
 }
@@ -220,7 +220,7 @@ pub fn takes_input(store: &Store<'_>) -> bool
 
 // Replaces the value of a store.
 fn with_value(command: StoreCommand<Global>, value: Bytes<Global>) -> StoreCommand<Global>
-    ensures { result ≡ with_value value command }
+    ensures { result ≡ with_store_value value command }
 {
     match command {
         StoreCommand::Store { key, mode, .. } => StoreCommand::Store { key, value, mode },

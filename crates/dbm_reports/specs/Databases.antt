@@ -29,8 +29,8 @@ pub record IsOpened (form : Form) (given : Given) (db : Database) : Type 0 where
       → SpellsDatabase other given.dir.items given.pag.bytes → other ≡ db
 
 -- the files can be opened
-abbrev pub Opens : Form → Given → Type 0
-Opens form given = (db : Database) × IsOpened form given db
+abbrev pub CanBeOpened : Form → Given → Type 0
+CanBeOpened form given = (db : Database) × IsOpened form given db
 
 -- Why the files cannot be opened. Out of memory is a separate fault.
 abbrev pub IsShut : Form → Given → OpenFault → Type 0
@@ -38,14 +38,14 @@ IsShut form given opening.NoMemory = ⊥
 IsShut form given reason = IsOpenFault (key_bytes_of form.unsigned) (page_size_of form.wide) given.dir.items given.pag.bytes reason
 
 -- the `.pag` of the database is longer than the program writes
-abbrev pub IsTooLong : Database → Type 0
-IsTooLong db = (pag : List ℕ) → ArePagBytes db pag → pag_limit < length pag
+abbrev pub IsPagTooLong : Database → Type 0
+IsPagTooLong db = (pag : List ℕ) → ArePagBytes db pag → pag_limit < length pag
 
 -- the `.pag` of the database is within the limit that the program writes
-abbrev pub IsShort : Database → Type 0
-IsShort db = (pag : List ℕ) → ArePagBytes db pag → length pag ≤ pag_limit
+abbrev pub IsPagShort : Database → Type 0
+IsPagShort db = (pag : List ℕ) → ArePagBytes db pag → length pag ≤ pag_limit
 
 -- the database to write, if any, is within the limit
 abbrev pub MayBeWritten : Option Database → Type 0
 MayBeWritten None = ⊤
-MayBeWritten (Some db) = IsShort db
+MayBeWritten (Some db) = IsPagShort db

@@ -74,8 +74,8 @@ abbrev pub Looks : Notation Global → Database → Command Global → Report �
 Looks notation before command report = (after : Database) × (IsCommandReport notation before command None after report × (report.database ≡ None))
 
 -- a command after which the files are written
-abbrev pub Changes : Notation Global → Database → Command Global → Option ℕ → Report → Type 0
-Changes notation before command expect report = (after : Database) × (IsCommandReport notation before command expect after report × (report.database ≡ Some after))
+abbrev pub ChangesFiles : Notation Global → Database → Command Global → Option ℕ → Report → Type 0
+ChangesFiles notation before command expect report = (after : Database) × (IsCommandReport notation before command expect after report × (report.database ≡ Some after))
 
 -- ---- the whole database
 
@@ -102,7 +102,7 @@ IsFileImage true file image = image ≡ file
 IsFileImage false file image = IsTextImage file image
 
 -- prints the reason for refusing a program image, with a status
-pub record Refuses (fault : RegFault) (status : ℕ) (database : Option Database) (report : Report) : Type 0 where
+pub record ReportsRefusal (fault : RegFault) (status : ℕ) (database : Option Database) (report : Report) : Type 0 where
   pub text_is : report.text.items ≡ (codes "refused " ++ fault_text fault) ++ 10 ∷ []
   pub status_is : report.status ≡ status
   pub written : report.database ≡ database

@@ -6,7 +6,7 @@ use Rattle.byte_text.specs.Writing.{WritesPart}
 use Rattle.dbm_reports.specs.declared.serving.Unserved.{Unserved}
 use Rattle.dbm_reports.specs.declared.serving.Unserved.TheVariants.{Unreported, Write, TooLong}
 use Rattle.dbm_reports.specs.declared.report.Report.{Report}
-use Rattle.dbm_reports.specs.Databases.{IsTooLong, MayBeWritten}
+use Rattle.dbm_reports.specs.Databases.{IsPagTooLong, MayBeWritten}
 
 -- The text of a report was written. The status and the database are those of the report.
 pub record IsPrinted (reports : Report → Type 0) (old new : Option (List ℕ)) (status : ℕ) (database : Option Database) : Type 0 where
@@ -31,7 +31,7 @@ pub record WasTooLong (reports : Report → Type 0) (old new : Option (List ℕ)
   pub database : Database
   pub is : report.database ≡ Some database
   pub sound : IsDatabase database
-  pub long : IsTooLong database
+  pub long : IsPagTooLong database
 
 -- A fault before writing satisfies its condition, and nothing was written. `Write` leaves a part of the text, and `TooLong` all of it.
 abbrev pub IsUnserved : {F : Type 0} → (Report → Type 0) → (F → Type 0) → Option (List ℕ) → Option (List ℕ) → Unserved F → Type 0

@@ -1,7 +1,7 @@
 //! Opens the database of the files, and checks its size.
 ghost use Rattle.std.specs.Prelude.{◌≡◌, false, IsTrue, IfOk, IfErr};
 ghost use Rattle.sdbm_addr.specs.Database.{IsDatabase};
-ghost use Rattle.dbm_reports.specs.Databases.{IsOpened, IsShort, IsTooLong, key_bytes_of, page_size_of};
+ghost use Rattle.dbm_reports.specs.Databases.{IsOpened, IsPagShort, IsPagTooLong, key_bytes_of, page_size_of};
 ghost use Rattle.dbm_reports.specs.Causes.{IsCaused, opening_causes};
 
 use crate::fault::ReportFault;
@@ -55,8 +55,8 @@ pub fn open(alloc: Global, given: &Given, form: Form) -> Result<Image<Global>, R
 
 /// Returns `true` if a database is too large for the program: its `.pag` would be longer than `PAG_LIMIT`.
 pub fn is_too_long(image: &Image<Global>) -> bool
-    ensures long { IsTrue result → IsTooLong image.now }
-    ensures short { result ≡ false → IsShort image.now }
+    ensures long { IsTrue result → IsPagTooLong image.now }
+    ensures short { result ≡ false → IsPagShort image.now }
     ensures database { IsDatabase image.now }
 {
     image.pag_len() > PAG_LIMIT

@@ -1,7 +1,7 @@
 //! The file of a program.
 ghost use Rattle.std.specs.Prelude.{◌≢◌, IfOk, IfErr};
 ghost use Rattle.prog_registry.specs.declared.fault.RegFault.TheVariants.{NoMemory};
-ghost use Rattle.dbm_reports.specs.Reports.{IsTextImage, IsFileImage, Refuses};
+ghost use Rattle.dbm_reports.specs.Reports.{IsTextImage, IsFileImage, ReportsRefusal};
 ghost use Rattle.dbm_reports.specs.Causes.{IsCaused, text_causes, file_causes};
 
 use crate::fault::ReportFault;
@@ -58,7 +58,7 @@ pub fn refused(
     status: u8,
     database: Option<Image<Global>>,
 ) -> Result<Report, AllocError>
-    ensures line { IfOk result (Refuses fault status database) }
+    ensures line { IfOk result (ReportsRefusal fault status database) }
     ensures told { IfOk result (λ report. fault ≢ NoMemory) }
 {
     let notes = Notes {

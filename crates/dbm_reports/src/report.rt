@@ -1,7 +1,7 @@
 //! The report of a subcommand, and of a command on an open database.
 ghost use Rattle.std.specs.Prelude.{◌≡◌, ◌++◌, ◌∷◌, [], None, IfOk, decimal};
 ghost use Rattle.dbm_script.specs.Answers.{answer_text};
-ghost use Rattle.dbm_reports.specs.Reports.{IsCommandReport, Looks, Changes, answer_status, code_status, ok_line, run_status, status_of};
+ghost use Rattle.dbm_reports.specs.Reports.{IsCommandReport, Looks, ChangesFiles, answer_status, code_status, ok_line, run_status, status_of};
 
 use crate::notes::Notes;
 use dbm_script::{Answer, Notation, answer_command, show_answer};
@@ -50,7 +50,7 @@ pub fn change(
     command: Command<Global>,
     expect: Option<u64>,
 ) -> Result<Report, AllocError>
-    ensures { IfOk result (Changes notation.now image command expect) }
+    ensures { IfOk result (ChangesFiles notation.now image command expect) }
 {
     let mut image = image;
     let report = command_report(alloc, notation, &mut image, command, expect)?;

@@ -1,7 +1,7 @@
 //! Serves a subcommand: makes its report, and then prints it.
 ghost use Rattle.std.specs.Prelude.{◌≡◌, false, IfOk, IfErr, OnOk, IsErrAnd, OnErr, Some, is_some};
 ghost use Rattle.sdbm_addr.specs.Database.{Database, IsDatabase};
-ghost use Rattle.dbm_reports.specs.Databases.{IsTooLong, MayBeWritten};
+ghost use Rattle.dbm_reports.specs.Databases.{IsPagTooLong, MayBeWritten};
 ghost use Rattle.dbm_reports.specs.Served.{IsPrinted, IsUnserved};
 
 use crate::databases::{Given, is_too_long};
@@ -85,7 +85,7 @@ pub fn write_report<F: Drop, W: Write>(
 // Returns an error if the database to write is too large.
 fn check_length(database: &Option<Image<Global>>) -> Result<(), ()>
     ensures ok { OnOk result (MayBeWritten database.now) }
-    ensures long { OnErr result ((db : Database) × ((database.now ≡ Some db) × (IsDatabase db × IsTooLong db))) }
+    ensures long { OnErr result ((db : Database) × ((database.now ≡ Some db) × (IsDatabase db × IsPagTooLong db))) }
 {
     match database {
         Some(image) => {

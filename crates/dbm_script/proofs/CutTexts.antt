@@ -6,7 +6,7 @@ use Rattle.std.proofs.lemmas.List.{append-nil}
 use Rattle.std.proofs.lemmas.List.Elements.{All-append, All-head, All-tail}
 use Rattle.std.proofs.lemmas.List.Splits.{length-slice_split, slice_split_at, slice_split_none, slice_split-cons_no}
 use Rattle.dbm_script.specs.Pieces.{pieces_of}
-use Rattle.dbm_script.specs.LineInput.{Gives, IsLongNext, IsPiece, TakesPiece, Unread, lines_left}
+use Rattle.dbm_script.specs.LineInput.{GivesNextLine, IsLongNext, IsPiece, TakesPiece, Unread, lines_left}
 
 abbrev pub unread : List ℕ → Bool → Unread
 unread rest ended = record { rest = rest; ended = ended }
@@ -69,7 +69,7 @@ same_refilled rest₀ (Some more₀) line rest (Some more) rest' (Some more') sa
 
 -- an LF ends the line
 pub gives_found : (rest₀ : List ℕ) (known₀ : Option (List ℕ)) (line rest : List ℕ) (known : Option (List ℕ)) (line' rest' : List ℕ) → SameText rest₀ known₀ line rest known → IsPiece line
-    → TakesPiece true rest line line' rest' → Gives (lines_left (unread rest₀ false) known₀) true line' (lines_left (unread rest' false) known)
+    → TakesPiece true rest line line' rest' → GivesNextLine (lines_left (unread rest₀ false) known₀) true line' (lines_left (unread rest' false) known)
 gives_found rest₀ None line rest known line' rest' same whole takes = tt
 gives_found rest₀ (Some more₀) line rest None line' rest' same whole takes = absurd same
 gives_found rest₀ (Some more₀) line rest (Some more) line' rest' same whole takes =
@@ -79,17 +79,17 @@ gives_found rest₀ (Some more₀) line rest (Some more) line' rest' same whole 
     ∙ sym (append_assoc line piece (10 ∷ (rest' ++ more))) in
     let cut : pieces_of 10 (rest₀ ++ more₀) ≡ (line ++ piece) ∷ pieces_of 10 (rest' ++ more)
     = ap (pieces_of 10) text ∙ piece_first (line ++ piece) (rest' ++ more) (All-append (λ b. eqb b 10 ≡ false) line piece whole takes.1.0) in
-    subst (λ (ls : List (List ℕ)). Gives (Some ls) true line' (Some (pieces_of 10 (rest' ++ more)))) (sym cut) (takes.1.1.1, refl)
+    subst (λ (ls : List (List ℕ)). GivesNextLine (Some ls) true line' (Some (pieces_of 10 (rest' ++ more)))) (sym cut) (takes.1.1.1, refl)
 
 -- the end of the input ends the line
 pub gives_last : (rest₀ : List ℕ) (known₀ : Option (List ℕ)) (line rest : List ℕ) (known known' : Option (List ℕ)) (rest' : List ℕ) → SameText rest₀ known₀ line rest known → IsPiece line
-    → rest ≡ [] → IsAtEnd known → Gives (lines_left (unread rest₀ false) known₀) true line (lines_left (unread rest' true) known')
+    → rest ≡ [] → IsAtEnd known → GivesNextLine (lines_left (unread rest₀ false) known₀) true line (lines_left (unread rest' true) known')
 gives_last rest₀ None line rest known known' rest' same whole none end = tt
 gives_last rest₀ (Some more₀) line rest None known' rest' same whole none end = absurd same
 gives_last rest₀ (Some more₀) line rest (Some more) known' rest' same whole none end =
     let text : rest₀ ++ more₀ ≡ line = same ∙ ap (λ (xs : List ℕ). line ++ (xs ++ more)) none ∙ ap (λ (xs : List ℕ). line ++ xs) end ∙ append-nil line in
     let cut : pieces_of 10 (rest₀ ++ more₀) ≡ line ∷ [] = ap (pieces_of 10) text ∙ slice_split_none is_end line whole in
-    subst (λ (ls : List (List ℕ)). Gives (Some ls) true line (Some [])) (sym cut) (refl, refl)
+    subst (λ (ls : List (List ℕ)). GivesNextLine (Some ls) true line (Some [])) (sym cut) (refl, refl)
 
 -- a line whose beginning is too long is too long
 long_first : (most : ℕ) (line : List ℕ) (xs : List (List ℕ)) → most < length line → IsLongNext most (Some (prepended line xs))
@@ -133,16 +133,16 @@ opened : (u : Unread) (known : Option (List ℕ)) → u.ended ≡ false → line
 opened u known is = ap (λ (b : Bool). lines_left (unread u.rest b) known) is
 
 pub open_found : (u v : Unread) (known₀ known : Option (List ℕ)) (line rest line' : List ℕ) → u.ended ≡ false → v.ended ≡ false → SameText u.rest known₀ line rest known → IsPiece line
-    → TakesPiece true rest line line' v.rest → Gives (lines_left u known₀) true line' (lines_left v known)
+    → TakesPiece true rest line line' v.rest → GivesNextLine (lines_left u known₀) true line' (lines_left v known)
 open_found u v known₀ known line rest line' a b same whole takes =
-    subst (λ (l : Option (List (List ℕ))). Gives l true line' (lines_left v known)) (sym (opened u known₀ a))
-    (subst (λ (l : Option (List (List ℕ))). Gives (lines_left (unread u.rest false) known₀) true line' l) (sym (opened v known b)) (gives_found u.rest known₀ line rest known line' v.rest same whole takes))
+    subst (λ (l : Option (List (List ℕ))). GivesNextLine l true line' (lines_left v known)) (sym (opened u known₀ a))
+    (subst (λ (l : Option (List (List ℕ))). GivesNextLine (lines_left (unread u.rest false) known₀) true line' l) (sym (opened v known b)) (gives_found u.rest known₀ line rest known line' v.rest same whole takes))
 
 pub open_last : (u v : Unread) (known₀ known : Option (List ℕ)) (line rest : List ℕ) → u.ended ≡ false → v.ended ≡ true → SameText u.rest known₀ line rest known → IsPiece line
-    → rest ≡ [] → IsAtEnd known → Gives (lines_left u known₀) true line (lines_left v known)
+    → rest ≡ [] → IsAtEnd known → GivesNextLine (lines_left u known₀) true line (lines_left v known)
 open_last u v known₀ known line rest a b same whole none end =
-    subst (λ (l : Option (List (List ℕ))). Gives l true line (lines_left v known)) (sym (opened u known₀ a))
-    (subst (λ (l : Option (List (List ℕ))). Gives (lines_left (unread u.rest false) known₀) true line l) (sym (ap (λ (e : Bool). lines_left (unread v.rest e) known) b))
+    subst (λ (l : Option (List (List ℕ))). GivesNextLine l true line (lines_left v known)) (sym (opened u known₀ a))
+    (subst (λ (l : Option (List (List ℕ))). GivesNextLine (lines_left (unread u.rest false) known₀) true line l) (sym (ap (λ (e : Bool). lines_left (unread v.rest e) known) b))
     (gives_last u.rest known₀ line rest known known v.rest same whole none end))
 
 pub open_long : (most : ℕ) (found : Bool) (u : Unread) (known₀ known : Option (List ℕ)) (line rest line' rest' : List ℕ) → u.ended ≡ false → SameText u.rest known₀ line rest known → IsPiece line
@@ -151,6 +151,6 @@ open_long most found u known₀ known line rest line' rest' a same whole takes l
     subst (IsLongNext most) (sym (opened u known₀ a)) (long_next most found u.rest known₀ line rest known line' rest' same whole takes long)
 
 -- no lines are left
-pub ended_gives : (u v : Unread) (known₀ known : Option (List ℕ)) (line : List ℕ) → u.ended ≡ true → v.ended ≡ true → Gives (lines_left u known₀) false line (lines_left v known)
+pub ended_gives : (u v : Unread) (known₀ known : Option (List ℕ)) (line : List ℕ) → u.ended ≡ true → v.ended ≡ true → GivesNextLine (lines_left u known₀) false line (lines_left v known)
 ended_gives u v known₀ known line a b =
-    subst (λ (l : Option (List (List ℕ))). Gives l false line (lines_left v known)) (sym (ap (λ (e : Bool). lines_left (unread u.rest e) known₀) a)) (ap (λ (e : Bool). lines_left (unread v.rest e) known) b)
+    subst (λ (l : Option (List (List ℕ))). GivesNextLine l false line (lines_left v known)) (sym (ap (λ (e : Bool). lines_left (unread u.rest e) known₀) a)) (ap (λ (e : Bool). lines_left (unread v.rest e) known) b)

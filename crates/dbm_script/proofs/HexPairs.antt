@@ -6,7 +6,7 @@ use Rattle.std.proofs.lemmas.Option.{none-some}
 use Rattle.hex.specs.Hex.{decode_pairs, hex_digit_value, pair_value}
 use Rattle.hex.specs.declared.error.FromHexError.{FromHexError}
 use Rattle.hex.proofs.Pairs.{cons_byte, decode_pairs-ok_pair}
-use Rattle.dbm_script.specs.Digits.{joined, lane_value, value_read}
+use Rattle.dbm_script.specs.Digits.{joined_digits, lane_value, value_read}
 use Rattle.dbm_script.proofs.DigitLemmas.{pair_ok}
 use Rattle.dbm_script.proofs.HexWords.{pair_read}
 use Rattle.dbm_script.proofs.Vectors.{lane_reads}
@@ -15,7 +15,7 @@ joined_byte : (h l : ℕ) → h ≤ 15 → l ≤ 15 → h * 16 + l ≡ (h * 16 %
 joined_byte h l sh sl = omega arith
 
 -- if all lanes are at most 15, joining them decodes the text
-pub decode_lanes : (i n : ℕ) (text : List ℕ) → length text ≡ 2 * n → Each1 (λ c. c < 256) text → Each1 (λ v. v ≤ 15) (map lane_value text) → decode_pairs i text ≡ Ok (joined (map lane_value text))
+pub decode_lanes : (i n : ℕ) (text : List ℕ) → length text ≡ 2 * n → Each1 (λ c. c < 256) text → Each1 (λ v. v ≤ 15) (map lane_value text) → decode_pairs i text ≡ Ok (joined_digits (map lane_value text))
 unfolding decode_pairs
 decode_lanes i n [] long fits small = refl
 decode_lanes i n (a ∷ []) long fits small = absurd (omega arith)

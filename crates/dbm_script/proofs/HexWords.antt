@@ -11,7 +11,7 @@ use Rattle.std.proofs.lemmas.Slice.Eq.{bytes_eq-Decides}
 use Rattle.hex.specs.Hex.{decode_of, decode_pairs, digit_or_error, hex_digit_value, ◌>>=◌}
 use Rattle.hex.specs.declared.error.FromHexError.{FromHexError}
 use Rattle.hex.specs.declared.error.FromHexError.TheVariants.{OddLength}
-use Rattle.dbm_script.specs.Notation.{bytes_of, hex_bytes, reads_hex}
+use Rattle.dbm_script.specs.Notation.{bytes_of_word, hex_bytes, reads_hex}
 use Rattle.dbm_script.specs.Pieces.{pieces_of}
 use Rattle.dbm_script.specs.declared.notations.Notation.{Notation}
 use Rattle.dbm_script.specs.declared.notations.Notation.TheVariants.{Hex, Text, Layout}
@@ -66,7 +66,7 @@ hex_word [] bytes e = absurd (none-some bytes e)
 hex_word (c ∷ cs) bytes e = one_word (c ∷ cs) bytes (decode_of (c ∷ cs)) (bytes_eq (c ∷ cs) (codes ".")) refl refl e
 
 -- the hex notation reads words as hex
-pub in_hex : {A : Type 0} (n : Notation A) (word : List ℕ) → reads_hex n ≡ true → bytes_of n word ≡ hex_bytes word
+pub in_hex : {A : Type 0} (n : Notation A) (word : List ℕ) → reads_hex n ≡ true → bytes_of_word n word ≡ hex_bytes word
 in_hex Hex word h = refl
 in_hex Text word h = absurd (true≢false (sym h))
 in_hex (Layout kinds) word h = absurd (true≢false (sym h))

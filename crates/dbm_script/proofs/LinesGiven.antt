@@ -4,18 +4,18 @@ use Rattle.std.proofs.lemmas.Bool.{false≢true}
 use Rattle.std.proofs.lemmas.List.Splits.{length-slice_split}
 use Rattle.std.proofs.lemmas.Option.{same_Some}
 use Rattle.dbm_script.specs.Pieces.{pieces_of}
-use Rattle.dbm_script.specs.LineInput.{Gives, GivesEnded, Unread, lines_left}
+use Rattle.dbm_script.specs.LineInput.{GivesNextLine, GivesEnded, Unread, lines_left}
 
 -- the next line is this one
 abbrev pub IsNext : List (List ℕ) → List ℕ → Option (List (List ℕ)) → Type 0
 IsNext others line left = (behind : List (List ℕ)) × ((others ≡ line ∷ behind) × (left ≡ Some behind))
 
-pub next_line : (others : List (List ℕ)) (line : List ℕ) (left : Option (List (List ℕ))) → Gives (Some others) true line left → IsNext others line left
+pub next_line : (others : List (List ℕ)) (line : List ℕ) (left : Option (List (List ℕ))) → GivesNextLine (Some others) true line left → IsNext others line left
 next_line [] line left gives = absurd gives
 next_line (l ∷ ls) line left gives = (ls, (ap (λ (x : List ℕ). x ∷ ls) (sym gives.0), gives.1))
 
 -- no lines are left
-pub no_line : (others : List (List ℕ)) (line : List ℕ) (left : Option (List (List ℕ))) → Gives (Some others) false line left → others ≡ []
+pub no_line : (others : List (List ℕ)) (line : List ℕ) (left : Option (List (List ℕ))) → GivesNextLine (Some others) false line left → others ≡ []
 no_line [] line left gives = refl
 no_line (l ∷ ls) line left gives = absurd gives
 
@@ -51,13 +51,13 @@ not_ended ended is = ap not is
 has_ended : (ended : Bool) → ended ≡ true → not ended ≡ false
 has_ended ended is = ap not is
 
-pub gives_ended : (left : Option (List (List ℕ))) (line : List ℕ) (u : Unread) (known : Option (List ℕ)) → Gives left true line (lines_left u known) → GivesEnded left (not u.ended) line (lines_left u known)
+pub gives_ended : (left : Option (List (List ℕ))) (line : List ℕ) (u : Unread) (known : Option (List ℕ)) → GivesNextLine left true line (lines_left u known) → GivesEnded left (not u.ended) line (lines_left u known)
 gives_ended None line u known gives = tt
 gives_ended (Some []) line u known gives = absurd gives
 gives_ended (Some (l ∷ [])) line u known gives = (has_ended u.ended (is_over u.ended u.rest known gives.1), gives)
 gives_ended (Some (l ∷ m ∷ ms)) line u known gives = (not_ended u.ended (is_open u known m ms gives.1), gives)
 
-pub gives_none : (left : Option (List (List ℕ))) (line : List ℕ) (left' : Option (List (List ℕ))) → Gives left false line left' → GivesEnded left false line left'
+pub gives_none : (left : Option (List (List ℕ))) (line : List ℕ) (left' : Option (List (List ℕ))) → GivesNextLine left false line left' → GivesEnded left false line left'
 gives_none None line left' gives = tt
 gives_none (Some []) line left' gives = (refl, gives)
 gives_none (Some (l ∷ ls)) line left' gives = absurd gives

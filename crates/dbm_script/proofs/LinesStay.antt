@@ -6,7 +6,7 @@ use Rattle.std.specs.Fmt.{digit_glyph, digits, digits_onto}
 use Rattle.std.specs.List.{ends_with, join_with_byte, onto_first, starts_with}
 use Rattle.std.specs.Prelude.{nat_eq, nat_lt, ◌+◌, ◌-◌, ◌/◌, ◌%◌, ◌==◌, if◌then◌else◌, ⊤}
 use Rattle.dbm_script.specs.Pieces.{pieces_of, pieces_left}
-use Rattle.dbm_script.specs.Shorthand.{fully_named, in_full, is_comment, spelled, spelled_line, timed}
+use Rattle.dbm_script.specs.Shorthand.{fully_named, in_full, is_comment, spelled_text, spelled_line, timed}
 use Rattle.dbm_script.specs.declared.shorthand.LineKind.{LineKind}
 use Rattle.dbm_script.specs.declared.shorthand.LineKind.TheVariants.{OfBatch, OfScript}
 use Rattle.dbm_script.specs.declared.shorthand.TimeOfDay.{TimeOfDay}
@@ -114,7 +114,7 @@ lines_lack : (lines : LineKind) (time : Option TimeOfDay) (text : List (List ℕ
 lines_lack lines time [] p = tt
 lines_lack lines time (line ∷ text) p = (line_lacks lines time line p.0, lines_lack lines time text p.1)
 
-pub lines_stay : (lines : LineKind) (time : Option TimeOfDay) (text : List ℕ) → pieces_of 10 (spelled lines time text) ≡ map (spelled_line lines time) (pieces_of 10 text)
+pub lines_stay : (lines : LineKind) (time : Option TimeOfDay) (text : List ℕ) → pieces_of 10 (spelled_text lines time text) ≡ map (spelled_line lines time) (pieces_of 10 text)
 lines_stay lines time text = go (pieces_of 10 text) (let long = length-slice_split (λ b. eqb b 10) text in omega arith) (pieces_lack 10 text)
   where
     go : (all : List (List ℕ)) → 0 < length all → AllLack 10 all → pieces_of 10 (join_with_byte 10 (map (spelled_line lines time) all)) ≡ map (spelled_line lines time) all

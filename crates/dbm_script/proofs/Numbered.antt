@@ -7,10 +7,10 @@ use Rattle.sdbm_addr.specs.Database.{Database}
 use Rattle.bpf_verify.specs.Verified.{Accepted, image_in}
 use Rattle.prog_registry.specs.FaultText.{fault_text}
 use Rattle.prog_registry.specs.Programs.{StandsAt, IsNew}
-use Rattle.prog_registry.specs.Registry.{Registered, Gives, Refuses, RecallsIn, Keeps}
+use Rattle.prog_registry.specs.Registry.{Registered, GivesNumber, RefusesImage, RecallsIn, KeepsVerdict}
 use Rattle.prog_registry.specs.declared.fault.RegFault.{RegFault}
 use Rattle.prog_registry.specs.declared.fault.RegFault.TheVariants.{NoMemory, Decode, Verify, Full}
-use Rattle.dbm_script.specs.Images.{Verdict, Numbers, Denies, AnswersImage}
+use Rattle.dbm_script.specs.Images.{ImageVerdict, Numbers, Denies, AnswersImage}
 use Rattle.dbm_script.specs.Script as script
 use Rattle.dbm_script.specs.declared.notations.Notation.{Notation}
 use Rattle.dbm_script.specs.declared.lines.Ask.{Ask}
@@ -34,7 +34,7 @@ program_there image None e = let f : ⊥ = cc in absurd f
 program_there image (Some p) e = (p, (refl, same_Some (image_in p) image e))
 
 -- the registry returned a number
-numbered : (old new : Registered) (image : List ℕ) (id : ℕ) → ((other : ℕ) → StandsAt old.programs image other → id ≡ other) → Gives old image id new
+numbered : (old new : Registered) (image : List ℕ) (id : ℕ) → ((other : ℕ) → StandsAt old.programs image other → id ≡ other) → GivesNumber old image id new
     → (p : Accepted) × Numbers old.programs image p id new.programs
 numbered old new image id only (inl there) =
     let found = program_there image (slice_get old.programs id) (sym (slice_get-map image_in old.programs id) ∙ there.0) in
@@ -43,28 +43,28 @@ numbered old new image id only (inr adds) =
     (adds.program, inr (record { is_new = adds.is_new; room = adds.room; is = adds.is; next = adds.next; more = adds.programs }))
 
 -- the registry refused the image
-denied : (old new : Registered) (image : List ℕ) (fault : RegFault) → fault ≢ NoMemory → Refuses old image fault new
+denied : (old new : Registered) (image : List ℕ) (fault : RegFault) → fault ≢ NoMemory → RefusesImage old image fault new
     → IsNew old.programs image × (Denies old.programs image fault × (new.programs ≡ old.programs))
 denied old new image NoMemory told refuses = absurd (told refl)
 denied old new image (Decode fault) told refuses = (refuses.0.is_new, (refuses.1.0, ap (λ (r : Registered). r.programs) refuses.1.1))
 denied old new image (Verify fault) told refuses =
-    (refuses.0, (refuses.1.0, ⊎_elim (λ (h : RecallsIn old image fault new). h.programs) (λ (h : Keeps old image fault new). h.programs) refuses.1.1))
+    (refuses.0, (refuses.1.0, ⊎_elim (λ (h : RecallsIn old image fault new). h.programs) (λ (h : KeepsVerdict old image fault new). h.programs) refuses.1.1))
 denied old new image Full told refuses = (refuses.0.is_new, ((refuses.1.0, refuses.1.1.0), ap (λ (r : Registered). r.programs) refuses.1.1.1))
 
 -- appends the text of an answer
 abbrev pub Answers : Registered → List ℕ → Registered → List ℕ → List ℕ → Type 0
 Answers old image new before after =
-    script.Adds before after (λ added. (told : Verdict) × AnswersImage old.programs image told added new.programs)
+    script.AddsBytes before after (λ added. (told : ImageVerdict) × AnswersImage old.programs image told added new.programs)
 
 pub answers_number : (old new : Registered) (image : List ℕ) (id : ℕ) (before after : List ℕ)
-    → ((other : ℕ) → StandsAt old.programs image other → id ≡ other) → Gives old image id new
+    → ((other : ℕ) → StandsAt old.programs image other → id ≡ other) → GivesNumber old image id new
     → after ≡ before ++ (codes "program " ++ decimal id) → Answers old image new before after
 answers_number old new image id before after only gives is =
     let found = numbered old new image id only gives in
     record { added = codes "program " ++ decimal id; is = is; holds = (Ok found.0, (id, (found.1, refl))) }
 
 pub answers_refusal : (old new : Registered) (image : List ℕ) (fault : RegFault) (before after : List ℕ)
-    → fault ≢ NoMemory → Refuses old image fault new
+    → fault ≢ NoMemory → RefusesImage old image fault new
     → after ≡ before ++ (codes "refused " ++ fault_text fault) → Answers old image new before after
 answers_refusal old new image fault before after told refuses is =
     let why = denied old new image fault told refuses in
@@ -76,8 +76,8 @@ both_ok (Err e) f p q = tt
 
 -- a line that submits a program image
 pub image_line : (A : Type 0) (n : Notation A) (db : Database) (programs programs' : List Accepted) (ask : Option (Ask A)) (image before after : List ℕ) → ask ≡ Some (Program image)
-    → script.Adds before after (λ added. (told : Verdict) × AnswersImage programs image told added programs')
-    → script.Adds before after (λ added. (told : Option Verdict) × script.AnswersLine A n (script.stage db programs) ask told added (script.stage db programs'))
+    → script.AddsBytes before after (λ added. (told : ImageVerdict) × AnswersImage programs image told added programs')
+    → script.AddsBytes before after (λ added. (told : Option ImageVerdict) × script.AnswersLine A n (script.stage db programs) ask told added (script.stage db programs'))
 image_line A n db programs programs' ask image before after is adds = record {
   added = adds.added;
   is = adds.is;

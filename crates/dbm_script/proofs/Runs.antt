@@ -14,14 +14,14 @@ use Rattle.store_cmd.specs.Command.{IsSmall, IsSizeFault}
 use Rattle.store_cmd.specs.declared.Entry.{Entry}
 use Rattle.store_moves.proofs.Acting.{Acts-unique}
 use Rattle.dbm_script.specs.Lines.{ask_of}
-use Rattle.dbm_script.specs.Images.{Verdict}
+use Rattle.dbm_script.specs.Images.{ImageVerdict}
 use Rattle.dbm_script.specs.Answers.{IsAnswerTo, answer_text}
 use Rattle.dbm_script.specs.declared.notations.Notation.{Notation}
 use Rattle.dbm_script.specs.declared.answers.Answer.{Answer}
 use Rattle.dbm_script.specs.declared.answers.Answer.TheVariants.{Replied, Refused}
 use Rattle.dbm_script.specs.declared.lines.Ask.{Ask}
 use Rattle.dbm_script.specs.declared.lines.Ask.TheVariants.{Plain, Program, Run}
-use Rattle.dbm_script.specs.Script.{RunsLines, RunsScript, IsScriptRun, AnswersCommand, AnswersRun, AnswersLine, run_command, Adds, Stage, stage}
+use Rattle.dbm_script.specs.Script.{RunsLines, RunsScript, IsScriptRun, AnswersCommand, AnswersRun, AnswersLine, run_command, AddsBytes, Stage, stage}
 use Rattle.dbm_script.proofs.Numbered.{Numbers-unique}
 
 -- a property of the bytes that were read also holds for the known bytes
@@ -30,7 +30,7 @@ known_read None read P h p = tt
 known_read (Some x) read P h p = subst P h p
 
 -- running more lines
-pub RunsLines-append : (A : Type 0) (n : Notation A) (s mid s' : Stage) (lines more : List (List ℕ)) (told later : List (Option Verdict)) (text added : List ℕ)
+pub RunsLines-append : (A : Type 0) (n : Notation A) (s mid s' : Stage) (lines more : List (List ℕ)) (told later : List (Option ImageVerdict)) (text added : List ℕ)
     → RunsLines A n s lines told text mid → RunsLines A n mid more later added s' → RunsLines A n s (lines ++ more) (told ++ later) (text ++ added) s'
 RunsLines-append A n s mid s' [] more [] later text added r q =
     subst (λ (x : List ℕ). RunsLines A n s more later (x ++ added) s') (sym r.0) (subst (λ (m : Stage). RunsLines A n m more later added s') r.1 q)
@@ -41,8 +41,8 @@ RunsLines-append A n s mid s' ((c ∷ cs) ∷ lines) more (v ∷ told) later tex
     (r.0, (r.1.0 ++ added, (r.1.1.0, (r.1.1.1.0, (RunsLines-append A n r.1.1.0 mid s' lines more told later r.1.0 added r.1.1.1.1.0 q, ap (λ xs. xs ++ added) r.1.1.1.1.1 ∙ append_assoc r.0 (10 ∷ r.1.0) added)))))
 
 -- running one more line
-pub one_more : (A : Type 0) (n : Notation A) (s mid s' : Stage) (done : List (List ℕ)) (line : List ℕ) (told : List (Option Verdict)) (text new : List ℕ)
-    → RunsLines A n s done told text mid → (adds : Adds text new (λ added. (later : List (Option Verdict)) × RunsLines A n mid (line ∷ []) later added s'))
+pub one_more : (A : Type 0) (n : Notation A) (s mid s' : Stage) (done : List (List ℕ)) (line : List ℕ) (told : List (Option ImageVerdict)) (text new : List ℕ)
+    → RunsLines A n s done told text mid → (adds : AddsBytes text new (λ added. (later : List (Option ImageVerdict)) × RunsLines A n mid (line ∷ []) later added s'))
     → RunsLines A n s (done ++ line ∷ []) (told ++ adds.holds.0) new s'
 one_more A n s mid s' done line told text new before adds =
     subst (λ (t : List ℕ). RunsLines A n s (done ++ line ∷ []) (told ++ adds.holds.0) t s') (sym adds.is)
@@ -54,8 +54,8 @@ next_done done line left after all is first = append_assoc done (line ∷ []) af
 
 -- running a line that is not empty
 pub line_runs : (A : Type 0) (n : Notation A) (s s' : Stage) (line : List ℕ) (old mid new : List ℕ) → eqb (length line) 0 ≡ false
-    → Adds old mid (λ added. (told : Option Verdict) × AnswersLine A n s (ask_of n (pieces_of 32 line)) told added s') → new ≡ mid ++ 10 ∷ []
-    → Adds old new (λ added. (told : List (Option Verdict)) × RunsLines A n s (line ∷ []) told added s')
+    → AddsBytes old mid (λ added. (told : Option ImageVerdict) × AnswersLine A n s (ask_of n (pieces_of 32 line)) told added s') → new ≡ mid ++ 10 ∷ []
+    → AddsBytes old new (λ added. (told : List (Option ImageVerdict)) × RunsLines A n s (line ∷ []) told added s')
 line_runs A n s s' [] old mid new some adds more = absurd (false≢true (sym some))
 line_runs A n s s' (c ∷ cs) old mid new some adds more = record {
   added = adds.added ++ 10 ∷ [];
@@ -111,7 +111,7 @@ same_stage : (x y : Stage) → x.db ≡ y.db → x.programs ≡ y.programs → x
 same_stage x y d p = λ i. record { db = d i; programs = p i }
 
 -- given the verdict on its program image, the effect of a line and the text of its answer are unique
-AnswersLine-unique : (A : Type 0) (n : Notation A) (s : Stage) (ask : Option (Ask A)) (told : Option Verdict) (t u : List ℕ) (a b : Stage)
+AnswersLine-unique : (A : Type 0) (n : Notation A) (s : Stage) (ask : Option (Ask A)) (told : Option ImageVerdict) (t u : List ℕ) (a b : Stage)
     → AnswersLine A n s ask told t a → AnswersLine A n s ask told u b → (t ≡ u) × (a ≡ b)
 AnswersLine-unique A n s None told t u a b x y = (x.1.0 ∙ sym y.1.0, x.1.1 ∙ sym y.1.1)
 AnswersLine-unique A n s (Some (Plain command)) told t u a b x y =
@@ -127,7 +127,7 @@ AnswersLine-unique A n s (Some (Program image)) (Some (Ok p)) t u a b x y =
 AnswersLine-unique A n s (Some (Program image)) (Some (Err fault)) t u a b x y =
     (x.1.1.1.1 ∙ sym y.1.1.1.1, same_stage a b (x.0 ∙ sym y.0) (x.1.1.1.0 ∙ sym y.1.1.1.0))
 
-pub RunsLines-unique : (A : Type 0) (n : Notation A) (s : Stage) (lines : List (List ℕ)) (told : List (Option Verdict)) (t u : List ℕ) (a b : Stage)
+pub RunsLines-unique : (A : Type 0) (n : Notation A) (s : Stage) (lines : List (List ℕ)) (told : List (Option ImageVerdict)) (t u : List ℕ) (a b : Stage)
     → RunsLines A n s lines told t a → RunsLines A n s lines told u b → (t ≡ u) × (a ≡ b)
 RunsLines-unique A n s [] [] t u a b x y = (x.0 ∙ sym y.0, x.1 ∙ sym y.1)
 RunsLines-unique A n s [] (v ∷ told) t u a b x y = absurd x
@@ -139,7 +139,7 @@ RunsLines-unique A n s ((c ∷ cs) ∷ lines) (v ∷ told) t u a b x y =
     let rest = RunsLines-unique A n x.1.1.0 lines told x.1.0 y.1.0 a b x.1.1.1.1.0 there in
     (x.1.1.1.1.1 ∙ ap (λ xs. xs ++ 10 ∷ x.1.0) first.0 ∙ ap (λ xs. y.0 ++ 10 ∷ xs) rest.0 ∙ sym y.1.1.1.1.1, rest.1)
 
-pub IsScriptRun-from : (A : Type 0) (n : Notation A) (db : Database) (input : List ℕ) (told : List (Option Verdict)) (text : List ℕ) (s' : Database)
+pub IsScriptRun-from : (A : Type 0) (n : Notation A) (db : Database) (input : List ℕ) (told : List (Option ImageVerdict)) (text : List ℕ) (s' : Database)
     → RunsScript A n db input told text s' → IsScriptRun A n db input text s'
 IsScriptRun-from A n db input told text s' runs = record {
   told = told;

@@ -2,7 +2,7 @@
 use Rattle.std.proofs.Common.{◌≡◌, ◌∙◌, ℕ, zero, suc, ◌+◌, ◌-◌, ◌*◌, ◌%◌, ◌^◌, ◌<◌, ◌≤◌, List, [], ◌∷◌, ◌++◌, Bool, true, false, cond, length, map, replicate, refl, sym, ap, subst, arith}
 use Rattle.std.specs.Prelude.{bit_or, nat_lt, ◌&&◌}
 use Rattle.std.specs.Simd.Lanes.{Each1, zip2, sel_l, mask_l, pick_l, top}
-use Rattle.dbm_script.specs.Digits.{is_same, joined, lane_passes, lane_value, value_read}
+use Rattle.dbm_script.specs.Digits.{is_same, joined_digits, lane_passes, lane_value, value_read}
 use Rattle.hex.specs.Hex.{hex_digit_value}
 use Rattle.std.proofs.lemmas.Bool.{and_parts}
 use Rattle.std.proofs.lemmas.Simd.{mask_l-mod}
@@ -61,14 +61,14 @@ of_all (suc n) P holds (x ∷ xs) long = of_all n (λ more. P (x ∷ more)) (hol
 -- the even lanes times 16, plus the odd lanes
 pub paired : (v : List ℕ) → length v ≡ 16
     → zip2 (λ a b. (a + b) % 256) (zip2 (λ a b. a * b % 256) (pick_l 0 (v ++ v) (0 ∷ 2 ∷ 4 ∷ 6 ∷ 8 ∷ 10 ∷ 12 ∷ 14 ∷ [])) (replicate 8 16)) (pick_l 0 (v ++ v) (1 ∷ 3 ∷ 5 ∷ 7 ∷ 9 ∷ 11 ∷ 13 ∷ 15 ∷ []))
-    ≡ joined v
+    ≡ joined_digits v
 paired v long =
     of_all 16
-    (λ w. zip2 (λ a b. (a + b) % 256) (zip2 (λ a b. a * b % 256) (pick_l 0 (w ++ w) (0 ∷ 2 ∷ 4 ∷ 6 ∷ 8 ∷ 10 ∷ 12 ∷ 14 ∷ [])) (replicate 8 16)) (pick_l 0 (w ++ w) (1 ∷ 3 ∷ 5 ∷ 7 ∷ 9 ∷ 11 ∷ 13 ∷ 15 ∷ [])) ≡ joined w)
+    (λ w. zip2 (λ a b. (a + b) % 256) (zip2 (λ a b. a * b % 256) (pick_l 0 (w ++ w) (0 ∷ 2 ∷ 4 ∷ 6 ∷ 8 ∷ 10 ∷ 12 ∷ 14 ∷ [])) (replicate 8 16)) (pick_l 0 (w ++ w) (1 ∷ 3 ∷ 5 ∷ 7 ∷ 9 ∷ 11 ∷ 13 ∷ 15 ∷ [])) ≡ joined_digits w)
     (λ a b c d e f g h i j k l m n o p. refl) v long
 
-pub length-joined : (v : List ℕ) → length v ≡ 16 → length (joined v) ≡ 8
-length-joined v long = of_all 16 (λ w. length (joined w) ≡ 8) (λ a b c d e f g h i j k l m n o p. refl) v long
+pub length-joined : (v : List ℕ) → length v ≡ 16 → length (joined_digits v) ≡ 8
+length-joined v long = of_all 16 (λ w. length (joined_digits w) ≡ 8) (λ a b c d e f g h i j k l m n o p. refl) v long
 
 -- ---- which lanes are above 15
 

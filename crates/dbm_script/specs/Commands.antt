@@ -5,7 +5,7 @@ use Rattle.sdbm_addr.specs.declared.Mode.{Mode}
 use Rattle.sdbm_addr.specs.declared.Mode.TheVariants.{Insert, Replace}
 use Rattle.store_cmd.specs.declared.Command.{Command}
 use Rattle.store_cmd.specs.declared.Command.TheVariants.{Fetch, Store, Delete, Count}
-use Rattle.dbm_script.specs.Notation.{bytes_of}
+use Rattle.dbm_script.specs.Notation.{bytes_of_word}
 use Rattle.dbm_script.specs.declared.notations.Notation.{Notation}
 
 abbrev pub fetch_of : {A : Type 0} → Option (List ℕ) → Option (Command A)
@@ -22,13 +22,13 @@ store_of (Some key) None mode = None
 store_of (Some key) (Some value) mode = Some (Store key value mode)
 
 -- the command that words describe: a name and its arguments
-abbrev pub command_of : {A : Type 0} → Notation A → List (List ℕ) → Option (Command A)
-command_of notation [] = None
-command_of notation (word ∷ []) = cond (bytes_eq word (codes "count")) (Some Count) None
-command_of notation (word ∷ key ∷ []) =
-    cond (bytes_eq word (codes "fetch")) (fetch_of (bytes_of notation key))
-    (cond (bytes_eq word (codes "delete")) (delete_of (bytes_of notation key)) None)
-command_of notation (word ∷ key ∷ value ∷ []) =
-    cond (bytes_eq word (codes "insert")) (store_of (bytes_of notation key) (bytes_of notation value) Insert)
-    (cond (bytes_eq word (codes "replace")) (store_of (bytes_of notation key) (bytes_of notation value) Replace) None)
-command_of notation (word ∷ key ∷ value ∷ other ∷ others) = None
+abbrev pub command_of_words : {A : Type 0} → Notation A → List (List ℕ) → Option (Command A)
+command_of_words notation [] = None
+command_of_words notation (word ∷ []) = cond (bytes_eq word (codes "count")) (Some Count) None
+command_of_words notation (word ∷ key ∷ []) =
+    cond (bytes_eq word (codes "fetch")) (fetch_of (bytes_of_word notation key))
+    (cond (bytes_eq word (codes "delete")) (delete_of (bytes_of_word notation key)) None)
+command_of_words notation (word ∷ key ∷ value ∷ []) =
+    cond (bytes_eq word (codes "insert")) (store_of (bytes_of_word notation key) (bytes_of_word notation value) Insert)
+    (cond (bytes_eq word (codes "replace")) (store_of (bytes_of_word notation key) (bytes_of_word notation value) Replace) None)
+command_of_words notation (word ∷ key ∷ value ∷ other ∷ others) = None

@@ -35,7 +35,7 @@ abbrev pub lane_value : ℕ → ℕ
 lane_value c = cond (lane_passes (nat_lt (behind_zero c) 10)) (behind_zero c) (cond (lane_passes (nat_lt (behind_a c) 6)) ((behind_a c + 10) % 256) 255)
 
 -- joins the values of pairs of digits to bytes
-abbrev pub joined : List ℕ → List ℕ
-joined [] = []
-joined (v ∷ []) = []
-joined (high ∷ low ∷ rest) = (high * 16 % 256 + low) % 256 ∷ joined rest
+abbrev pub joined_digits : List ℕ → List ℕ
+joined_digits [] = []
+joined_digits (v ∷ []) = []
+joined_digits (high ∷ low ∷ rest) = (high * 16 % 256 + low) % 256 ∷ joined_digits rest

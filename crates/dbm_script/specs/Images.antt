@@ -9,8 +9,8 @@ use Rattle.prog_registry.specs.declared.fault.RegFault.{RegFault}
 use Rattle.prog_registry.specs.declared.fault.RegFault.TheVariants.{NoMemory, Decode, Verify, Full}
 
 -- the verdict on an image: its accepted program, or the reason for the refusal
-abbrev pub Verdict : Type 0
-Verdict = Result Accepted RegFault
+abbrev pub ImageVerdict : Type 0
+ImageVerdict = Result Accepted RegFault
 
 -- The program is already in the list, at exactly one place, and its number is that place. Nothing changes.
 pub record IsThere (programs : List Accepted) (image : List ℕ) (p : Accepted) (id : ℕ) (programs' : List Accepted) : Type 0 where
@@ -38,7 +38,7 @@ Denies programs image (Verify fault) = IsJudged image fault
 Denies programs image Full = IsAccepted image × (length programs ≡ program_limit)
 
 -- The answer to a line that submits an image, by the verdict on the image, and the list of programs after it.
-abbrev pub AnswersImage : List Accepted → List ℕ → Verdict → List ℕ → List Accepted → Type 0
+abbrev pub AnswersImage : List Accepted → List ℕ → ImageVerdict → List ℕ → List Accepted → Type 0
 AnswersImage programs image (Ok p) text programs' =
     (id : ℕ) × (Numbers programs image p id programs' × (text ≡ codes "program " ++ decimal id))
 AnswersImage programs image (Err fault) text programs' =

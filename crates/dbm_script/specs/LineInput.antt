@@ -14,12 +14,12 @@ abbrev pub lines_left : Unread → Option (List ℕ) → Option (List (List ℕ)
 lines_left unread known = cond unread.ended (Some []) (option_map (λ more. pieces_of 10 (unread.rest ++ more)) known)
 
 -- returns the next line, if any is left
-abbrev pub Gives : Option (List (List ℕ)) → Bool → List ℕ → Option (List (List ℕ)) → Type 0
-Gives None found line new = ⊤
-Gives (Some []) true line new = ⊥
-Gives (Some []) false line new = new ≡ Some []
-Gives (Some (l ∷ ls)) true line new = (line ≡ l) × (new ≡ Some ls)
-Gives (Some (l ∷ ls)) false line new = ⊥
+abbrev pub GivesNextLine : Option (List (List ℕ)) → Bool → List ℕ → Option (List (List ℕ)) → Type 0
+GivesNextLine None found line new = ⊤
+GivesNextLine (Some []) true line new = ⊥
+GivesNextLine (Some []) false line new = new ≡ Some []
+GivesNextLine (Some (l ∷ ls)) true line new = (line ≡ l) × (new ≡ Some ls)
+GivesNextLine (Some (l ∷ ls)) false line new = ⊥
 
 -- returns the next line that ends with LF, or else the bytes after the last LF
 abbrev pub GivesEnded : Option (List (List ℕ)) → Bool → List ℕ → Option (List (List ℕ)) → Type 0

@@ -21,10 +21,10 @@ hex_bytes [] = None
 hex_bytes (c ∷ cs) = cond (bytes_eq (c ∷ cs) (codes ".")) (Some []) (result_ok (decode_of (c ∷ cs)))
 
 -- the bytes of a word
-abbrev pub bytes_of : {A : Type 0} → Notation A → List ℕ → Option (List ℕ)
-bytes_of Hex text = hex_bytes text
-bytes_of Text text = bytes_of_text text
-bytes_of (Layout kinds) text = bytes_of_text text
+abbrev pub bytes_of_word : {A : Type 0} → Notation A → List ℕ → Option (List ℕ)
+bytes_of_word Hex text = hex_bytes text
+bytes_of_word Text text = bytes_of_text text
+bytes_of_word (Layout kinds) text = bytes_of_text text
 
 -- ---- answers
 

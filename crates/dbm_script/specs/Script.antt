@@ -7,7 +7,7 @@ use Rattle.store_cmd.specs.declared.Command.TheVariants as commands
 use Rattle.dbm_script.specs.Pieces.{pieces_of}
 use Rattle.dbm_script.specs.Lines.{ask_of}
 use Rattle.dbm_script.specs.declared.notations.Notation.{Notation}
-use Rattle.dbm_script.specs.Images.{Verdict, AnswersImage}
+use Rattle.dbm_script.specs.Images.{ImageVerdict, AnswersImage}
 use Rattle.dbm_script.specs.Answers.{IsAnswerTo, answer_text}
 use Rattle.dbm_script.specs.declared.answers.Answer.{Answer}
 use Rattle.dbm_script.specs.declared.lines.Ask.{Ask}
@@ -38,7 +38,7 @@ AnswersRun A notation db (Some command) text db' = AnswersCommand A notation db 
 
 -- The effect of one line, and the text of its answer. They follow from the request in the line and from the verdict on the program image,
 -- if the line submits one. A bad line changes nothing.
-abbrev pub AnswersLine : (A : Type 0) → Notation A → Stage → Option (Ask A) → Option Verdict → List ℕ → Stage → Type 0
+abbrev pub AnswersLine : (A : Type 0) → Notation A → Stage → Option (Ask A) → Option ImageVerdict → List ℕ → Stage → Type 0
 AnswersLine A notation s None told text s' = (told ≡ None) × ((text ≡ codes "bad line") × (s' ≡ s))
 AnswersLine A notation s (Some (Plain command)) told text s' =
     (told ≡ None) × ((s'.programs ≡ s.programs) × AnswersCommand A notation s.db command text s'.db)
@@ -50,7 +50,7 @@ AnswersLine A notation s (Some (Program image)) (Some verdict) text s' =
 
 -- The effect of lines in order, and the text of their answers, with a verdict for each line that is not empty. An empty line has no answer;
 -- the answer to any other line ends with LF.
-abbrev pub RunsLines : (A : Type 0) → Notation A → Stage → List (List ℕ) → List (Option Verdict) → List ℕ → Stage → Type 0
+abbrev pub RunsLines : (A : Type 0) → Notation A → Stage → List (List ℕ) → List (Option ImageVerdict) → List ℕ → Stage → Type 0
 RunsLines A notation s [] [] text s' = (text ≡ []) × (s' ≡ s)
 RunsLines A notation s [] (verdict ∷ told) text s' = ⊥
 RunsLines A notation s ([] ∷ lines) told text s' = RunsLines A notation s lines told text s'
@@ -59,14 +59,14 @@ RunsLines A notation s ((c ∷ cs) ∷ lines) (verdict ∷ told) text s' =
     (first : List ℕ) × ((rest : List ℕ) × ((mid : Stage) × (AnswersLine A notation s (ask_of notation (pieces_of 32 (c ∷ cs))) verdict first mid × (RunsLines A notation mid lines told rest s' × (text ≡ first ++ 10 ∷ rest)))))
 
 -- a script on a database, starting without programs; its lines end with LF, which the last line may lack
-abbrev pub RunsScript : (A : Type 0) → Notation A → Database → List ℕ → List (Option Verdict) → List ℕ → Database → Type 0
+abbrev pub RunsScript : (A : Type 0) → Notation A → Database → List ℕ → List (Option ImageVerdict) → List ℕ → Database → Type 0
 RunsScript A notation db input told text db' =
     (programs : List Accepted) × RunsLines A notation (stage db []) (pieces_of 10 input) told text (stage db' programs)
 
 -- A script writes this text and leads to this database, page by page. Given the verdicts on the program images in its lines, the text and
 -- the database are unique.
 pub record IsScriptRun (A : Type 0) (notation : Notation A) (db : Database) (input text : List ℕ) (db' : Database) : Type 0 where
-  pub told : List (Option Verdict)
+  pub told : List (Option ImageVerdict)
   pub runs : RunsScript A notation db input told text db'
   pub only : (other : List ℕ) (d : Database) → RunsScript A notation db input told other d → (other ≡ text) × (d ≡ db')
 
@@ -75,14 +75,14 @@ pub record AnswersExceed (A : Type 0) (notation : Notation A) (db : Database) (i
   pub first : List (List ℕ)
   pub others : List (List ℕ)
   pub lines : first ++ others ≡ pieces_of 10 input
-  pub told : List (Option Verdict)
+  pub told : List (Option ImageVerdict)
   pub text : List ℕ
   pub after : Stage
   pub ran : RunsLines A notation (stage db []) first told text after
   pub long : most < length text
 
 -- new is old followed by bytes that satisfy P
-pub record Adds (old new : List ℕ) (P : List ℕ → Type 0) : Type 0 where
+pub record AddsBytes (old new : List ℕ) (P : List ℕ → Type 0) : Type 0 where
   pub added : List ℕ
   pub is : new ≡ old ++ added
   pub holds : P added

@@ -38,5 +38,5 @@ spelled_line lines time line =
     (cond (ends_with nat_eq line (13 ∷ [])) (13 ∷ []) (in_full lines time line))
 
 -- a text with its shorthand expanded, line by line
-abbrev pub spelled : LineKind → Option TimeOfDay → List ℕ → List ℕ
-spelled lines time text = join_with_byte 10 (map (spelled_line lines time) (pieces_of 10 text))
+abbrev pub spelled_text : LineKind → Option TimeOfDay → List ℕ → List ℕ
+spelled_text lines time text = join_with_byte 10 (map (spelled_line lines time) (pieces_of 10 text))

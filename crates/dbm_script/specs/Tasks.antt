@@ -1,7 +1,7 @@
 -- Tasks: lines that describe runs of one given program.
 use Rattle.std.specs.Prelude.{◌≡◌, ◌⊎◌, ◌+◌, ◌++◌, ℕ, Bool, true, false, cond, List, [], ◌∷◌, length, Option, Some, None, IsSome, ⊤}
 use Rattle.dbm_script.specs.Pieces.{pieces_of}
-use Rattle.dbm_script.specs.Notation.{bytes_of, reads_hex}
+use Rattle.dbm_script.specs.Notation.{bytes_of_word, reads_hex}
 use Rattle.dbm_script.specs.declared.notations.Notation.{Notation}
 use Rattle.dbm_script.specs.Numbers.{number_of, blank_of}
 use Rattle.dbm_script.specs.declared.run_words.RunWords.{RunWords}
@@ -19,16 +19,16 @@ all_words (Some key) (Some arg) (Some blank) (Some now) = Some (record { key = k
 
 -- the meaning of the words of a run: bytes of a key and an argument, a blank and a time
 abbrev pub run_words_of : {A : Type 0} → Notation A → List ℕ → List ℕ → List ℕ → List ℕ → Option (RunWords A)
-run_words_of notation key arg blank now = all_words (bytes_of notation key) (bytes_of notation arg) (blank_of blank) (number_of 18446744073709551615 now)
+run_words_of notation key arg blank now = all_words (bytes_of_word notation key) (bytes_of_word notation arg) (blank_of blank) (number_of 18446744073709551615 now)
 
 -- the key or the argument is invalid
 abbrev pub HasBadBytes : {A : Type 0} → Notation A → List ℕ → List ℕ → Type 0
-HasBadBytes notation key arg = (bytes_of notation key ≡ None) ⊎ (bytes_of notation arg ≡ None)
+HasBadBytes notation key arg = (bytes_of_word notation key ≡ None) ⊎ (bytes_of_word notation arg ≡ None)
 
 -- the key and the argument are valid, and the blank or the time is invalid
 abbrev pub HasBadNumber : {A : Type 0} → Notation A → List ℕ → List ℕ → List ℕ → List ℕ → Type 0
 HasBadNumber notation key arg blank now =
-    IsSome (bytes_of notation key) × (IsSome (bytes_of notation arg) × ((blank_of blank ≡ None) ⊎ (number_of 18446744073709551615 now ≡ None)))
+    IsSome (bytes_of_word notation key) × (IsSome (bytes_of_word notation arg) × ((blank_of blank ≡ None) ⊎ (number_of 18446744073709551615 now ≡ None)))
 
 -- the fault for invalid bytes
 abbrev pub bad_bytes : {A : Type 0} → Notation A → WordFault

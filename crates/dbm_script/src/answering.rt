@@ -1,7 +1,7 @@
 //! Answers one command.
 ghost use Rattle.std.specs.Prelude.{◌≡◌, ◌<◌, IfOk, OnOk, OnErr};
 ghost use Rattle.dbm_script.specs.Answers.{IsAnswerTo};
-ghost use Rattle.dbm_script.specs.Script.{AnswersCommand, Adds};
+ghost use Rattle.dbm_script.specs.Script.{AnswersCommand, AddsBytes};
 
 use crate::answers::{Answer, show_answer};
 use crate::notations::Notation;
@@ -21,7 +21,7 @@ pub(crate) fn answer_one<A: Allocator + Copy>(
     command: Command<A>,
     text: &mut Vec<u8, A>,
 ) -> Result<(), AllocError>
-    ensures answer { OnOk result (Adds text.old.items text.new.items (λ added. AnswersCommand A notation.now image.old command added image.new)) }
+    ensures answer { OnOk result (AddsBytes text.old.items text.new.items (λ added. AnswersCommand A notation.now image.old command added image.new)) }
     ensures kept { OnOk result ((image.new.kind ≡ image.old.kind) × (image.new.size ≡ image.old.size)) }
 {
     let answer = answer_command(alloc, image, command)?;

@@ -1,7 +1,7 @@
 //! Reads commands from the words of a line or of a command line.
 ghost use Rattle.std.specs.Prelude.{◌≡◌, ◌∷◌, map, IfOk};
-ghost use Rattle.dbm_script.specs.Commands.{fetch_of, delete_of, store_of, command_of};
-ghost use Rattle.dbm_script.specs.Notation.{bytes_of};
+ghost use Rattle.dbm_script.specs.Commands.{fetch_of, delete_of, store_of, command_of_words};
+ghost use Rattle.dbm_script.specs.Notation.{bytes_of_word};
 
 use crate::notations::{Notation, read_bytes};
 use sdbm_addr::Mode;
@@ -18,7 +18,7 @@ pub fn read_command<A: Allocator + Copy>(
     name: &[u8],
     args: &[&[u8]],
 ) -> Result<Option<Command<A>>, AllocError>
-    ensures { IfOk result (λ command. command ≡ command_of notation.now (name.now ∷ map (λ x. x.now) args.now)) }
+    ensures { IfOk result (λ command. command ≡ command_of_words notation.now (name.now ∷ map (λ x. x.now) args.now)) }
 {
     match args {
         [] => {
@@ -55,7 +55,7 @@ fn read_fetch<A: Allocator + Copy>(
     notation: &Notation<A>,
     key: &[u8],
 ) -> Result<Option<Command<A>>, AllocError>
-    ensures { IfOk result (λ command. command ≡ fetch_of (bytes_of notation.now key.now)) }
+    ensures { IfOk result (λ command. command ≡ fetch_of (bytes_of_word notation.now key.now)) }
 {
     match read_bytes(alloc, notation, key)? {
         Some(key) => Ok(Some(Command::Fetch { key })),
@@ -68,7 +68,7 @@ fn read_delete<A: Allocator + Copy>(
     notation: &Notation<A>,
     key: &[u8],
 ) -> Result<Option<Command<A>>, AllocError>
-    ensures { IfOk result (λ command. command ≡ delete_of (bytes_of notation.now key.now)) }
+    ensures { IfOk result (λ command. command ≡ delete_of (bytes_of_word notation.now key.now)) }
 {
     match read_bytes(alloc, notation, key)? {
         Some(key) => Ok(Some(Command::Delete { key })),
@@ -83,7 +83,7 @@ fn read_store<A: Allocator + Copy>(
     value: &[u8],
     mode: Mode,
 ) -> Result<Option<Command<A>>, AllocError>
-    ensures { IfOk result (λ command. command ≡ store_of (bytes_of notation.now key.now) (bytes_of notation.now value.now) mode) }
+    ensures { IfOk result (λ command. command ≡ store_of (bytes_of_word notation.now key.now) (bytes_of_word notation.now value.now) mode) }
 {
     let Some(key) = read_bytes(alloc, notation, key)? else {
         return Ok(None);

@@ -1,7 +1,7 @@
 //! Decodes hex sixteen digits at once or by a table, and encodes it by tables.
 ghost use Rattle.std.specs.Prelude.{◌≡◌, ◌+◌, ◌*◌, ◌≤◌, ◌++◌, IfOk, OnOk, true, false, Ok, None, length, map, ℕ, Vec, vec_len, vec_capacity};
 ghost use Rattle.std.specs.Option.{option_map};
-ghost use Rattle.dbm_script.specs.Digits.{are_values, joined, lane_value, value_read};
+ghost use Rattle.dbm_script.specs.Digits.{are_values, joined_digits, lane_value, value_read};
 ghost use Rattle.std.specs.Result.{result_ok};
 ghost use Rattle.hex.specs.Hex.{decode_of, decode_pairs, encode_lower, encode_with, hex_digit_value};
 
@@ -84,7 +84,7 @@ fn values(text: u8x16) -> u8x16
 // Joins the values of sixteen digits to eight bytes.
 #[inline(always)]
 fn pairs(digits: u8x16) -> u8x8
-    ensures { result ≡ joined digits }
+    ensures { result ≡ joined_digits digits }
 {
     let high: u8x8 = digits.swizzle([0, 2, 4, 6, 8, 10, 12, 14]);
     let low: u8x8 = digits.swizzle([1, 3, 5, 7, 9, 11, 13, 15]);

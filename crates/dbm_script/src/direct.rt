@@ -4,7 +4,7 @@ ghost use Rattle.bpf_verify.specs.Verified.{Accepted};
 ghost use Rattle.dbm_script.specs.Direct.{IfAnswered, IfDone, store_name};
 ghost use Rattle.dbm_script.specs.Notation.{hex_bytes, reads_hex};
 ghost use Rattle.dbm_script.specs.Pieces.{pieces_of};
-ghost use Rattle.dbm_script.specs.Script.{Adds, AnswersCommand};
+ghost use Rattle.dbm_script.specs.Script.{AddsBytes, AnswersCommand};
 ghost use Rattle.store_cmd.specs.declared.Command.TheVariants.{Fetch, Store};
 ghost use Rattle.store_moves.specs.Rewrites.{command_of};
 ghost use Rattle.dbm_script.specs.declared.notations.Notation.{Notation};
@@ -108,7 +108,7 @@ fn answer_fetch<A: Allocator + Copy>(
     key: &[u8],
     text: &mut Vec<u8, A>,
 ) -> Result<(), AllocError>
-    ensures { OnOk result (Adds text.old.items text.new.items (λ added. AnswersCommand A notation.now image.now (Fetch key.now) added image.now)) }
+    ensures { OnOk result (AddsBytes text.old.items text.new.items (λ added. AnswersCommand A notation.now image.now (Fetch key.now) added image.now)) }
 {
     let place = image.place(key);
     let Some(shared) = image.page(place.page) else {

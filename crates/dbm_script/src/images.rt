@@ -2,8 +2,8 @@
 ghost use Rattle.std.specs.Prelude.{◌≡◌, ◌≢◌, ◌++◌, ℕ, OnOk, Option, Some, codes, decimal};
 ghost use Rattle.prog_registry.specs.FaultText.{fault_text};
 ghost use Rattle.prog_registry.specs.declared.fault.RegFault.TheVariants.{NoMemory};
-ghost use Rattle.dbm_script.specs.Images.{Verdict, AnswersImage};
-ghost use Rattle.dbm_script.specs.Script.{Adds};
+ghost use Rattle.dbm_script.specs.Images.{ImageVerdict, AnswersImage};
+ghost use Rattle.dbm_script.specs.Script.{AddsBytes};
 
 use itoa::Buffer;
 use prog_registry::{RegFault, Registry};
@@ -19,8 +19,8 @@ pub fn answer_image<A: Allocator + Copy>(
     image: &[u8],
     text: &mut Vec<u8, A>,
 ) -> Result<(), AllocError>
-    ensures { OnOk result (Adds text.old.items text.new.items (λ added.
-        (told : Verdict) × AnswersImage registry.old.programs image.now told added registry.new.programs)) }
+    ensures { OnOk result (AddsBytes text.old.items text.new.items (λ added.
+        (told : ImageVerdict) × AnswersImage registry.old.programs image.now told added registry.new.programs)) }
 {
     match registry.submit(image) {
         Ok(id) => show_number(id.0, text),

@@ -1,7 +1,7 @@
 //! Splits the bytes of a reader into lines. Memory holds one line and a buffer.
 ghost use Rattle.std.specs.Prelude.{◌≡◌, ◌≤◌, [], false, vec_len, IfOk, IsErrOf};
 ghost use Rattle.std.specs.Io.KnownBytes.{Consumes};
-ghost use Rattle.dbm_script.specs.LineInput.{Gives, GivesEnded, IsLongNext, Refills, TakesPiece, lines_left};
+ghost use Rattle.dbm_script.specs.LineInput.{GivesNextLine, GivesEnded, IsLongNext, Refills, TakesPiece, lines_left};
 ghost use Rattle.dbm_script.specs.declared.line_reader.LineFault.TheVariants.{NoMemory};
 
 use memchr::memchr;
@@ -78,7 +78,7 @@ impl LineReader {
         line: &mut Vec<u8>,
         most: usize,
     ) -> Result<bool, LineFault>
-        ensures given { IfOk result (λ found. Gives (lines_left self.old (R.remaining reader.old)) found line.new.items (lines_left self.new (R.remaining reader.new))) }
+        ensures given { IfOk result (λ found. GivesNextLine (lines_left self.old (R.remaining reader.old)) found line.new.items (lines_left self.new (R.remaining reader.new))) }
         ensures long { IsErrOf result LineFault.TooLong → IsLongNext most (lines_left self.old (R.remaining reader.old)) }
     {
         line.clear();

@@ -1,10 +1,10 @@
 //! Reads requests from the lines of a script.
 ghost use Rattle.std.specs.Prelude.{◌≡◌, ◌∷◌, [], map, IfOk};
 ghost use Rattle.dbm_script.specs.Pieces.{pieces_of};
-ghost use Rattle.dbm_script.specs.Commands.{command_of};
-ghost use Rattle.dbm_script.specs.Notation.{bytes_of, hex_bytes};
+ghost use Rattle.dbm_script.specs.Commands.{command_of_words};
+ghost use Rattle.dbm_script.specs.Notation.{bytes_of_word, hex_bytes};
 ghost use Rattle.dbm_script.specs.Numbers.{number_of, blank_of};
-ghost use Rattle.dbm_script.specs.Lines.{plain, program_of, run_of, ask_of};
+ghost use Rattle.dbm_script.specs.Lines.{plain, program_of, ask_of_run, ask_of};
 
 use crate::commands::read_command;
 use crate::notations::{Notation, read_hex};
@@ -108,7 +108,7 @@ fn read_run<A: Allocator + Copy>(
     blank: &[u8],
     now: &[u8],
 ) -> Result<Option<Ask<A>>, AllocError>
-    ensures { IfOk result (λ ask. ask ≡ run_of (bytes_of notation.now key.now) (number_of 4294967295 prog.now) (bytes_of notation.now arg.now) (blank_of blank.now) (number_of 18446744073709551615 now.now)) }
+    ensures { IfOk result (λ ask. ask ≡ ask_of_run (bytes_of_word notation.now key.now) (number_of 4294967295 prog.now) (bytes_of_word notation.now arg.now) (blank_of blank.now) (number_of 18446744073709551615 now.now)) }
 {
     let Some(prog) = read_prog(prog) else {
         return Ok(None);
@@ -166,7 +166,7 @@ fn read_plain<A: Allocator + Copy>(
     name: &[u8],
     args: &[&[u8]],
 ) -> Result<Option<Ask<A>>, AllocError>
-    ensures { IfOk result (λ ask. ask ≡ plain (command_of notation.now (name.now ∷ map (λ x. x.now) args.now))) }
+    ensures { IfOk result (λ ask. ask ≡ plain (command_of_words notation.now (name.now ∷ map (λ x. x.now) args.now))) }
 {
     match read_command(alloc, notation, name, args)? {
         Some(command) => Ok(Some(Ask::Plain(command))),

@@ -1,6 +1,6 @@
 //! Notations: how words and answers represent bytes.
 ghost use Rattle.std.specs.Prelude.{◌≡◌, ◌++◌, IfOk, OnOk};
-ghost use Rattle.dbm_script.specs.Notation.{bytes_of, hex_bytes, hex_shown, reads_hex, shown, value_shown};
+ghost use Rattle.dbm_script.specs.Notation.{bytes_of_word, hex_bytes, hex_shown, reads_hex, shown, value_shown};
 
 use crate::digits::{decode, encode};
 use byte_text::{Layout, read_text, show_by, show_text};
@@ -39,7 +39,7 @@ pub fn read_bytes<A: Allocator + Copy>(
     notation: &Notation<A>,
     text: &[u8],
 ) -> Result<Option<Bytes<A>>, AllocError>
-    ensures { IfOk result (λ bytes. bytes ≡ bytes_of notation.now text.now) }
+    ensures { IfOk result (λ bytes. bytes ≡ bytes_of_word notation.now text.now) }
 {
     match notation {
         Notation::Hex => read_hex(alloc, text),

@@ -1,6 +1,6 @@
 //! Lines that run programs.
 ghost use Rattle.std.specs.Prelude.{◌≡◌, IfOk, OnOk, option_map, slice_get};
-ghost use Rattle.dbm_script.specs.Script.{Adds, AnswersRun, run_command};
+ghost use Rattle.dbm_script.specs.Script.{AddsBytes, AnswersRun, run_command};
 
 use crate::answering::answer_one;
 use crate::notations::Notation;
@@ -34,7 +34,7 @@ pub fn answer_run<A: Allocator + Copy>(
     run: RunAsk<A>,
     text: &mut Vec<u8, A>,
 ) -> Result<(), AllocError>
-    ensures answer { OnOk result (Adds text.old.items text.new.items (λ added.
+    ensures answer { OnOk result (AddsBytes text.old.items text.new.items (λ added.
         AnswersRun A notation.now image.old (run_command registry.now.programs run.key run.prog run.arg run.blank run.now) added image.new)) }
     ensures kept { OnOk result ((image.new.kind ≡ image.old.kind) × (image.new.size ≡ image.old.size)) }
 {

@@ -5,9 +5,9 @@ ghost use Rattle.byte_text.specs.Writing.{WritesPart};
 ghost use Rattle.sdbm_addr.specs.Database.{Database};
 ghost use Rattle.dbm_script.specs.Pieces.{pieces_of};
 ghost use Rattle.dbm_script.specs.Lines.{ask_of};
-ghost use Rattle.dbm_script.specs.Shorthand.{spelled};
-ghost use Rattle.dbm_script.specs.Images.{Verdict};
-ghost use Rattle.dbm_script.specs.Script.{AnswersExceed, IsScriptRun, RunsLines, AnswersLine, Adds, stage};
+ghost use Rattle.dbm_script.specs.Shorthand.{spelled_text};
+ghost use Rattle.dbm_script.specs.Images.{ImageVerdict};
+ghost use Rattle.dbm_script.specs.Script.{AnswersExceed, IsScriptRun, RunsLines, AnswersLine, AddsBytes, stage};
 
 use crate::answering::answer_one;
 use crate::bad_lines::{BadLines, LineCount};
@@ -110,9 +110,9 @@ pub fn run_spelled<A: Allocator + Copy>(
     input: &[u8],
     most: u64,
 ) -> Result<ScriptRun<A>, LinesFault>
-    ensures runs { IfOk result (λ run. IsScriptRun A notation.now image (spelled LineKind.OfScript time input.now) run.text.items run.image) }
+    ensures runs { IfOk result (λ run. IsScriptRun A notation.now image (spelled_text LineKind.OfScript time input.now) run.text.items run.image) }
     ensures short { IfOk result (λ run. length run.text.items ≤ most) }
-    ensures long { IsErrOf result LinesFault.OutputTooLong → AnswersExceed A notation.now image (spelled LineKind.OfScript time input.now) most }
+    ensures long { IsErrOf result LinesFault.OutputTooLong → AnswersExceed A notation.now image (spelled_text LineKind.OfScript time input.now) most }
     ensures kept { IfOk result (λ run. (run.image.kind ≡ image.kind) × (run.image.size ≡ image.size)) }
 {
     let mut image = image;
@@ -159,7 +159,7 @@ pub fn answer_line<A: Allocator + Copy>(
     line: &[u8],
     text: &mut Vec<u8, A>,
 ) -> Result<bool, AllocError>
-    ensures answer { OnOk result (Adds text.old.items text.new.items (λ added. (told : List (Option Verdict)) ×
+    ensures answer { OnOk result (AddsBytes text.old.items text.new.items (λ added. (told : List (Option ImageVerdict)) ×
         RunsLines A notation.now (stage image.old registry.old.programs) (line.now ∷ []) told added (stage image.new registry.new.programs))) }
     ensures kept { OnOk result ((image.new.kind ≡ image.old.kind) × (image.new.size ≡ image.old.size)) }
 {
@@ -180,7 +180,7 @@ fn answer_words<A: Allocator + Copy>(
     line: &[u8],
     text: &mut Vec<u8, A>,
 ) -> Result<bool, AllocError>
-    ensures answer { OnOk result (Adds text.old.items text.new.items (λ added. (told : Option Verdict) ×
+    ensures answer { OnOk result (AddsBytes text.old.items text.new.items (λ added. (told : Option ImageVerdict) ×
         AnswersLine A notation.now (stage image.old registry.old.programs) (ask_of notation.now (pieces_of 32 line.now)) told added (stage image.new registry.new.programs))) }
     ensures kept { OnOk result ((image.new.kind ≡ image.old.kind) × (image.new.size ≡ image.old.size)) }
 {
@@ -208,7 +208,7 @@ fn answer_ask<A: Allocator + Copy>(
     ask: Ask<A>,
     text: &mut Vec<u8, A>,
 ) -> Result<(), AllocError>
-    ensures answer { OnOk result (Adds text.old.items text.new.items (λ added. (told : Option Verdict) ×
+    ensures answer { OnOk result (AddsBytes text.old.items text.new.items (λ added. (told : Option ImageVerdict) ×
         AnswersLine A notation.now (stage image.old registry.old.programs) (Some ask) told added (stage image.new registry.new.programs))) }
     ensures kept { OnOk result ((image.new.kind ≡ image.old.kind) × (image.new.size ≡ image.old.size)) }
 {

@@ -1,7 +1,7 @@
 //! Expands the shorthand in the lines of scripts and batches before they are read.
 ghost use Rattle.std.specs.Prelude.{◌≡◌, ◌++◌, IfOk, OnOk, decimal, map};
 ghost use Rattle.dbm_script.specs.Pieces.{pieces_of};
-ghost use Rattle.dbm_script.specs.Shorthand.{fully_named, in_full, is_comment, spelled, spelled_line, timed};
+ghost use Rattle.dbm_script.specs.Shorthand.{fully_named, in_full, is_comment, spelled_text, spelled_line, timed};
 
 use crate::pieces::first_piece;
 use itoa::Buffer;
@@ -35,7 +35,7 @@ pub fn spell_out<A: Allocator + Copy>(
     time: Option<TimeOfDay>,
     input: &[u8],
 ) -> Result<Vec<u8, A>, AllocError>
-    ensures value { IfOk result (λ text. text.items ≡ spelled lines time input.now) }
+    ensures value { IfOk result (λ text. text.items ≡ spelled_text lines time input.now) }
     ensures lines { IfOk result (λ text. pieces_of 10 text.items ≡ map (spelled_line lines time) (pieces_of 10 input.now)) }
 {
     let mut text = Vec::with_capacity(alloc, input.len())?;

@@ -6,7 +6,7 @@ use Rattle.std.proofs.Math.Seq.{take-append-add, take-length}
 use Rattle.std.specs.declared.alloc.Global.{Global}
 use Rattle.bpf_verify.specs.Verified.{Accepted}
 use Rattle.sdbm_addr.specs.Database.{Database}
-use Rattle.dbm_script.specs.Images.{Verdict}
+use Rattle.dbm_script.specs.Images.{ImageVerdict}
 use Rattle.std.specs.List.{All}
 use Rattle.std.proofs.lemmas.List.Elements.{All-head, All-tail}
 use Rattle.dbm_script.specs.Pieces.{pieces_of}
@@ -20,7 +20,7 @@ use Rattle.dbm_script.specs.LineInput.{GivesEnded, Unread, lines_left}
 use Rattle.dbm_script.proofs.CutTexts.{unread}
 use Rattle.dbm_script.proofs.LinesGiven.{known, some_pieces}
 use Rattle.dbm_session.specs.HostCalls.{DidSave, GaveTime, HostCall, Logs, saves_in, times_in}
-use Rattle.dbm_session.specs.Sessions.{Answered, AnsweredOwn, AnsweredTimed, AnswersAs, AnswersLine, AnswersThenSaves, AreSpelled, Ends, IsOfScript, MaySave, RunsAsScript, RunsSession, SavesAtMostOne, SavesMaybe, Stops, WritesSome, before_last, ended_lines, half_after, half_line, is_own, is_save, last_after, last_piece}
+use Rattle.dbm_session.specs.Sessions.{Answered, AnsweredOwn, AnsweredTimed, AnswersAs, AnswersSessionLine, AnswersThenSaves, AreLinesSpelled, SessionEnds, IsOfScript, MaySave, RunsAsScript, RunsSession, SavesAtMostOne, SavesMaybe, SessionStops, WritesSome, before_last, ended_lines, half_after, half_line, is_own, is_save, last_after, last_piece}
 
 -- ---- logs
 
@@ -105,7 +105,7 @@ ended_more (line ∷ lines) other others = before_more line lines other others
 
 -- running one more line
 RunsSession-append : (n : Notation Global) (s mid s' : Stage) (done : List (List ℕ)) (line text added : List ℕ) (calls more : List HostCall) → RunsSession n s done text calls mid
-    → AnswersLine n mid line added more s' → RunsSession n s (done ++ line ∷ []) (text ++ added) (calls ++ more) s'
+    → AnswersSessionLine n mid line added more s' → RunsSession n s (done ++ line ∷ []) (text ++ added) (calls ++ more) s'
 RunsSession-append n s mid s' [] line text added calls more r a =
     subst (λ (x : List ℕ). RunsSession n s (line ∷ []) (x ++ added) (calls ++ more) s') (sym r.0)
     (subst (λ (x : List HostCall). RunsSession n s (line ∷ []) added (x ++ more) s') (sym r.1.0)
@@ -203,7 +203,7 @@ all_done n db input count left old now a b s line left' p gives = p.lines ∙ ap
 
 ended : (n : Notation Global) (db : Database) (input : List ℕ) (count : ℕ) (left : Option (List (List ℕ))) (old now : Option (List ℕ)) (a b c : Option (List HostCall)) (image : Database) (programs : List Accepted)
     (line : List ℕ) (left' : Option (List (List ℕ))) (after : Database) → Progress n db input count left old now a b (stage image programs) → GivesEnded left false line left' → after ≡ image
-    → Logs b c (DidSave image ∷ []) → Ends n db (ended_lines (pieces_of 10 input)) old now a c after
+    → Logs b c (DidSave image ∷ []) → SessionEnds n db (ended_lines (pieces_of 10 input)) old now a c after
 ended n db input count left old now a b c image programs line left' after p gives is last =
     let lines : ended_lines (pieces_of 10 input) ≡ p.done
     = ap ended_lines (all_done n db input count left old now a b (stage image programs) line left' p gives) ∙ ended_appended p.done line in
@@ -226,7 +226,7 @@ half n db input count left old now a b s line left' p gives =
     ∙ ap half_line (sym all)
 
 stopped : (n : Notation Global) (db : Database) (input : List ℕ) (count : ℕ) (left : Option (List (List ℕ))) (old now : Option (List ℕ)) (a b c : Option (List HostCall)) (s : Stage)
-    → Progress n db input count left old now a b s → SavesAtMostOne b c → Stops n db (ended_lines (pieces_of 10 input)) old now a c
+    → Progress n db input count left old now a b s → SavesAtMostOne b c → SessionStops n db (ended_lines (pieces_of 10 input)) old now a c
 stopped n db input count left old now a b c s p maybe = record {
   done = p.done;
   behind = before_last p.first p.others;
@@ -244,7 +244,7 @@ stopped n db input count left old now a b c s p maybe = record {
 
 stopped_within : (n : Notation Global) (db : Database) (input : List ℕ) (count : ℕ) (left : Option (List (List ℕ))) (old now now' : Option (List ℕ)) (a b c : Option (List HostCall)) (s s' : Stage) (line added : List ℕ)
     (left' : Option (List (List ℕ))) → Progress n db input count left old now a b s → GivesEnded left true line left' → Answered n s line added b c s' → WritesSome now now' added
-    → Stops n db (ended_lines (pieces_of 10 input)) old now' a c
+    → SessionStops n db (ended_lines (pieces_of 10 input)) old now' a c
 stopped_within n db input count left old now now' a b c s s' line added left' p gives one writes =
     let next = next_ended p.first p.others line left' (given left p.first p.others true line left' p.left_is gives) in
     let lines : pieces_of 10 input ≡ (p.done ++ line ∷ []) ++ next.next ∷ next.behind
@@ -284,9 +284,9 @@ all_answered n db bytes count left old now now' a b c s s' line added left' all 
 
 pub all_ended : (n : Notation Global) (db : Database) (bytes : Option (List ℕ)) (count : ℕ) (left : Option (List (List ℕ))) (old now : Option (List ℕ)) (a b c : Option (List HostCall)) (image : Database)
     (programs : List Accepted) (line : List ℕ) (left' : Option (List (List ℕ))) (after : Database) → AllProgress n db bytes count left old now a b (stage image programs) → GivesEnded left false line left' → after ≡ image
-    → Logs b c (DidSave image ∷ []) → IfSome bytes (λ input. Ends n db (ended_lines (pieces_of 10 input)) old now a c after)
+    → Logs b c (DidSave image ∷ []) → IfSome bytes (λ input. SessionEnds n db (ended_lines (pieces_of 10 input)) old now a c after)
 all_ended n db bytes count left old now a b c image programs line left' after all gives is last =
-    known bytes (λ input. Progress n db input count left old now a b (stage image programs)) (λ input. Ends n db (ended_lines (pieces_of 10 input)) old now a c after)
+    known bytes (λ input. Progress n db input count left old now a b (stage image programs)) (λ input. SessionEnds n db (ended_lines (pieces_of 10 input)) old now a c after)
     (λ input p. ended n db input count left old now a b c image programs line left' after p gives is last) all
 
 pub all_half : (n : Notation Global) (db : Database) (bytes : Option (List ℕ)) (count : ℕ) (left : Option (List (List ℕ))) (old now : Option (List ℕ)) (a b : Option (List HostCall)) (s : Stage)
@@ -297,20 +297,20 @@ all_half n db bytes count left old now a b s line left' found all gives is =
     (λ input p. is ∙ half n db input count left old now a b s line left' p gives) all
 
 pub all_stopped : (n : Notation Global) (db : Database) (bytes : Option (List ℕ)) (count : ℕ) (left : Option (List (List ℕ))) (old now : Option (List ℕ)) (a b c : Option (List HostCall)) (s : Stage)
-    → AllProgress n db bytes count left old now a b s → SavesAtMostOne b c → IfSome bytes (λ input. Stops n db (ended_lines (pieces_of 10 input)) old now a c)
+    → AllProgress n db bytes count left old now a b s → SavesAtMostOne b c → IfSome bytes (λ input. SessionStops n db (ended_lines (pieces_of 10 input)) old now a c)
 all_stopped n db bytes count left old now a b c s all maybe =
-    known bytes (λ input. Progress n db input count left old now a b s) (λ input. Stops n db (ended_lines (pieces_of 10 input)) old now a c)
+    known bytes (λ input. Progress n db input count left old now a b s) (λ input. SessionStops n db (ended_lines (pieces_of 10 input)) old now a c)
     (λ input p. stopped n db input count left old now a b c s p maybe) all
 
 pub all_stopped_within : (n : Notation Global) (db : Database) (bytes : Option (List ℕ)) (count : ℕ) (left : Option (List (List ℕ))) (old now now' : Option (List ℕ)) (a b c : Option (List HostCall)) (s s' : Stage)
     (line added : List ℕ) (left' : Option (List (List ℕ))) → AllProgress n db bytes count left old now a b s → GivesEnded left true line left' → Answered n s line added b c s' → WritesSome now now' added
-    → IfSome bytes (λ input. Stops n db (ended_lines (pieces_of 10 input)) old now' a c)
+    → IfSome bytes (λ input. SessionStops n db (ended_lines (pieces_of 10 input)) old now' a c)
 all_stopped_within n db bytes count left old now now' a b c s s' line added left' all gives one writes =
-    known bytes (λ input. Progress n db input count left old now a b s) (λ input. Stops n db (ended_lines (pieces_of 10 input)) old now' a c)
+    known bytes (λ input. Progress n db input count left old now a b s) (λ input. SessionStops n db (ended_lines (pieces_of 10 input)) old now' a c)
     (λ input p. stopped_within n db input count left old now now' a b c s s' line added left' p gives one writes) all
 
 -- no line was answered, and nothing was logged
-pub all_unread : (n : Notation Global) (db : Database) (bytes old : Option (List ℕ)) (a : Option (List HostCall)) → IfSome bytes (λ input. Stops n db (ended_lines (pieces_of 10 input)) old old a a)
+pub all_unread : (n : Notation Global) (db : Database) (bytes old : Option (List ℕ)) (a : Option (List HostCall)) → IfSome bytes (λ input. SessionStops n db (ended_lines (pieces_of 10 input)) old old a a)
 all_unread n db None old a = tt
 all_unread n db (Some input) old a = record {
   done = [];
@@ -410,11 +410,11 @@ no_times (call ∷ other ∷ others) db may = absurd may
 -- the effect of lines as a script
 pub record AsScript (n : Notation Global) (s : Stage) (lines : List (List ℕ)) (text : List ℕ) (times : List (Option TimeOfDay)) (s' : Stage) : Type 0 where
   pub fulls : List (List ℕ)
-  pub spelled : AreSpelled lines fulls times
-  pub told : List (Option Verdict)
+  pub spelled : AreLinesSpelled lines fulls times
+  pub told : List (Option ImageVerdict)
   pub runs : RunsLines Global n s fulls told text s'
 
-one_scripted : (n : Notation Global) (s : Stage) (line text : List ℕ) (calls : List HostCall) (s' : Stage) → IsOfScript line → AnswersLine n s line text calls s' → AnswersThenSaves n s line text calls s'
+one_scripted : (n : Notation Global) (s : Stage) (line text : List ℕ) (calls : List HostCall) (s' : Stage) → IsOfScript line → AnswersSessionLine n s line text calls s' → AnswersThenSaves n s line text calls s'
 one_scripted n s line text calls s' is h =
     subst (λ (x : Bool). AnswersAs false x n s line text calls s') is.1 (subst (λ (x : Bool). AnswersAs x (is_own line) n s line text calls s') is.0 h)
 
@@ -436,13 +436,13 @@ as_script n s s' (line ∷ lines) text calls all r =
     = ap times_in r.calls_are ∙ times_appended r.now r.later ∙ ap (λ (ts : List (Option TimeOfDay)). ts ++ times_in r.later) (time_of n s line r.first r.now r.mid one) in
     record {
       fulls = full ∷ others.fulls;
-      spelled = subst (λ (ts : List (Option TimeOfDay)). AreSpelled (line ∷ lines) (full ∷ others.fulls) ts) (sym times) (refl, others.spelled);
+      spelled = subst (λ (ts : List (Option TimeOfDay)). AreLinesSpelled (line ∷ lines) (full ∷ others.fulls) ts) (sym times) (refl, others.spelled);
       told = one.answers.answers.told ++ others.told;
       runs = subst (λ (t : List ℕ). RunsLines Global n s (full ∷ others.fulls) (one.answers.answers.told ++ others.told) t s') (sym r.text_is)
           (RunsLines-append Global n s r.mid s' (full ∷ []) others.fulls one.answers.answers.told others.told r.first r.rest one.answers.answers.runs others.runs);
     }
 
-pub ends_as_script : (n : Notation Global) (db : Database) (lines : List (List ℕ)) (old new : Option (List ℕ)) (a b : Option (List HostCall)) (after : Database) → Ends n db lines old new a b after
+pub ends_as_script : (n : Notation Global) (db : Database) (lines : List (List ℕ)) (old new : Option (List ℕ)) (a b : Option (List HostCall)) (after : Database) → SessionEnds n db lines old new a b after
     → All IsOfScript lines → RunsAsScript n db lines old new a b after
 ends_as_script n db lines old new a b after e all =
     let runs = as_script n (stage db []) (stage after e.programs) lines e.text e.calls all e.runs in
@@ -451,7 +451,7 @@ ends_as_script n db lines old new a b after e all =
       calls = e.calls ++ DidSave after ∷ [];
       kept = e.kept;
       fulls = runs.fulls;
-      spelled = subst (λ (ts : List (Option TimeOfDay)). AreSpelled lines runs.fulls ts) (sym times) runs.spelled;
+      spelled = subst (λ (ts : List (Option TimeOfDay)). AreLinesSpelled lines runs.fulls ts) (sym times) runs.spelled;
       told = runs.told;
       text = e.text;
       programs = e.programs;
@@ -460,9 +460,9 @@ ends_as_script n db lines old new a b after e all =
     }
 
 pub all_as_script : (n : Notation Global) (db : Database) (bytes old new : Option (List ℕ)) (a b : Option (List HostCall)) (after : Database)
-    → IfSome bytes (λ input. Ends n db (ended_lines (pieces_of 10 input)) old new a b after)
+    → IfSome bytes (λ input. SessionEnds n db (ended_lines (pieces_of 10 input)) old new a b after)
     → IfSome bytes (λ input. All IsOfScript (ended_lines (pieces_of 10 input)) → RunsAsScript n db (ended_lines (pieces_of 10 input)) old new a b after)
 all_as_script n db bytes old new a b after ends =
-    known bytes (λ input. Ends n db (ended_lines (pieces_of 10 input)) old new a b after)
+    known bytes (λ input. SessionEnds n db (ended_lines (pieces_of 10 input)) old new a b after)
     (λ input. All IsOfScript (ended_lines (pieces_of 10 input)) → RunsAsScript n db (ended_lines (pieces_of 10 input)) old new a b after)
     (λ input e. ends_as_script n db (ended_lines (pieces_of 10 input)) old new a b after e) ends

@@ -6,7 +6,7 @@ use Rattle.std.specs.Io.KnownBytes.{Appends}
 use Rattle.std.specs.declared.alloc.Global.{Global}
 use Rattle.bpf_verify.specs.Verified.{Accepted}
 use Rattle.sdbm_addr.specs.Database.{Database}
-use Rattle.dbm_script.specs.Images.{Verdict}
+use Rattle.dbm_script.specs.Images.{ImageVerdict}
 use Rattle.dbm_script.specs.Script.{RunsLines, Stage, stage}
 use Rattle.dbm_script.specs.Shorthand.{spelled_line}
 use Rattle.dbm_script.specs.declared.notations.Notation.{Notation}
@@ -68,7 +68,7 @@ asks_change line answer = begins_change line && not (bytes_eq answer bad_line)
 
 -- The effect of a line as a script line at this time, and the text of its answer.
 pub record AnswersScripted (n : Notation Global) (s : Stage) (time : Option TimeOfDay) (line text : List ℕ) (s' : Stage) : Type 0 where
-  pub told : List (Option Verdict)
+  pub told : List (Option ImageVerdict)
   pub runs : RunsLines Global n s (spelled_line OfScript time line ∷ []) told text s'
 
 -- The same at the time that the host returned. That is the only call to the host.
@@ -88,9 +88,9 @@ abbrev pub AnswersOwn : Notation Global → Stage → List ℕ → List HostCall
 AnswersOwn n s text calls s' = ((calls ≡ []) × (s' ≡ s)) ⊎ SubmitsProgram n s text calls s'
 
 -- if the host returns a script line, it submits a program
-abbrev pub IsProgram : Own → Type 0
-IsProgram Shown = ⊤
-IsProgram (Line line) = starts_with nat_eq line.items (codes "program ") ≡ true
+abbrev pub IsOwnProgram : Own → Type 0
+IsOwnProgram Shown = ⊤
+IsOwnProgram (Line line) = starts_with nat_eq line.items (codes "program ") ≡ true
 
 -- no save, or one save of this database
 abbrev pub MaySave : List HostCall → Database → Type 0
@@ -124,13 +124,13 @@ AnswersAs false true n s line text calls s' = AnswersOwn n s text calls s'
 AnswersAs false false n s line text calls s' = AnswersThenSaves n s line text calls s'
 
 -- The effect of one line of a session, the text of its answer, and the calls to the host before the answer is written.
-abbrev pub AnswersLine : Notation Global → Stage → List ℕ → List ℕ → List HostCall → Stage → Type 0
-AnswersLine n s line text calls s' = AnswersAs (is_save line) (is_own line) n s line text calls s'
+abbrev pub AnswersSessionLine : Notation Global → Stage → List ℕ → List ℕ → List HostCall → Stage → Type 0
+AnswersSessionLine n s line text calls s' = AnswersAs (is_save line) (is_own line) n s line text calls s'
 
 -- a line was answered, and the log gained its calls to the host
 pub record Answered (n : Notation Global) (s : Stage) (line text : List ℕ) (log log' : Option (List HostCall)) (s' : Stage) : Type 0 where
   pub calls : List HostCall
-  pub answers : AnswersLine n s line text calls s'
+  pub answers : AnswersSessionLine n s line text calls s'
   pub kept : Logs log log' calls
 
 -- a script line was answered, and the log gained the time that the host returned for it
@@ -154,7 +154,7 @@ pub record OneThen (n : Notation Global) (s : Stage) (line text : List ℕ) (cal
   pub now : List HostCall
   pub later : List HostCall
   pub mid : Stage
-  pub answers : AnswersLine n s line first now mid
+  pub answers : AnswersSessionLine n s line first now mid
   pub others : Rest mid rest later
   pub text_is : text ≡ first ++ rest
   pub calls_are : calls ≡ now ++ later
@@ -166,7 +166,7 @@ RunsSession n s (line ∷ lines) text calls s' = OneThen n s line text calls (λ
 
 -- All lines were answered. The writer gained their answers, and the log gained their calls to the host. The last call saves the final
 -- database.
-pub record Ends (n : Notation Global) (db : Database) (lines : List (List ℕ)) (old new : Option (List ℕ)) (log log' : Option (List HostCall)) (after : Database) : Type 0 where
+pub record SessionEnds (n : Notation Global) (db : Database) (lines : List (List ℕ)) (old new : Option (List ℕ)) (log log' : Option (List HostCall)) (after : Database) : Type 0 where
   pub text : List ℕ
   pub calls : List HostCall
   pub programs : List Accepted
@@ -176,7 +176,7 @@ pub record Ends (n : Notation Global) (db : Database) (lines : List (List ℕ)) 
 
 -- Only the first lines were answered. The writer has a prefix of their answers, or all of them. The log has their calls, followed by
 -- further calls with at most one save. That save may have failed.
-pub record Stops (n : Notation Global) (db : Database) (lines : List (List ℕ)) (old new : Option (List ℕ)) (log log' : Option (List HostCall)) : Type 0 where
+pub record SessionStops (n : Notation Global) (db : Database) (lines : List (List ℕ)) (old new : Option (List ℕ)) (log log' : Option (List HostCall)) : Type 0 where
   pub done : List (List ℕ)
   pub behind : List (List ℕ)
   pub lines_are : lines ≡ done ++ behind
@@ -197,12 +197,12 @@ abbrev pub IsOfScript : List ℕ → Type 0
 IsOfScript line = (is_save line ≡ false) × (is_own line ≡ false)
 
 -- the expanded lines, each with its own time
-abbrev pub AreSpelled : List (List ℕ) → List (List ℕ) → List (Option TimeOfDay) → Type 0
-AreSpelled [] [] times = times ≡ []
-AreSpelled [] (full ∷ fulls) times = ⊥
-AreSpelled (line ∷ lines) [] times = ⊥
-AreSpelled (line ∷ lines) (full ∷ fulls) [] = ⊥
-AreSpelled (line ∷ lines) (full ∷ fulls) (time ∷ times) = (full ≡ spelled_line OfScript time line) × AreSpelled lines fulls times
+abbrev pub AreLinesSpelled : List (List ℕ) → List (List ℕ) → List (Option TimeOfDay) → Type 0
+AreLinesSpelled [] [] times = times ≡ []
+AreLinesSpelled [] (full ∷ fulls) times = ⊥
+AreLinesSpelled (line ∷ lines) [] times = ⊥
+AreLinesSpelled (line ∷ lines) (full ∷ fulls) [] = ⊥
+AreLinesSpelled (line ∷ lines) (full ∷ fulls) (time ∷ times) = (full ≡ spelled_line OfScript time line) × AreLinesSpelled lines fulls times
 
 -- The lines had the effect of one script. Each line uses the time that the host returned for it. The writer gained the answers of that
 -- script.
@@ -210,8 +210,8 @@ pub record RunsAsScript (n : Notation Global) (db : Database) (lines : List (Lis
   pub calls : List HostCall
   pub kept : Logs log log' calls
   pub fulls : List (List ℕ)
-  pub spelled : AreSpelled lines fulls (times_in calls)
-  pub told : List (Option Verdict)
+  pub spelled : AreLinesSpelled lines fulls (times_in calls)
+  pub told : List (Option ImageVerdict)
   pub text : List ℕ
   pub programs : List Accepted
   pub runs : RunsLines Global n (stage db []) fulls told text (stage after programs)

@@ -1,7 +1,7 @@
 //! The environment of a session.
 ghost use Rattle.std.specs.Prelude.{◌≡◌, ◌∷◌, [], IfOk, List, None, OnErr, OnOk, Option};
 ghost use Rattle.dbm_session.specs.HostCalls.{DidSave, GaveTime, HostCall, Logs};
-ghost use Rattle.dbm_session.specs.Sessions.{IsProgram, SavesMaybe};
+ghost use Rattle.dbm_session.specs.Sessions.{IsOwnProgram, SavesMaybe};
 
 use dbm_script::TimeOfDay;
 use sdbm_files::Image;
@@ -48,7 +48,7 @@ pub trait Host {
         text: &mut Vec<u8>,
     ) -> Result<Own, AllocError>
         ensures same { log self.new ≡ log self.old }
-        ensures line { IfOk result IsProgram };
+        ensures line { IfOk result IsOwnProgram };
 
     /// Saves a database. Returns `Ok` once the save is committed.
     ///

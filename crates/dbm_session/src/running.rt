@@ -5,7 +5,7 @@ ghost use Rattle.std.specs.Io.KnownBytes.{Appends};
 ghost use Rattle.dbm_script.specs.Pieces.{pieces_of};
 ghost use Rattle.dbm_script.specs.Script.{stage};
 ghost use Rattle.dbm_session.specs.HostCalls.{DidSave, Logs};
-ghost use Rattle.dbm_session.specs.Sessions.{AnsweredOwn, AnsweredTimed, Answered, Ends, IsOfScript, RunsAsScript, SavesAtMostOne, SavesMaybe, Stops, WritesSome, ended_lines, half_after, half_line};
+ghost use Rattle.dbm_session.specs.Sessions.{AnsweredOwn, AnsweredTimed, Answered, SessionEnds, IsOfScript, RunsAsScript, SavesAtMostOne, SavesMaybe, SessionStops, WritesSome, ended_lines, half_after, half_line};
 
 use crate::fault::SessionFault;
 use crate::host::{Host, Own};
@@ -53,9 +53,9 @@ pub fn run_session<R: Read, W: Write, H: Host>(
     writer: &mut W,
     host: &mut H,
 ) -> Result<SessionEnd, SessionFault<H::Fault>>
-    ensures ok { IfOk result (λ ended. IfSome (R.remaining reader.old) (λ input. Ends notation.now image (ended_lines (pieces_of 10 input)) (W.contents writer.old) (W.contents writer.new) (H.log host.old) (H.log host.new) ended.image)) }
+    ensures ok { IfOk result (λ ended. IfSome (R.remaining reader.old) (λ input. SessionEnds notation.now image (ended_lines (pieces_of 10 input)) (W.contents writer.old) (W.contents writer.new) (H.log host.old) (H.log host.new) ended.image)) }
     ensures half { IfOk result (λ ended. IfSome (R.remaining reader.old) (λ input. ended.half_line ≡ half_line (pieces_of 10 input))) }
-    ensures part { IfErr result (λ _. IfSome (R.remaining reader.old) (λ input. Stops notation.now image (ended_lines (pieces_of 10 input)) (W.contents writer.old) (W.contents writer.new) (H.log host.old) (H.log host.new))) }
+    ensures part { IfErr result (λ _. IfSome (R.remaining reader.old) (λ input. SessionStops notation.now image (ended_lines (pieces_of 10 input)) (W.contents writer.old) (W.contents writer.new) (H.log host.old) (H.log host.new))) }
     ensures script { IfOk result (λ ended. IfSome (R.remaining reader.old) (λ input. All IsOfScript (ended_lines (pieces_of 10 input)) → RunsAsScript notation.now image (ended_lines (pieces_of 10 input)) (W.contents writer.old) (W.contents writer.new) (H.log host.old) (H.log host.new) ended.image)) }
     ensures kept { IfOk result (λ ended. (ended.image.kind ≡ image.kind) × (ended.image.size ≡ image.size)) }
 {

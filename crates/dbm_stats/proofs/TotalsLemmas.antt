@@ -9,7 +9,7 @@ use Rattle.sdbm_addr.specs.declared.PageSize.TheVariants.{Small, Wide}
 use Rattle.sdbm_addr.specs.Pairs.{Pair, footprint, page_bytes, IsLaid}
 use Rattle.sdbm_addr.specs.Database.{Database}
 use Rattle.sdbm_addr.proofs.PairLemmas.{few_pairs}
-use Rattle.dbm_stats.specs.Totals.{greatest, totals_of, joined, AreBelow}
+use Rattle.dbm_stats.specs.Totals.{greatest, totals_of, joined_totals, AreBelow}
 use Rattle.dbm_stats.specs.Shapes.{filled, shape_of}
 use Rattle.dbm_stats.specs.declared.totals.PairTotals.{PairTotals}
 use Rattle.dbm_stats.specs.declared.totals.PageShape.{PageShape}
@@ -28,15 +28,15 @@ greatest-append f xs ys = fold-append (λ a x. max a (f x)) 0 xs ys ∙ greatest
 same_totals : (a b : PairTotals) → a.count ≡ b.count → a.key_bytes ≡ b.key_bytes → a.value_bytes ≡ b.value_bytes → a.longest_key ≡ b.longest_key → a.longest_pair ≡ b.longest_pair → a ≡ b
 same_totals a b p q r s t = λ i. record { count = p i; key_bytes = q i; value_bytes = r i; longest_key = s i; longest_pair = t i }
 
-pub totals-append : (xs ys : List Pair) → totals_of (xs ++ ys) ≡ joined (totals_of xs) (totals_of ys)
+pub totals-append : (xs ys : List Pair) → totals_of (xs ++ ys) ≡ joined_totals (totals_of xs) (totals_of ys)
 totals-append xs ys =
     same_totals _ _ (length-append xs ys) (sum_by-append (λ (e : Pair). length e.0) xs ys) (sum_by-append (λ (e : Pair). length e.1) xs ys)
     (greatest-append (λ (e : Pair). length e.0) xs ys) (greatest-append (λ (e : Pair). length e.0 + length e.1) xs ys)
 
 pub totals_more : (pairs : List Pair) (i : ℕ) (t one : PairTotals) → i < length pairs → t ≡ totals_of (take i pairs)
-    → one ≡ totals_of (((get_or pairs i ([], [])).0, (get_or pairs i ([], [])).1) ∷ []) → joined t one ≡ totals_of (take (i + 1) pairs)
+    → one ≡ totals_of (((get_or pairs i ([], [])).0, (get_or pairs i ([], [])).1) ∷ []) → joined_totals t one ≡ totals_of (take (i + 1) pairs)
 totals_more pairs i t one h is this =
-    ap (λ (x : PairTotals). joined x one) is ∙ ap (joined (totals_of (take i pairs))) this
+    ap (λ (x : PairTotals). joined_totals x one) is ∙ ap (joined_totals (totals_of (take i pairs))) this
     ∙ sym (totals-append (take i pairs) (get_or pairs i ([], []) ∷ [])) ∙ ap totals_of (sym (take_more pairs i ([], []) h))
 
 -- each sum is at most the space of the pairs
@@ -67,14 +67,14 @@ part_below size pairs i t laid is =
 -- the totals over the first pages and one more page
 pub all_more : (db : Database) (shapes : List PageShape) (pages : List (ℕ × List Pair)) (i : ℕ) (t : PairTotals) (d : PageShape) → i < length shapes → shapes ≡ map_list (shape_of db) pages
     → t ≡ totals_of (flat_map (λ (e : ℕ × List Pair). e.1) (take i pages))
-    → joined t (get_or shapes i d).totals ≡ totals_of (flat_map (λ (e : ℕ × List Pair). e.1) (take (i + 1) pages))
+    → joined_totals t (get_or shapes i d).totals ≡ totals_of (flat_map (λ (e : ℕ × List Pair). e.1) (take (i + 1) pages))
 all_more db shapes pages i t d h are so_far =
     let long : length shapes ≡ length pages = ap length are ∙ length-map pages (shape_of db) in
     let inside : i < length pages = omega arith in
     let page = get_or pages i (0, []) in
     let here : get_or shapes i d ≡ shape_of db page = ap (λ (xs : List PageShape). get_or xs i d) are ∙ get_or-map (shape_of db) pages i (0, []) d inside in
-    ap (λ (x : PairTotals). joined x (get_or shapes i d).totals) so_far
-    ∙ ap (λ (s : PageShape). joined (totals_of (flat_map (λ (e : ℕ × List Pair). e.1) (take i pages))) s.totals) here
+    ap (λ (x : PairTotals). joined_totals x (get_or shapes i d).totals) so_far
+    ∙ ap (λ (s : PageShape). joined_totals (totals_of (flat_map (λ (e : ℕ × List Pair). e.1) (take i pages))) s.totals) here
     ∙ sym (totals-append (flat_map (λ (e : ℕ × List Pair). e.1) (take i pages)) page.1)
     ∙ ap totals_of (one_page pages i inside)
   where
@@ -86,7 +86,7 @@ all_more db shapes pages i t d h are so_far =
         ∙ ap (λ (ps : List Pair). flat_map (λ (e : ℕ × List Pair). e.1) (take i pages) ++ ps) (append-nil page.1))
 
 -- bounds add up when totals are joined
-pub below_joined : (t u r : PairTotals) (m n k : ℕ) → r ≡ joined t u → m + n ≡ k → AreBelow t m → AreBelow u n → AreBelow r k
+pub below_joined : (t u r : PairTotals) (m n k : ℕ) → r ≡ joined_totals t u → m + n ≡ k → AreBelow t m → AreBelow u n → AreBelow r k
 below_joined t u r m n k is sums a b = subst (λ (x : PairTotals). AreBelow x k) (sym is) (record {
   count = omega (arith, a.count, b.count);
   key_bytes = omega (arith, a.key_bytes, b.key_bytes);

@@ -3,12 +3,12 @@ use Rattle.std.specs.Prelude.{ℕ, ◌++◌, ◌==◌, ◌||◌, cond, decimal, 
 use Rattle.std.specs.List.{flat_map}
 
 -- a character of a string of printable ASCII; a backslash escapes a quote and a backslash
-abbrev pub escaped : ℕ → List ℕ
-escaped c = cond (c == 34 || c == 92) (92 ∷ c ∷ []) (c ∷ [])
+abbrev pub escaped_character : ℕ → List ℕ
+escaped_character c = cond (c == 34 || c == 92) (92 ∷ c ∷ []) (c ∷ [])
 
 -- a string of printable ASCII
 abbrev pub quoted : List ℕ → List ℕ
-quoted text = 34 ∷ (flat_map escaped text ++ 34 ∷ [])
+quoted text = 34 ∷ (flat_map escaped_character text ++ 34 ∷ [])
 
 -- a field with a number; its name needs no escapes
 abbrev pub field : List ℕ → ℕ → List ℕ

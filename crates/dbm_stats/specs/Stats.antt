@@ -19,8 +19,8 @@ abbrev pub used_pages : Database → List (ℕ × List Pair)
 used_pages db = map.entries db.pages
 
 -- the number of pages filled to each tenth
-abbrev pub bars : Database → List ℕ
-bars db = map_list (λ i. count_by (λ (e : ℕ × List Pair). tenth db.size (filled e.1) == i) (used_pages db)) (range_with_len 0 10)
+abbrev pub fill_bars : Database → List ℕ
+fill_bars db = map_list (λ i. count_by (λ (e : ℕ × List Pair). tenth db.size (filled e.1) == i) (used_pages db)) (range_with_len 0 10)
 
 pub record AreStats {A : Type 0} (db : Database) (s : Stats A) : Type 0 where
   pub pairs : s.pairs ≡ totals_of (pairs_of db)
@@ -30,7 +30,7 @@ pub record AreStats {A : Type 0} (db : Database) (s : Stats A) : Type 0 where
   pub dir_bytes : (dir : List ℕ) → AreDirectoryBytes db.splits dir → s.dir_bytes ≡ length dir
   pub pag_bytes : (pag : List ℕ) → ArePagBytes db pag → s.pag_bytes ≡ length pag
   pub wide_bytes : (pag : List ℕ) → ArePagBytes (widened db) pag → s.wide_bytes ≡ length pag
-  pub bars : s.bars.items ≡ bars db
+  pub bars : s.bars.items ≡ fill_bars db
   pub fullest : AreFullest (map_list (λ (e : ℕ × List Pair). room_on db.size (shape_of db e)) (used_pages db)) s.fullest.items
   pub splits : s.splits ≡ set.len db.splits
   pub depths : s.depths ≡ depths_of (map_list (λ (e : ℕ × List Pair). page_depth db e.0) (used_pages db))

@@ -19,8 +19,8 @@ totals_of pairs = record {
 }
 
 -- the totals over two lists of pairs together
-abbrev pub joined : PairTotals → PairTotals → PairTotals
-joined a b = record {
+abbrev pub joined_totals : PairTotals → PairTotals → PairTotals
+joined_totals a b = record {
   count = a.count + b.count;
   key_bytes = a.key_bytes + b.key_bytes;
   value_bytes = a.value_bytes + b.value_bytes;

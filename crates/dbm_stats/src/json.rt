@@ -1,7 +1,7 @@
 //! JSON strings and fields.
 ghost use Rattle.std.specs.Prelude.{◌≡◌, ◌++◌, ◌==◌, ◌||◌, IfOk, OnOk};
 ghost use Rattle.std.specs.List.{flat_map};
-ghost use Rattle.dbm_stats.specs.Json.{count_object, escaped, field, next_field, quoted};
+ghost use Rattle.dbm_stats.specs.Json.{count_object, escaped_character, field, next_field, quoted};
 
 use itoa::Buffer;
 use std::alloc::{AllocError, Allocator};
@@ -20,7 +20,7 @@ pub fn show_string<A: Allocator>(string: &[u8], text: &mut Vec<u8, A>) -> Result
 
 // Adds the characters of a string.
 fn show_characters<A: Allocator>(string: &[u8], text: &mut Vec<u8, A>) -> Result<(), AllocError>
-    ensures { OnOk result (text.new.items ≡ text.old.items ++ flat_map escaped string.now) }
+    ensures { OnOk result (text.new.items ≡ text.old.items ++ flat_map escaped_character string.now) }
 {
     for byte in string {
         show_character(*byte, text)?;
@@ -30,7 +30,7 @@ fn show_characters<A: Allocator>(string: &[u8], text: &mut Vec<u8, A>) -> Result
 
 // Adds a character of a string.
 fn show_character<A: Allocator>(byte: u8, text: &mut Vec<u8, A>) -> Result<(), AllocError>
-    ensures { OnOk result (text.new.items ≡ text.old.items ++ escaped byte) }
+    ensures { OnOk result (text.new.items ≡ text.old.items ++ escaped_character byte) }
 {
     if is_special(byte) {
         text.push(b'\\')?;

@@ -3,7 +3,7 @@ ghost use Rattle.std.specs.Prelude.{◌≡◌, ◌≤◌, ◌+◌, ◌^◌, ◌�
 ghost use Rattle.std.specs.List.{All, flat_map};
 ghost use Rattle.sdbm_addr.specs.Pairs.{Pair};
 ghost use Rattle.sdbm_addr.specs.Database.{Database};
-ghost use Rattle.dbm_stats.specs.Totals.{AreBelow, joined, totals_of};
+ghost use Rattle.dbm_stats.specs.Totals.{AreBelow, joined_totals, totals_of};
 ghost use Rattle.dbm_stats.specs.Shapes.{shape_of};
 
 use sdbm_page::Page;
@@ -50,7 +50,7 @@ fn pair_totals(key: &[u8], value: &[u8]) -> PairTotals
 fn join(first: PairTotals, second: PairTotals) -> PairTotals
     requires first { AreBelow first (2 ^ 62) }
     requires second { AreBelow second (2 ^ 62) }
-    ensures { result ≡ joined first second }
+    ensures { result ≡ joined_totals first second }
 {
     PairTotals {
         count: first.count + second.count,

@@ -10,11 +10,11 @@ use Rattle.dbm_messages.specs.Faults.{copy_fault, report_fault}
 use Rattle.dbm_dump.specs.Causes.{DumpKnown, HasDumpCause}
 use Rattle.dbm_dump.specs.declared.copy_fault.CopyFault.{CopyFault}
 use Rattle.dbm_dump.specs.declared.copy_fault.CopyFault.TheVariants as dumps
-use Rattle.dbm_batches.specs.Causes.{HasCause, WishCauses}
+use Rattle.dbm_batches.specs.Causes.{HasWishCause, WishCauses}
 use Rattle.dbm_tool.specs.Services.{Service, dumping, noted}
 
 -- a fault of a report
-pub raised : (causes : WishCauses) (fault : ReportFault) → IsCaused causes.report fault → HasCause causes (report_fault fault)
+pub raised : (causes : WishCauses) (fault : ReportFault) → IsCaused causes.report fault → HasWishCause causes (report_fault fault)
 raised causes reports.BadHex h = h
 raised causes reports.BadText h = h
 raised causes reports.BadLayout h = h
@@ -29,12 +29,12 @@ raised causes reports.OutputTooLong h = h
 raised causes reports.NoMemory h = tt
 
 -- a fault of `dump` or `load`
-pub raised_dump : (known : DumpKnown) (fault : CopyFault) → HasDumpCause known.causes fault → HasCause (dumping known).causes (copy_fault fault)
+pub raised_dump : (known : DumpKnown) (fault : CopyFault) → HasDumpCause known.causes fault → HasWishCause (dumping known).causes (copy_fault fault)
 raised_dump known (dumps.Report fault) h = raised (dumping known).causes fault h
 raised_dump known (dumps.Dump fault) h = h
 
 -- an unknown layout is reported before all else
-pub unlaid : (o : Option (Notation Global)) (known : Notation Global → Service) (fault : ReportFault) → IsCaused (layout_causes o) fault → HasCause (noted o known).causes (report_fault fault)
+pub unlaid : (o : Option (Notation Global)) (known : Notation Global → Service) (fault : ReportFault) → IsCaused (layout_causes o) fault → HasWishCause (noted o known).causes (report_fault fault)
 unlaid None known fault h = raised (noted None known).causes fault h
 unlaid (Some n) known reports.BadHex h = absurd h
 unlaid (Some n) known reports.BadText h = absurd h

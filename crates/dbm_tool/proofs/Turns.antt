@@ -15,7 +15,7 @@ use Rattle.dbm_dump.specs.declared.copy_fault.CopyFault.{CopyFault}
 use Rattle.dbm_messages.specs.Faults.{copy_fault, report_fault}
 use Rattle.dbm_messages.specs.declared.fault.ServeFault.{ServeFault}
 use Rattle.dbm_messages.specs.declared.fault.ServeFault.TheVariants.{FileTooLong, Write}
-use Rattle.dbm_batches.specs.Causes.{HasCause}
+use Rattle.dbm_batches.specs.Causes.{HasWishCause}
 use Rattle.dbm_tool.specs.Outcomes.{IsOutcome, IsUnservedBy, outcome_by}
 use Rattle.dbm_tool.specs.Services.{Service, dumping, noted, reporting}
 use Rattle.dbm_tool.proofs.Faults.{raised, raised_dump}
@@ -25,7 +25,7 @@ keeps_all None = tt
 keeps_all (Some bytes) = refl
 
 -- a fault before the text
-early : (service : Service) (old new : Option (List ℕ)) (fault : ServeFault) → HasCause service.causes fault → Keeps old new → IsUnservedBy service old new fault
+early : (service : Service) (old new : Option (List ℕ)) (fault : ServeFault) → HasWishCause service.causes fault → Keeps old new → IsUnservedBy service old new fault
 early service old new Write caused keeps = absurd caused
 early service old new FileTooLong caused keeps = absurd caused
 early service old new _ caused keeps = (caused, keeps)
@@ -36,12 +36,12 @@ pub failed_by : (service : Service) (writes reads : Bool) (input left old new : 
 failed_by service writes reads input left old new fault bad unread = record { served = tt; fault = bad; unread = unread; database = tt }
 
 -- the outcome of a fault before the text
-pub failed_early : (service : Service) (writes reads : Bool) (input left old new : Option (List ℕ)) (fault : ServeFault) → HasCause service.causes fault → Keeps old new → (reads ≡ false → left ≡ input)
+pub failed_early : (service : Service) (writes reads : Bool) (input left old new : Option (List ℕ)) (fault : ServeFault) → HasWishCause service.causes fault → Keeps old new → (reads ≡ false → left ≡ input)
     → IsOutcome service writes reads input left old new (Err fault)
 failed_early service writes reads input left old new fault caused keeps unread = failed_by service writes reads input left old new fault (early service old new fault caused keeps) unread
 
 turned : (service : Service) (writes reads : Bool) (input left old new : Option (List ℕ)) {F : Type 0} (f : F → ServeFault) (causes : F → Type 0) (came : Result Outcome (Unserved F))
-    → ((fault : F) → causes fault → HasCause service.causes (f fault))
+    → ((fault : F) → causes fault → HasWishCause service.causes (f fault))
     → IfOk came (λ (served : Outcome). IsPrinted service.reports old new served.status served.database) → IfErr came (IsUnserved service.reports causes old new)
     → IfOk came (λ (served : Outcome). is_some served.database ≡ writes) → (reads ≡ false → left ≡ input) → IsOutcome service writes reads input left old new (outcome_by f came)
 turned service writes reads input left old new f causes (Ok outcome) lift ok err gives unread = record { served = ok; fault = tt; unread = unread; database = gives }
@@ -67,11 +67,11 @@ dumped known writes reads input left old new came outcome is ok err gives unread
 
 -- a batch, which reads standard input
 pub batched : (service : Service) (writes : Bool) (input left old new : Option (List ℕ)) (came : Result Outcome (Unserved ServeFault)) (outcome : Result Outcome ServeFault) → outcome ≡ outcome_by (λ fault. fault) came
-    → IfOk came (λ (served : Outcome). IsPrinted service.reports old new served.status served.database) → IfErr came (IsUnserved service.reports (HasCause service.causes) old new)
+    → IfOk came (λ (served : Outcome). IsPrinted service.reports old new served.status served.database) → IfErr came (IsUnserved service.reports (HasWishCause service.causes) old new)
     → IfOk came (λ (served : Outcome). is_some served.database ≡ writes) → IsOutcome service writes true input left old new outcome
 batched service writes input left old new came outcome is ok err gives =
     subst (λ (o : Result Outcome ServeFault). IsOutcome service writes true input left old new o) (sym is)
-    (turned service writes true input left old new (λ fault. fault) (HasCause service.causes) came (λ fault caused. caused) ok err gives (λ never. cc))
+    (turned service writes true input left old new (λ fault. fault) (HasWishCause service.causes) came (λ fault caused. caused) ok err gives (λ never. cc))
 
 -- an outcome in the requested notation
 pub noted_outcome : (o : Option (Notation Global)) (n : Notation Global) (known : Notation Global → Service) (writes reads : Bool) (input left old new : Option (List ℕ)) (outcome : Result Outcome ServeFault)

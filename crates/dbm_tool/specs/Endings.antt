@@ -17,7 +17,7 @@ IsExitStatus (Refused fault) status = IsRefusalStatus fault status
 IsExitStatus (Failed fault) status = status ≡ 2
 
 -- Printing an ending leaves it unchanged, except a refusal or help that cannot be printed.
-abbrev pub IsTold : Ending → Ending → Type 0
-IsTold (Served served) told = told ≡ Served served
-IsTold (Refused refusal) told = (told ≡ Refused refusal) ⊎ (told ≡ Failed fault.Write)
-IsTold (Failed reason) told = told ≡ Failed reason
+abbrev pub IsEndingTold : Ending → Ending → Type 0
+IsEndingTold (Served served) told = told ≡ Served served
+IsEndingTold (Refused refusal) told = (told ≡ Refused refusal) ⊎ (told ≡ Failed fault.Write)
+IsEndingTold (Failed reason) told = told ≡ Failed reason

@@ -1,6 +1,6 @@
 -- Stock programs that a command line names.
 use Rattle.std.specs.Prelude.{◌≡◌, ℕ, Bool, List, Option, Some, None, IsSomeAnd}
-use Rattle.stock_names.specs.Names.{IsFileOf, code_of, word_named}
+use Rattle.stock_names.specs.Names.{IsFileOf, code_of_stock, word_named}
 use Rattle.stock_names.specs.declared.ProgramWord.{ProgramWord}
 use Rattle.stock_names.specs.declared.ProgramWord.TheVariants as words
 
@@ -22,5 +22,5 @@ file_in (Some word) = only_file word (word_named word)
 -- The bytes are those of the named stock program, as an image or as a text. `None` if the word names a file.
 abbrev pub IsStockFile : Bool → ProgramWord → Option (List ℕ) → Type 0
 IsStockFile is_image words.File file = file ≡ None
-IsStockFile is_image (words.Stock s) file = IsSomeAnd file (IsFileOf is_image (code_of s))
+IsStockFile is_image (words.Stock s) file = IsSomeAnd file (IsFileOf is_image (code_of_stock s))
 IsStockFile is_image words.Unknown file = ⊥

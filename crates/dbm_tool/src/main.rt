@@ -2,7 +2,7 @@
 #![tactic(auto)]
 
 ghost use Rattle.std.specs.Prelude.{◌≡◌};
-ghost use Rattle.dbm_tool.specs.Endings.{IsTold};
+ghost use Rattle.dbm_tool.specs.Endings.{IsEndingTold};
 ghost use Rattle.dbm_tool.specs.declared.ending.Ending.TheVariants.{Failed, Refused};
 
 mod backup;
@@ -560,7 +560,7 @@ fn tell<R: Runtime<File = File> + AllocGlobal>(
     context: Option<&DiagnosticContext<'_>>,
     ending: Ending,
 ) -> Ending
-    ensures { IsTold ending result }
+    ensures { IsEndingTold ending result }
 {
     match ending {
         Ending::Served(served) => Ending::Served(served),
@@ -574,7 +574,7 @@ fn tell_refusal<R: Runtime<File = File> + AllocGlobal>(
     context: Option<&DiagnosticContext<'_>>,
     refusal: ToolFault,
 ) -> Ending
-    ensures { IsTold (Refused refusal) result }
+    ensures { IsEndingTold (Refused refusal) result }
 {
     if refusal.print(rt).is_err() {
         return tell_fault(rt, context, ServeFault::Write);

@@ -1,6 +1,6 @@
 //! The parts of a request that files and sentences need, as plain records.
 ghost use Rattle.std.specs.Prelude.{◌≡◌, option_map};
-ghost use Rattle.dbm_command_line.specs.Wishes.{base_of, file_of, writes_files};
+ghost use Rattle.dbm_command_line.specs.Wishes.{wish_base, wish_file, writes_files};
 ghost use Rattle.dbm_tool.specs.Stock.{file_in};
 ghost use Rattle.sdbm_files.specs.Limits.{pag_limit};
 
@@ -18,8 +18,8 @@ use sdbm_files::PAG_LIMIT;
 
 /// The files of a request.
 pub fn place_of<'a>(wish: &Wish<'a>) -> RunPlace<'a>
-    ensures base { option_map (λ text. text.now) result.base ≡ base_of wish.now }
-    ensures file { option_map (λ text. text.now) result.file ≡ file_in (file_of wish.now) }
+    ensures base { option_map (λ text. text.now) result.base ≡ wish_base wish.now }
+    ensures file { option_map (λ text. text.now) result.file ≡ file_in (wish_file wish.now) }
     ensures writes { result.writes ≡ writes_files wish.now }
     ensures limit { result.pages_limit ≡ pag_limit }
 {

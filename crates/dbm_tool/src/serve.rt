@@ -1,7 +1,7 @@
 //! Serves a request on the bytes of its files, standard input and standard output.
 ghost use Rattle.std.specs.Prelude.{◌≡◌, false, IfOk, IfErr, is_some};
 ghost use Rattle.dbm_command_line.specs.Wishes.{writes_files};
-ghost use Rattle.dbm_tool.specs.Outcomes.{IsServed, IsUnserved};
+ghost use Rattle.dbm_tool.specs.Outcomes.{IsRequestServed, IsRequestUnserved};
 ghost use Rattle.dbm_tool.specs.Services.{reads_input};
 
 use crate::dispatch::serve_wish;
@@ -35,8 +35,8 @@ pub fn serve<T: Threads + Wait + Sync, R: Read, W: Write>(
     reader: &mut R,
     writer: &mut W,
 ) -> Result<Outcome, ServeFault>
-    ensures served { IfOk result (λ outcome. IsServed wish.entry given.now (R.remaining reader.old) (W.contents writer.old) (W.contents writer.new) outcome.status outcome.database) }
-    ensures fault { IfErr result (IsUnserved wish.entry given.now (R.remaining reader.old) (W.contents writer.old) (W.contents writer.new)) }
+    ensures served { IfOk result (λ outcome. IsRequestServed wish.entry given.now (R.remaining reader.old) (W.contents writer.old) (W.contents writer.new) outcome.status outcome.database) }
+    ensures fault { IfErr result (IsRequestUnserved wish.entry given.now (R.remaining reader.old) (W.contents writer.old) (W.contents writer.new)) }
     ensures unread { reads_input wish.entry ≡ false → R.remaining reader.new ≡ R.remaining reader.old }
     ensures database { IfOk result (λ outcome. is_some outcome.database ≡ writes_files wish.entry) }
 {

@@ -1,6 +1,6 @@
 //! Stock programs that a command line names.
 ghost use Rattle.std.specs.Prelude.{◌≡◌, ◌⊎◌, IfOk, IfErr, option_map};
-ghost use Rattle.dbm_command_line.specs.Wishes.{file_of, head_of};
+ghost use Rattle.dbm_command_line.specs.Wishes.{wish_file, head_of};
 ghost use Rattle.dbm_messages.specs.declared.fault.ServeFault.TheVariants.{NoMemory, NoStock};
 ghost use Rattle.stock_names.specs.declared.ProgramWord.TheVariants.{Unknown};
 ghost use Rattle.dbm_tool.specs.Stock.{IsStockFile, file_in, word_in};
@@ -38,8 +38,8 @@ pub fn file_or_unknown<'a>(word: Option<&'a str>) -> Option<&'a str> {
 /// # Errors
 /// `NoStock` if no stock program has the name, and `NoMemory`.
 pub fn stock_file(alloc: Global, wish: &Wish<'_>) -> Result<Option<Vec<u8>>, ServeFault>
-    ensures ok { IfOk result (λ file. IsStockFile (head_of wish.now).image (word_in (file_of wish.now)) (option_map (λ bytes. bytes.items) file)) }
-    ensures fault { IfErr result (λ fault. (fault ≡ NoMemory) ⊎ ((fault ≡ NoStock) × (word_in (file_of wish.now) ≡ Unknown))) }
+    ensures ok { IfOk result (λ file. IsStockFile (head_of wish.now).image (word_in (wish_file wish.now)) (option_map (λ bytes. bytes.items) file)) }
+    ensures fault { IfErr result (λ fault. (fault ≡ NoMemory) ⊎ ((fault ≡ NoStock) × (word_in (wish_file wish.now) ≡ Unknown))) }
 {
     let head = wish.head();
     let Some(word) = head.file else {

@@ -16,7 +16,7 @@ use Rattle.prog_registry.specs.declared.fault.RegFault.TheVariants.{NoMemory, De
 use Rattle.prog_registry.specs.declared.registry.ProgId.{ProgId}
 use Rattle.prog_registry.specs.Judged.{IsProgramOf, IsUndecoded, IsJudged, IsSized}
 use Rattle.prog_registry.specs.Programs.{StandsAt, ArePrograms}
-use Rattle.prog_registry.specs.Registry.{Registered, Gives, Adds, Refuses}
+use Rattle.prog_registry.specs.Registry.{Registered, GivesNumber, AddsProgram, RefusesImage}
 use Rattle.prog_registry.proofs.Codes.{same_code, image_of_program, image_sized, program_sized, stands_program}
 
 abbrev undecoded : DecodeFault → Result ProgId RegFault
@@ -27,10 +27,10 @@ unaccepted f = Err (Verify f)
 
 -- ---- images of programs
 
-given_program : (old : Registered) (image : List ℕ) (id : ℕ) (new : Registered) → ArePrograms old.programs → Gives old image id new → (p : Accepted) × IsProgramOf image p
+given_program : (old : Registered) (image : List ℕ) (id : ℕ) (new : Registered) → ArePrograms old.programs → GivesNumber old image id new → (p : Accepted) × IsProgramOf image p
 given_program old image id new are gives = ⊎_elim
     (λ (h : StandsAt old.programs image id × (new ≡ old)). stands_program old.programs image id are h.0)
-    (λ (h : Adds old image id new). (h.program, h.is))
+    (λ (h : AddsProgram old image id new). (h.program, h.is))
     gives
 
 -- ---- bytes that are not an image
@@ -39,7 +39,7 @@ given_program old image id new are gives = ⊎_elim
 abbrev Decodes : List ℕ → Result ProgId RegFault → Type 0
 Decodes image r = (IsSized image × ((f : DecodeFault) → r ≡ Err (Decode f) → ⊥)) ⊎ ((f : DecodeFault) × (r ≡ Err (Decode f)) × IsUndecoded image f)
 
-decodes : (old new : Registered) (image : List ℕ) (r : Result ProgId RegFault) → ArePrograms old.programs → IfOk r (λ id. Gives old image id.0 new) → IfErr r (λ f. Refuses old image f new) → Decodes image r
+decodes : (old new : Registered) (image : List ℕ) (r : Result ProgId RegFault) → ArePrograms old.programs → IfOk r (λ id. GivesNumber old image id.0 new) → IfErr r (λ f. RefusesImage old image f new) → Decodes image r
 decodes old new image (Ok id) are ok err = let given = given_program old image id.0 new are ok in inl (program_sized given.0 image given.1, λ f e. let g : ⊥ = cc in g)
 decodes old new image (Err NoMemory) are ok err = inl (err.1.0, λ f e. let g : ⊥ = cc in g)
 decodes old new image (Err (Decode f)) are ok err = inr (f, refl, err.1.0)
@@ -69,7 +69,7 @@ unshort image (HalfWide at) und w l = let short = und.has.short in absurd (omega
 unshort image (Register at) und w l = let short = und.has.short in absurd (omega (arith, short))
 unshort image (Reserved at) und w l = let short = und.has.short in absurd (omega (arith, short))
 
-pub length_told : (old new : Registered) (image : List ℕ) (r : Result ProgId RegFault) → ArePrograms old.programs → IfOk r (λ id. Gives old image id.0 new) → IfErr r (λ f. Refuses old image f new)
+pub length_told : (old new : Registered) (image : List ℕ) (r : Result ProgId RegFault) → ArePrograms old.programs → IfOk r (λ id. GivesNumber old image id.0 new) → IfErr r (λ f. RefusesImage old image f new)
     → IsErrOf r (Decode Length) ↔ (length image % 8 ≢ 0)
 length_told old new image r are ok err = ⊎_elim
     (λ (h : IsSized image × ((f : DecodeFault) → r ≡ Err (Decode f) → ⊥)). (λ e. absurd (h.1 Length e), λ n. absurd (n h.0.whole)))
@@ -79,7 +79,7 @@ length_told old new image r are ok err = ⊎_elim
     ))
     (decodes old new image r are ok err)
 
-pub too_long_told : (old new : Registered) (image : List ℕ) (r : Result ProgId RegFault) → ArePrograms old.programs → IfOk r (λ id. Gives old image id.0 new) → IfErr r (λ f. Refuses old image f new)
+pub too_long_told : (old new : Registered) (image : List ℕ) (r : Result ProgId RegFault) → ArePrograms old.programs → IfOk r (λ id. GivesNumber old image id.0 new) → IfErr r (λ f. RefusesImage old image f new)
     → IsErrOf r (Decode TooLong) ↔ (IsWhole image × (unit_limit < length image / 8))
 too_long_told old new image r are ok err = ⊎_elim
     (λ (h : IsSized image × ((f : DecodeFault) → r ≡ Err (Decode f) → ⊥)). (λ e. absurd (h.1 TooLong e), λ n. let short = h.0.short in let long = n.1 in absurd (omega (arith, short, long))))
@@ -99,7 +99,7 @@ judged_first image code fault told judged is mis =
     let here : IsMisbuilt judged.code fault = subst (λ (c : List Insn). IsMisbuilt c fault) (same_code code judged.code image is judged.is) mis in
     ⊎_elim (λ m. only_misbuilt judged.code told fault m here) (λ m. absurd (built_not judged.code fault m.0 here)) judged.refused
 
-pub structure_told : (old new : Registered) (image : List ℕ) (r : Result ProgId RegFault) → ArePrograms old.programs → IfOk r (λ id. Gives old image id.0 new) → IfErr r (λ f. Refuses old image f new)
+pub structure_told : (old new : Registered) (image : List ℕ) (r : Result ProgId RegFault) → ArePrograms old.programs → IfOk r (λ id. GivesNumber old image id.0 new) → IfErr r (λ f. RefusesImage old image f new)
     → (code : List Insn) (fault : VerifyFault) → IsImage code image → IsMisbuilt code fault → IsErrOf r (Verify fault) ⊎ IsErrOf r NoMemory
 structure_told old new image (Ok id) are ok err code fault is mis = let given = given_program old image id.0 new are ok in absurd (unbuilt image code fault given.0 given.1 is mis)
 structure_told old new image (Err NoMemory) are ok err code fault is mis = inr refl

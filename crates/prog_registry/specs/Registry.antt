@@ -16,7 +16,7 @@ pub record Registered : Type 0 where
 -- ---- submissions that get a number
 
 -- The program of a new image goes last, and its number is the previous number of programs.
-pub record Adds (old : Registered) (image : List ℕ) (id : ℕ) (new : Registered) : Type 0 where
+pub record AddsProgram (old : Registered) (image : List ℕ) (id : ℕ) (new : Registered) : Type 0 where
   pub is_new : IsNew old.programs image
   pub unjudged : verdict_on old.recent.verdicts image ≡ None
   pub room : length old.programs < program_limit
@@ -27,8 +27,8 @@ pub record Adds (old : Registered) (image : List ℕ) (id : ℕ) (new : Register
   pub recent : new.recent ≡ old.recent
 
 -- The number is that of a known image and nothing changes, or the image is new.
-abbrev pub Gives : Registered → List ℕ → ℕ → Registered → Type 0
-Gives old image id new = (StandsAt old.programs image id × (new ≡ old)) ⊎ Adds old image id new
+abbrev pub GivesNumber : Registered → List ℕ → ℕ → Registered → Type 0
+GivesNumber old image id new = (StandsAt old.programs image id × (new ≡ old)) ⊎ AddsProgram old image id new
 
 -- ---- submissions that are refused
 
@@ -38,7 +38,7 @@ pub record RecallsIn (old : Registered) (image : List ℕ) (fault : VerifyFault)
   pub recent : Recalls old.recent image fault new.recent
 
 -- The verdict is new. It is stored, or nothing changes.
-pub record Keeps (old : Registered) (image : List ℕ) (fault : VerifyFault) (new : Registered) : Type 0 where
+pub record KeepsVerdict (old : Registered) (image : List ℕ) (fault : VerifyFault) (new : Registered) : Type 0 where
   pub unjudged : verdict_on old.recent.verdicts image ≡ None
   pub programs : new.programs ≡ old.programs
   pub recent : (new.recent ≡ with_verdict old.recent image fault) ⊎ (new.recent ≡ old.recent)
@@ -54,8 +54,8 @@ pub record IsAccepted (image : List ℕ) : Type 0 where
   pub is : IsProgramOf image program
 
 -- The image gets no number, for this reason; the registry's state after that.
-abbrev pub Refuses : Registered → List ℕ → RegFault → Registered → Type 0
-Refuses old image NoMemory new = IsUnheard old image × (IsSized image × (new ≡ old))
-Refuses old image (Decode fault) new = IsUnheard old image × (IsUndecoded image fault × (new ≡ old))
-Refuses old image (Verify fault) new = IsNew old.programs image × (IsJudged image fault × (RecallsIn old image fault new ⊎ Keeps old image fault new))
-Refuses old image Full new = IsUnheard old image × (IsAccepted image × ((length old.programs ≡ program_limit) × (new ≡ old)))
+abbrev pub RefusesImage : Registered → List ℕ → RegFault → Registered → Type 0
+RefusesImage old image NoMemory new = IsUnheard old image × (IsSized image × (new ≡ old))
+RefusesImage old image (Decode fault) new = IsUnheard old image × (IsUndecoded image fault × (new ≡ old))
+RefusesImage old image (Verify fault) new = IsNew old.programs image × (IsJudged image fault × (RecallsIn old image fault new ⊎ KeepsVerdict old image fault new))
+RefusesImage old image Full new = IsUnheard old image × (IsAccepted image × ((length old.programs ≡ program_limit) × (new ≡ old)))

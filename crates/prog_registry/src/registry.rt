@@ -13,7 +13,7 @@ ghost use Rattle.bpf_verify.specs.Verified.{Accepted};
 ghost use Rattle.prog_registry.specs.Programs.{StandsAt, IsNew, ArePrograms};
 ghost use Rattle.prog_registry.specs.Verdicts.{verdict_on, AreVerdicts};
 ghost use Rattle.prog_registry.specs.Judged.{IsProgramOf};
-ghost use Rattle.prog_registry.specs.Registry.{Gives, Refuses, RecallsIn, IsUnheard};
+ghost use Rattle.prog_registry.specs.Registry.{GivesNumber, RefusesImage, RecallsIn, IsUnheard};
 
 use crate::fault::RegFault;
 use crate::judging::judge;
@@ -93,7 +93,7 @@ impl<A: Allocator + Copy> Registry<A> {
         requires { IsUnheard self.old image.now }
         ensures same { OnOk result (self.new ≡ self.old) }
         ensures program { IfOk result (IsProgramOf image.now) }
-        ensures err { IfErr result (λ fault. Refuses self.old image.now fault self.new) }
+        ensures err { IfErr result (λ fault. RefusesImage self.old image.now fault self.new) }
     {
         let alloc = self.programs.allocator();
         match judge(alloc, image) {
@@ -111,8 +111,8 @@ impl<A: Allocator + Copy> Registry<A> {
     fn enlist(&mut self, image: &[u8], program: Verified<A>) -> Result<ProgId, RegFault>
         requires unheard { IsUnheard self.old image.now }
         requires program { IsProgramOf image.now program }
-        ensures ok { IfOk result (λ id. Gives self.old image.now id.0 self.new) }
-        ensures err { IfErr result (λ fault. Refuses self.old image.now fault self.new) }
+        ensures ok { IfOk result (λ id. GivesNumber self.old image.now id.0 self.new) }
+        ensures err { IfErr result (λ fault. RefusesImage self.old image.now fault self.new) }
     {
         if self.programs.is_full() {
             return Err(RegFault::Full);
@@ -125,8 +125,8 @@ impl<A: Allocator + Copy> Registry<A> {
 
     // The body of `submit`.
     fn number(&mut self, image: &[u8]) -> Result<ProgId, RegFault>
-        ensures ok { IfOk result (λ id. Gives self.old image.now id.0 self.new) }
-        ensures err { IfErr result (λ fault. Refuses self.old image.now fault self.new) }
+        ensures ok { IfOk result (λ id. GivesNumber self.old image.now id.0 self.new) }
+        ensures err { IfErr result (λ fault. RefusesImage self.old image.now fault self.new) }
         ensures programs { ArePrograms self.old.programs }
     {
         if let Some(id) = self.programs.find(image) {
@@ -155,8 +155,8 @@ impl<A: Allocator + Copy> Registry<A> {
     /// returned and not stored.
     pub fn submit(&mut self, image: &[u8]) -> Result<ProgId, RegFault>
         // The result.
-        ensures ok { IfOk result (λ id. Gives self.old image.now id.0 self.new) }
-        ensures err { IfErr result (λ fault. Refuses self.old image.now fault self.new) }
+        ensures ok { IfOk result (λ id. GivesNumber self.old image.now id.0 self.new) }
+        ensures err { IfErr result (λ fault. RefusesImage self.old image.now fault self.new) }
 
         // A known image gets its number again, and a number keeps its program.
         ensures known { (id : ℕ) → StandsAt self.old.programs image.now id → IsOkAnd result (λ r. r.0 ≡ id) × (self.new ≡ self.old) }

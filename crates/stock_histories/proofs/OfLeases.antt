@@ -10,7 +10,7 @@ use Rattle.stock_programs.specs.Lease.{lease, owner, until, asker, term, end_of,
 use Rattle.stock_programs.proofs.Leasing.{leases}
 use Rattle.stock_programs.proofs.NumberFacts.{fits, read_written, read_before, length_written}
 use Rattle.stock_histories.specs.Turns.{Turn, NeverFalls}
-use Rattle.stock_histories.specs.LeaseLaw.{Grants, Keeps, last_end, NeverOverlap}
+use Rattle.stock_histories.specs.LeaseLaw.{Grants, KeepsLease, last_end, NeverOverlap}
 use Rattle.stock_histories.proofs.KeyHistory.{IsGiven, RunsTo, KeyHistory, times_after, saved, unchanged}
 use Rattle.stock_histories.proofs.Projected.{cut_at}
 
@@ -69,7 +69,7 @@ may_not bytes argument now who end s before other (inr own) = other (sym own ∙
 
 -- and it is unchanged, unless the owner is granted it again or gives it back
 stays : (r r' : Option (List ℕ)) (t : Turn) (who end : ℕ) → RunsTo lease r t r' → Holds r who end → t.now < end
-    → (Grants who t → ⊥) → Keeps who t → Holds r' who end
+    → (Grants who t → ⊥) → KeepsLease who t → Holds r' who end
 stays r r' t who end s h before not_granted keeps =
     let sees = seen r s.given who end h s.is_given in
     let now_is : s.env.now ≡ t.now = s.now_is in
@@ -119,7 +119,7 @@ both_ways t who = elim (cases_eq t.code 1) [
 abbrev Waits : Option (List ℕ) → ℕ → ℕ → ℕ → Type 0
 Waits r from who end = Holds r who end ⊎ (end ≤ from)
 
-one_turn : (r r' : Option (List ℕ)) (from who end : ℕ) (t : Turn) (s : RunsTo lease r t r') → from ≤ t.now → Keeps who t → Waits r from who end
+one_turn : (r r' : Option (List ℕ)) (from who end : ℕ) (t : Turn) (s : RunsTo lease r t r') → from ≤ t.now → KeepsLease who t → Waits r from who end
     → (b : Bool) → Decided t who b → Waits r' t.now who (cond b t.word end)
 one_turn r r' from who end t s late keeps waits true d =
     let g = d.yes refl in
@@ -131,7 +131,7 @@ one_turn r r' from who end t s late keeps (inl holds) false d = elim (cases_lt t
 ]
 
 later : (r r' : Option (List ℕ)) (from who end : ℕ) (between after : List Turn) (second : Turn) → KeyHistory lease r (between ++ (second ∷ after)) r'
-    → NeverFalls from (between ++ (second ∷ after)) → AllByRecursion (Keeps who) between → second.code ≡ 1 → asker second.argument ≢ who
+    → NeverFalls from (between ++ (second ∷ after)) → AllByRecursion (KeepsLease who) between → second.code ≡ 1 → asker second.argument ≢ who
     → Waits r from who end → last_end who end between ≤ second.now
 later r r' from who end [] after second h times keep one other (inl holds) = not_before r h.0 second who end h.1.0 holds one other
 later r r' from who end [] after second h times keep one other (inr over) = let t : from ≤ second.now = times.0 in omega arith

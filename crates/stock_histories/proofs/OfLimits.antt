@@ -9,7 +9,7 @@ use Rattle.stock_programs.specs.RateLimit.{rate_limit, began, admitted, window, 
 use Rattle.stock_programs.proofs.Limiting.{limits}
 use Rattle.stock_programs.proofs.NumberFacts.{fits, read_written, read_before, read_zeros, length_written}
 use Rattle.stock_histories.specs.Turns.{Turn, NeverFalls}
-use Rattle.stock_histories.specs.LimitLaw.{Names, HasBegun, Begins, admitted_in, AdmitsAtMost}
+use Rattle.stock_histories.specs.LimitLaw.{Names, HasBegun, BeginsWindow, admitted_in, AdmitsAtMost}
 use Rattle.stock_histories.proofs.KeyHistory.{IsGiven, RunsTo, KeyHistory, halves, times_after, kept, saved, unchanged, given_is}
 use Rattle.stock_histories.proofs.Projected.{cut_at}
 
@@ -77,7 +77,7 @@ not_first r given argument now word length number h (inr none) w n late lasts be
     let within : now - began given < window argument = lasts.within in
     omega arith
 
-opens : (r r' : Option (List ℕ)) (t : Turn) (length number : ℕ) → RunsTo rate_limit r t r' → HasBegun r → Names length number t → Begins number t → length ≤ t.now → Window r' t.now 1
+opens : (r r' : Option (List ℕ)) (t : Turn) (length number : ℕ) → RunsTo rate_limit r t r' → HasBegun r → Names length number t → BeginsWindow number t → length ≤ t.now → Window r' t.now 1
 opens r r' t length number s h names begins late =
     let i : IsInput s.given t.argument s.env = s.input in
     let code_is : t.code ≡ s.outcome.code = s.code_is in

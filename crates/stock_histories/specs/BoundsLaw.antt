@@ -12,8 +12,8 @@ use Rattle.stock_programs.specs.BoundedCounter.{bounded_counter, floor, ceiling}
 use Rattle.stock_histories.specs.Turns.{Turn, turns_of, IsAlone}
 
 -- The number in the record, if there is one, is within both bounds.
-abbrev pub IsBetween : ℕ → ℕ → Option (List ℕ) → Type 0
-IsBetween low high r = (value : List ℕ) → r ≡ Some value → 8 ≤ length value → (low ≤ number_at 0 value) × (number_at 0 value ≤ high)
+abbrev pub IsWithinBounds : ℕ → ℕ → Option (List ℕ) → Type 0
+IsWithinBounds low high r = (value : List ℕ) → r ≡ Some value → 8 ≤ length value → (low ≤ number_at 0 value) × (number_at 0 value ≤ high)
 
 -- The run names a floor and a ceiling that lie within these bounds.
 abbrev pub NamesWithin : ℕ → ℕ → Turn → Type 0
@@ -25,7 +25,7 @@ abbrev pub StaysBetween : Type 0 → Type 0
 StaysBetween A =
     (size : PageSize) (kind : KeyBytes) (m m' : Map) (es : List (Entry A)) (key : List ℕ) (low high : ℕ)
     → IsAlone bounded_counter size kind m es m' key → AllByRecursion (NamesWithin low high) (turns_of key es)
-    → IsBetween low high (map.get m key) → IsBetween low high (map.get m' key)
+    → IsWithinBounds low high (map.get m key) → IsWithinBounds low high (map.get m' key)
 
 -- The same for bounded add, whose runs name one bound.
 abbrev pub NamesBelow : ℕ → Turn → Type 0
@@ -35,4 +35,4 @@ abbrev pub StaysBelow : Type 0 → Type 0
 StaysBelow A =
     (size : PageSize) (kind : KeyBytes) (m m' : Map) (es : List (Entry A)) (key : List ℕ) (high : ℕ)
     → IsAlone bounded_add size kind m es m' key → AllByRecursion (NamesBelow high) (turns_of key es)
-    → IsBetween 0 high (map.get m key) → IsBetween 0 high (map.get m' key)
+    → IsWithinBounds 0 high (map.get m key) → IsWithinBounds 0 high (map.get m' key)

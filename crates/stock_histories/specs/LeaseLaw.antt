@@ -14,8 +14,8 @@ abbrev pub Grants : ℕ → Turn → Type 0
 Grants who t = (t.code ≡ 1) × (asker t.argument ≡ who)
 
 -- This owner does not give the lease back.
-abbrev pub Keeps : ℕ → Turn → Type 0
-Keeps who t = asker t.argument ≡ who → t.code ≢ 2
+abbrev pub KeepsLease : ℕ → Turn → Type 0
+KeepsLease who t = asker t.argument ≡ who → t.code ≢ 2
 
 -- The end of this owner's lease after these turns: the word of the last grant to the owner, whether it is later or earlier than the one before.
 abbrev pub last_end : ℕ → ℕ → List Turn → ℕ
@@ -29,5 +29,5 @@ NeverOverlap A =
     (size : PageSize) (kind : KeyBytes) (m m' : Map) (es : List (Entry A)) (key : List ℕ)
     → IsAlone lease size kind m es m' key → NeverFalls 0 (turns_of key es)
     → (before between after : List Turn) (first second : Turn) → turns_of key es ≡ before ++ (first ∷ (between ++ (second ∷ after)))
-    → (one other : ℕ) → Grants one first → Grants other second → one ≢ other → AllByRecursion (Keeps one) between
+    → (one other : ℕ) → Grants one first → Grants other second → one ≢ other → AllByRecursion (KeepsLease one) between
     → last_end one first.word between ≤ second.now

@@ -19,8 +19,8 @@ admitted_in [] = 0
 admitted_in (t ∷ ts) = cond (t.code == 1) 1 0 + admitted_in ts
 
 -- The turn is the first that its window admits: its word says that the rest of the number is left.
-abbrev pub Begins : ℕ → Turn → Type 0
-Begins number t = (t.code ≡ 1) × (t.word + 1 ≡ number)
+abbrev pub BeginsWindow : ℕ → Turn → Type 0
+BeginsWindow number t = (t.code ≡ 1) × (t.word + 1 ≡ number)
 
 -- The window of the record, if there is one, has admitted a run, as in each record that the program wrote.
 abbrev pub HasBegun : Option (List ℕ) → Type 0
@@ -35,5 +35,5 @@ AdmitsAtMost A =
     → IsAlone rate_limit size kind m es m' key → HasBegun (map.get m key) → NeverFalls 0 (turns_of key es)
     → AllByRecursion (Names length number) (turns_of key es)
     → (before during after : List Turn) (first : Turn) → turns_of key es ≡ before ++ (first ∷ (during ++ after))
-    → Begins number first → length ≤ first.now → AllByRecursion (λ (t : Turn). t.now < first.now + length) during
+    → BeginsWindow number first → length ≤ first.now → AllByRecursion (λ (t : Turn). t.now < first.now + length) during
     → 1 + admitted_in during ≤ number

@@ -2,9 +2,9 @@
 use Rattle.std.proofs.Common.{◌≡◌, Some, refl}
 use Rattle.stock_names.specs.declared.Stock.{Stock}
 use Rattle.stock_names.specs.declared.Stock.TheVariants as stocks
-use Rattle.stock_names.specs.Names.{name_of, stock_named}
+use Rattle.stock_names.specs.Names.{name_of_stock, stock_named}
 
-pub is_found : (s : Stock) → stock_named (name_of s) ≡ Some s
+pub is_found : (s : Stock) → stock_named (name_of_stock s) ≡ Some s
 unfolding stock_named
 is_found stocks.Counter = refl
 is_found stocks.BoundedAdd = refl

@@ -22,34 +22,34 @@ use Rattle.stock_names.specs.declared.ProgramWord.{ProgramWord}
 use Rattle.stock_names.specs.declared.ProgramWord.TheVariants as words
 
 -- The name of a program.
-abbrev pub name_of : Stock → List ℕ
-name_of stocks.Counter = codes "counter"
-name_of stocks.BoundedAdd = codes "bounded_add"
-name_of stocks.BoundedCounter = codes "bounded_counter"
-name_of stocks.CompareAndSet = codes "compare_and_set"
-name_of stocks.Sequence = codes "sequence"
-name_of stocks.Lease = codes "lease"
-name_of stocks.FencedLease = codes "fenced_lease"
-name_of stocks.RateLimit = codes "rate_limit"
-name_of stocks.Semaphore = codes "semaphore"
-name_of stocks.TokenBucket = codes "token_bucket"
+abbrev pub name_of_stock : Stock → List ℕ
+name_of_stock stocks.Counter = codes "counter"
+name_of_stock stocks.BoundedAdd = codes "bounded_add"
+name_of_stock stocks.BoundedCounter = codes "bounded_counter"
+name_of_stock stocks.CompareAndSet = codes "compare_and_set"
+name_of_stock stocks.Sequence = codes "sequence"
+name_of_stock stocks.Lease = codes "lease"
+name_of_stock stocks.FencedLease = codes "fenced_lease"
+name_of_stock stocks.RateLimit = codes "rate_limit"
+name_of_stock stocks.Semaphore = codes "semaphore"
+name_of_stock stocks.TokenBucket = codes "token_bucket"
 
 -- The code of a program. Its meaning is proved.
-abbrev pub code_of : Stock → List Insn
-code_of stocks.Counter = counter
-code_of stocks.BoundedAdd = bounded_add
-code_of stocks.BoundedCounter = bounded_counter
-code_of stocks.CompareAndSet = compare_and_set
-code_of stocks.Sequence = sequence
-code_of stocks.Lease = lease
-code_of stocks.FencedLease = fenced_lease
-code_of stocks.RateLimit = rate_limit
-code_of stocks.Semaphore = semaphore
-code_of stocks.TokenBucket = token_bucket
+abbrev pub code_of_stock : Stock → List Insn
+code_of_stock stocks.Counter = counter
+code_of_stock stocks.BoundedAdd = bounded_add
+code_of_stock stocks.BoundedCounter = bounded_counter
+code_of_stock stocks.CompareAndSet = compare_and_set
+code_of_stock stocks.Sequence = sequence
+code_of_stock stocks.Lease = lease
+code_of_stock stocks.FencedLease = fenced_lease
+code_of_stock stocks.RateLimit = rate_limit
+code_of_stock stocks.Semaphore = semaphore
+code_of_stock stocks.TokenBucket = token_bucket
 
 -- The program with a name.
 unfoldable pub stock_named : List ℕ → Option Stock
-stock_named name = find (λ s. bytes_eq (name_of s) name) ALL
+stock_named name = find (λ s. bytes_eq (name_of_stock s) name) ALL
 
 abbrev of_name : Option Stock → ProgramWord
 of_name (Some s) = words.Stock s

@@ -4,7 +4,7 @@
 ghost use Rattle.std.specs.Prelude.{◌≡◌, IfOk, Some, string_bytes};
 ghost use Rattle.bpf_asm.specs.Denotes.{Denotes};
 ghost use Rattle.bpf_insn.specs.Code.{IsImage};
-ghost use Rattle.stock_names.specs.Names.{IsFileOf, code_of, name_of, stock_named, word_named};
+ghost use Rattle.stock_names.specs.Names.{IsFileOf, code_of_stock, name_of_stock, stock_named, word_named};
 
 use bpf_asm::disassemble;
 use bpf_insn::{Code, encode};
@@ -87,7 +87,7 @@ pub fn read_word(word: &[u8]) -> ProgramWord
 impl Stock {
     /// Name of the program, as in `examples/NAME.s`. It is found by this name.
     pub fn name(self) -> &'static str
-        ensures name { result.now ≡ name_of self }
+        ensures name { result.now ≡ name_of_stock self }
         ensures own { stock_named result.now ≡ Some self }
     {
         match self {
@@ -119,7 +119,7 @@ impl Stock {
     /// # Errors
     /// `AllocError` if an allocation fails.
     pub fn code<A: Allocator>(self, alloc: A) -> Result<Code<A>, AllocError>
-        ensures { IfOk result (λ code. code ≡ code_of self) }
+        ensures { IfOk result (λ code. code ≡ code_of_stock self) }
     {
         match self {
             Stock::Counter => counter_code(alloc),
@@ -140,7 +140,7 @@ impl Stock {
     /// # Errors
     /// `AllocError` if an allocation fails.
     pub fn image<A: Allocator + Copy>(self, alloc: A) -> Result<Vec<u8, A>, AllocError>
-        ensures { IfOk result (λ image. IsImage (code_of self) image.items) }
+        ensures { IfOk result (λ image. IsImage (code_of_stock self) image.items) }
     {
         encode(alloc, &self.code(alloc)?)
     }
@@ -150,7 +150,7 @@ impl Stock {
     /// # Errors
     /// `AllocError` if an allocation fails.
     pub fn text<A: Allocator + Copy>(self, alloc: A) -> Result<String<A>, AllocError>
-        ensures { IfOk result (λ text. Denotes (string_bytes text) (code_of self)) }
+        ensures { IfOk result (λ text. Denotes (string_bytes text) (code_of_stock self)) }
     {
         disassemble(alloc, &self.code(alloc)?)
     }
@@ -164,7 +164,7 @@ impl Stock {
         alloc: A,
         is_image: bool,
     ) -> Result<Vec<u8, A>, AllocError>
-        ensures { IfOk result (λ file. IsFileOf is_image (code_of self) file.items) }
+        ensures { IfOk result (λ file. IsFileOf is_image (code_of_stock self) file.items) }
     {
         if is_image {
             return self.image(alloc);

@@ -14,9 +14,9 @@ use Rattle.store_cmd.specs.declared.Refusal.{Refusal}
 use Rattle.store_shared.specs.Shared.{SessionState, with_call, IsRefusal}
 use Rattle.store_shared.specs.Groups.{IsCall, AreCalls, AreAnswered}
 use Rattle.worker_pool.specs.declared.task.Task.{Task}
-use Rattle.worker_pool.specs.Tasks.{run_of, IsTried, IsTaskRefusal}
-use Rattle.worker_pool.specs.Shares.{IsCalled, first_with, HasWorked}
-use Rattle.worker_pool.specs.Groups.{HasTried, AreRunsFrom, place_behind, IsAhead, HasCalled, IsTaken, IsNext, GoesOn}
+use Rattle.worker_pool.specs.Tasks.{run_of, IsTaskTried, IsTaskRefusal}
+use Rattle.worker_pool.specs.Shares.{IsSessionCalled, first_with, HasWorked}
+use Rattle.worker_pool.specs.Groups.{HasTried, AreRunsFrom, place_behind, IsAhead, HasCalled, IsReplyTaken, IsNextIndex, WorkerGoesOn}
 use Rattle.worker_pool.proofs.ShareLemmas.{some_of}
 use Rattle.worker_pool.proofs.TriedLemmas.{tried_more, tried_all}
 
@@ -43,8 +43,8 @@ module _ {A : Type 0} (programs : List Accepted) (tasks : List (Task A)) (k w at
   one_answered : (reply : Reply A) (refusal : Option Refusal) → mid ≡ with_call s command reply → IsSmall s.size command → replies' ≡ replies ++ reply ∷ [] → refusal ≡ None → HasTried programs tasks k w (at + k) mid replies' (first_with first at refusal)
   one_answered reply refusal call small added none =
       let ran : command ≡ run_of programs (slice_index_or tasks at task) = is ∙ sym (ap (run_of programs) its_task) in
-      let called : IsCalled (run_of programs (slice_index_or tasks at task)) s replies mid replies' = subst (λ (c : Command A). IsCalled c s replies mid replies') ran (record { reply = reply; call = call; added = added }) in
-      let taken : IsTried s.size (run_of programs (slice_index_or tasks at task)) None = subst (IsSmall s.size) ran small in
+      let called : IsSessionCalled (run_of programs (slice_index_or tasks at task)) s replies mid replies' = subst (λ (c : Command A). IsSessionCalled c s replies mid replies') ran (record { reply = reply; call = call; added = added }) in
+      let taken : IsTaskTried s.size (run_of programs (slice_index_or tasks at task)) None = subst (IsSmall s.size) ran small in
       subst (λ (o : Option Refusal). HasTried programs tasks k w (at + k) mid replies' (first_with first at o)) (sym none)
       (tried_more programs tasks k w at s mid replies replies' first task None some within its_own taken tt called tried)
 
@@ -52,13 +52,13 @@ module _ {A : Type 0} (programs : List Accepted) (tasks : List (Task A)) (k w at
   one_refused : (fault : Refusal) (refusal : Option Refusal) → mid ≡ s → IsRefusal s.size command fault → replies' ≡ replies → refusal ≡ Some fault → HasTried programs tasks k w (at + k) mid replies' (first_with first at refusal)
   one_refused fault refusal same other kept told =
       let ran : command ≡ run_of programs (slice_index_or tasks at task) = is ∙ sym (ap (run_of programs) its_task) in
-      let taken : IsTried s.size (run_of programs (slice_index_or tasks at task)) (Some fault) = subst (λ (c : Command A). IsTaskRefusal s.size c fault) ran (inl other) in
+      let taken : IsTaskTried s.size (run_of programs (slice_index_or tasks at task)) (Some fault) = subst (λ (c : Command A). IsTaskRefusal s.size c fault) ran (inl other) in
       subst (λ (o : Option Refusal). HasTried programs tasks k w (at + k) mid replies' (first_with first at o)) (sym told)
       (tried_more programs tasks k w at s mid replies replies' first task (Some fault) some within its_own taken (same, kept) tt tried)
 
 -- the outcome of the next call is taken
 pub called_next : {A : Type 0} (programs : List Accepted) (tasks : List (Task A)) (k w at : ℕ) (out : Result (Reply A) Refusal) (outs : List (Result (Reply A) Refusal)) (s' : SessionState A) (replies replies' : List (Reply A)) (first : Option (ℕ × Refusal)) (refusal : Option Refusal)
-    → 0 < k → at % k ≡ w → IsTaken out replies replies' refusal → HasCalled programs tasks k w at (out ∷ outs) s' replies first → HasCalled programs tasks k w (at + k) outs s' replies' (first_with first at refusal)
+    → 0 < k → at % k ≡ w → IsReplyTaken out replies replies' refusal → HasCalled programs tasks k w at (out ∷ outs) s' replies first → HasCalled programs tasks k w (at + k) outs s' replies' (first_with first at refusal)
 called_next {A} programs tasks k w at out outs s' replies replies' first refusal some its_own taken h = by_commands h.ahead.commands h.ahead.runs h.ahead.calls where
   by_commands : (commands : List (Command A)) → AreRunsFrom programs tasks k at commands → AreCalls h.s commands (out ∷ outs) s' → HasCalled programs tasks k w (at + k) outs s' replies' (first_with first at refusal)
   by_commands [] runs calls = absurd calls
@@ -70,7 +70,7 @@ called_next {A} programs tasks k w at out outs s' replies replies' first refusal
       rest : IsAhead programs tasks k (at + k) mid outs s'
       rest = record { commands = commands; runs = runs.1.1.1; calls = calls.1.1 }
 
-      by_outcome : (o : Result (Reply A) Refusal) → IsTaken o replies replies' refusal → IsCall h.s command o mid → HasCalled programs tasks k w (at + k) outs s' replies' (first_with first at refusal)
+      by_outcome : (o : Result (Reply A) Refusal) → IsReplyTaken o replies replies' refusal → IsCall h.s command o mid → HasCalled programs tasks k w (at + k) outs s' replies' (first_with first at refusal)
       by_outcome (Ok reply) its call = record {
         s = mid;
         tried = one_answered programs tasks k w at some its_own h.s mid replies replies' first runs.0 runs.1.0 command runs.1.1.0 h.tried reply refusal call.0 call.1.0 its.0 its.1;
@@ -101,7 +101,7 @@ called_last {A} programs tasks k w at outs s' replies first past h = by_commands
 
 -- the same, taken from the outcomes that were left before
 pub called_step : {A : Type 0} (programs : List Accepted) (tasks : List (Task A)) (k w at : ℕ) (out : Result (Reply A) Refusal) (left rest : List (Result (Reply A) Refusal)) (s' : SessionState A) (replies replies' : List (Reply A)) (first first' : Option (ℕ × Refusal)) (refusal : Option Refusal)
-    → 0 < k → at % k ≡ w → left ≡ out ∷ rest → IsTaken out replies replies' refusal → first' ≡ first_with first at refusal → HasCalled programs tasks k w at left s' replies first → HasCalled programs tasks k w (at + k) rest s' replies' first'
+    → 0 < k → at % k ≡ w → left ≡ out ∷ rest → IsReplyTaken out replies replies' refusal → first' ≡ first_with first at refusal → HasCalled programs tasks k w at left s' replies first → HasCalled programs tasks k w (at + k) rest s' replies' first'
 called_step {A} programs tasks k w at out left rest s' replies replies' first first' refusal some its_own step taken is h =
     subst (HasCalled programs tasks k w (at + k) rest s' replies') (sym is)
     (called_next programs tasks k w at out rest s' replies replies' first refusal some its_own taken (subst (λ (os : List (Result (Reply A) Refusal)). HasCalled programs tasks k w at os s' replies first) step h))
@@ -139,7 +139,7 @@ group_refused programs tasks k w at s s' replies replies' first refusal some wit
     tried_more programs tasks k w at s s' replies replies' first d (Some refusal) some within its_own (refused (slice_index_or tasks at d) (slice_get-get_or tasks at d within)) (same, kept) tt tried
 
 -- a worker continues after an index that it has tried
-pub goes_on : {A : Type 0} (programs : List Accepted) (tasks : List (Task A)) (k w at : ℕ) (s : SessionState A) (replies : List (Reply A)) (first : Option (ℕ × Refusal)) (next : Option ℕ) → 0 < k → at % k ≡ w → IsNext (length tasks) at k next → HasTried programs tasks k w (at + k) s replies first → GoesOn programs tasks k w at s replies first next
+pub goes_on : {A : Type 0} (programs : List Accepted) (tasks : List (Task A)) (k w at : ℕ) (s : SessionState A) (replies : List (Reply A)) (first : Option (ℕ × Refusal)) (next : Option ℕ) → 0 < k → at % k ≡ w → IsNextIndex (length tasks) at k next → HasTried programs tasks k w (at + k) s replies first → WorkerGoesOn programs tasks k w at s replies first next
 goes_on programs tasks k w at s replies first None some its_own is tried = tried_all programs tasks k w (at + k) s replies first is tried
 goes_on programs tasks k w at s replies first (Some next) some its_own is tried =
     let further : at < at + k = omega arith in (

@@ -16,7 +16,7 @@ use Rattle.store_cmd.specs.declared.Entry.{Entry}
 use Rattle.store_cmd.specs.declared.Refusal.{Refusal}
 use Rattle.store_shared.specs.Shared.{SessionState, CallsState, calls_left}
 use Rattle.worker_pool.specs.declared.task.Task.{Task}
-use Rattle.worker_pool.specs.Tasks.{run_of, IsTried}
+use Rattle.worker_pool.specs.Tasks.{run_of, IsTaskTried}
 use Rattle.worker_pool.specs.Shares.{share_of, ran_of, runs_of, AreRuns, HasWorked, IsFirstOwn, IsFirstRefused, IsNoLater, IsLowerOf, IsFirstIn}
 use Rattle.worker_pool.proofs.ShareLemmas.{some_of, places_same}
 use Rattle.worker_pool.specs.Pool.{AreIdle, MayBegin, AreDone, AreRefused, IsShareDone}
@@ -116,7 +116,7 @@ module _ {A W : Type 0} (session : W → SessionState A) (replies : W → List (
         let d = some_at (Worked w) (slice_get crew w) x is (worked w) in
         let to_end : refused x ≡ None = none_of (refused x) (no_later crew None w x none is) in
         let free : IsFirstRefused (length tasks) k w d.refusals None = subst (λ o. IsFirstRefused (length tasks) k w d.refusals o) to_end d.first in
-        subst (λ (o : Option Refusal). IsTried size (run_of programs task) o) (free at refl) (subst (λ z. IsTried z (run_of programs task) (d.refusals at)) (sized w x is) (d.tried at task here refl));
+        subst (λ (o : Option Refusal). IsTaskTried size (run_of programs task) o) (free at refl) (subst (λ z. IsTaskTried z (run_of programs task) (d.refusals at)) (sized w x is) (d.tried at task here refl));
     one_each = one_each;
     all_workers = ap length left ∙ (length-map crew left_by ∙ count);
     shares = λ w its here.
@@ -162,7 +162,7 @@ module _ {A W : Type 0} (session : W → SessionState A) (replies : W → List (
             let y : W = slice_index_or crew w (some_of crew w near) in
             let is : slice_get crew w ≡ Some y = slice_get-get_or crew w (some_of crew w near) near in
             let d = did w (slice_get crew w) (worked w) y is in
-            subst (λ (o : Option Refusal). IsTried size (run_of programs task) o) (sym (d.same at)) (subst (λ z. IsTried z (run_of programs task) (d.work.refusals at)) (sized w y is) (d.work.tried at task here refl));
+            subst (λ (o : Option Refusal). IsTaskTried size (run_of programs task) o) (sym (d.same at)) (subst (λ z. IsTaskTried z (run_of programs task) (d.work.refusals at)) (sized w y is) (d.work.tried at task here refl));
         all_workers = ap length left ∙ (length-map crew left_by ∙ count);
         runs = λ w c here.
             let n = mapped left_by crew w c (ap (λ cs. slice_get cs w) (sym left) ∙ here) in

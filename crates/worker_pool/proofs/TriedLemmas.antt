@@ -13,9 +13,9 @@ use Rattle.store_cmd.specs.declared.Entry.{Entry}
 use Rattle.store_cmd.specs.declared.Refusal.{Refusal}
 use Rattle.store_shared.specs.Shared.{SessionState, with_call}
 use Rattle.worker_pool.specs.declared.task.Task.{Task}
-use Rattle.worker_pool.specs.Tasks.{run_of, IsTried}
+use Rattle.worker_pool.specs.Tasks.{run_of, IsTaskTried}
 use Rattle.worker_pool.specs.Groups.{HasTried}
-use Rattle.worker_pool.specs.Shares.{at_places, ran_of, runs_of, replies_of, AreRuns, HasWorked, IsCalled, IsFirstRefused, IsUnused, first_with}
+use Rattle.worker_pool.specs.Shares.{at_places, ran_of, runs_of, replies_of, AreRuns, HasWorked, IsSessionCalled, IsFirstRefused, IsUnused, first_with}
 use Rattle.worker_pool.proofs.ShareLemmas.{places_nil, places_over, places_round, places_same, others_between, others_before}
 
 abbrev mine : ℕ → ℕ → (ℕ → Option Refusal) → ℕ → Bool
@@ -110,7 +110,7 @@ first_told count k w at refusals (Some f) r within its_own ahead first =
 
 -- a task that was run
 tried_run : {A : Type 0} (programs : List Accepted) (tasks : List (Task A)) (k w at : ℕ) (s s' : SessionState A) (replies replies' : List (Reply A)) (first : Option (ℕ × Refusal)) (d : Task A) → 0 < k → at < length tasks → at % k ≡ w
-    → IsTried s.size (run_of programs (slice_index_or tasks at d)) None → IsCalled (run_of programs (slice_index_or tasks at d)) s replies s' replies'
+    → IsTaskTried s.size (run_of programs (slice_index_or tasks at d)) None → IsSessionCalled (run_of programs (slice_index_or tasks at d)) s replies s' replies'
     → HasTried programs tasks k w at s replies first → HasTried programs tasks k w (at + k) s' replies' first
 tried_run {A} programs tasks k w at s s' replies replies' first d some within its_own tried called h =
     let t : Task A = slice_index_or tasks at d in
@@ -122,11 +122,11 @@ tried_run {A} programs tasks k w at s s' replies replies' first d some within it
     record {
       refusals = h.refusals;
       ahead = λ place past. h.ahead place (omega arith);
-      tried = λ place task here below also. subst (λ z. IsTried z (run_of programs task) (h.refusals place)) (sym same) (elim (round_cases k w at place its_own also below) [
+      tried = λ place task here below also. subst (λ z. IsTaskTried z (run_of programs task) (h.refusals place)) (sym same) (elim (round_cases k w at place its_own also below) [
         | inl before ↦ h.tried place task here before also
         | inr is ↦
             let task_is : t ≡ task = get_or_from_slice_get tasks at task d (ap (slice_get tasks) (sym is) ∙ here) in
-            subst (λ (o : Option Refusal). IsTried s.size (run_of programs task) o) (sym (h.ahead place (omega arith))) (subst (λ (x : Task A). IsTried s.size (run_of programs x) None) task_is tried)
+            subst (λ (o : Option Refusal). IsTaskTried s.size (run_of programs task) o) (sym (h.ahead place (omega arith))) (subst (λ (x : Task A). IsTaskTried s.size (run_of programs x) None) task_is tried)
       ]);
       runs = subst (λ (ts : List (Task A)). AreRuns programs ts s'.number s'.calls) (sym round) (called_runs programs (at_places p (take at tasks)) t s s' called.reply called.call h.runs);
       replied = called_replies s s' (run_of programs t) called.reply replies replies' called.call called.added h.replied;
@@ -135,7 +135,7 @@ tried_run {A} programs tasks k w at s s' replies replies' first d some within it
 
 -- a task that was refused
 tried_refused : {A : Type 0} (programs : List Accepted) (tasks : List (Task A)) (k w at : ℕ) (s : SessionState A) (replies : List (Reply A)) (first : Option (ℕ × Refusal)) (d : Task A) (r : Refusal) → 0 < k → at < length tasks → at % k ≡ w
-    → IsTried s.size (run_of programs (slice_index_or tasks at d)) (Some r)
+    → IsTaskTried s.size (run_of programs (slice_index_or tasks at d)) (Some r)
     → HasTried programs tasks k w at s replies first → HasTried programs tasks k w (at + k) s replies (first_with first at (Some r))
 tried_refused {A} programs tasks k w at s replies first d r some within its_own tried h =
     let t : Task A = slice_index_or tasks at d in
@@ -152,10 +152,10 @@ tried_refused {A} programs tasks k w at s replies first d r some within its_own 
       refusals = now;
       ahead = λ place past. told_other h.refusals at r place (λ e. omega arith) ∙ h.ahead place (omega arith);
       tried = λ place task here below also. elim (round_cases k w at place its_own also below) [
-        | inl before ↦ subst (λ (o : Option Refusal). IsTried s.size (run_of programs task) o) (sym (told_other h.refusals at r place (λ e. omega arith))) (h.tried place task here before also)
+        | inl before ↦ subst (λ (o : Option Refusal). IsTaskTried s.size (run_of programs task) o) (sym (told_other h.refusals at r place (λ e. omega arith))) (h.tried place task here before also)
         | inr is ↦
             let task_is : t ≡ task = get_or_from_slice_get tasks at task d (ap (slice_get tasks) (sym is) ∙ here) in
-            subst (λ (o : Option Refusal). IsTried s.size (run_of programs task) o) (sym (ap now is ∙ told_here h.refusals at r)) (subst (λ (x : Task A). IsTried s.size (run_of programs x) (Some r)) task_is tried)
+            subst (λ (o : Option Refusal). IsTaskTried s.size (run_of programs task) o) (sym (ap now is ∙ told_here h.refusals at r)) (subst (λ (x : Task A). IsTaskTried s.size (run_of programs x) (Some r)) task_is tried)
       ];
       runs = subst (λ (ts : List (Task A)). AreRuns programs ts s.number s.calls) (sym round) h.runs;
       replied = h.replied;
@@ -164,7 +164,7 @@ tried_refused {A} programs tasks k w at s replies first d r some within its_own 
 
 -- the worker's next task
 pub tried_more : {A : Type 0} (programs : List Accepted) (tasks : List (Task A)) (k w at : ℕ) (s s' : SessionState A) (replies replies' : List (Reply A)) (first : Option (ℕ × Refusal)) (d : Task A) (refusal : Option Refusal) → 0 < k → at < length tasks → at % k ≡ w
-    → IsTried s.size (run_of programs (slice_index_or tasks at d)) refusal → OnSome refusal ((s' ≡ s) × (replies' ≡ replies)) → IfNone refusal (IsCalled (run_of programs (slice_index_or tasks at d)) s replies s' replies')
+    → IsTaskTried s.size (run_of programs (slice_index_or tasks at d)) refusal → OnSome refusal ((s' ≡ s) × (replies' ≡ replies)) → IfNone refusal (IsSessionCalled (run_of programs (slice_index_or tasks at d)) s replies s' replies')
     → HasTried programs tasks k w at s replies first → HasTried programs tasks k w (at + k) s' replies' (first_with first at refusal)
 tried_more programs tasks k w at s s' replies replies' first d None some within its_own tried stays called h =
     subst (HasTried programs tasks k w (at + k) s' replies') (sym (first_stays first at)) (tried_run programs tasks k w at s s' replies replies' first d some within its_own tried called h)
@@ -183,6 +183,6 @@ tried_all {A} programs tasks k w at s replies first past h = record {
 }
 
 -- the page size of a session does not change
-pub tried_size : {A : Type 0} (command : Command A) (s s' : SessionState A) (replies replies' : List (Reply A)) (refusal : Option Refusal) → OnSome refusal ((s' ≡ s) × (replies' ≡ replies)) → IfNone refusal (IsCalled command s replies s' replies') → s'.size ≡ s.size
+pub tried_size : {A : Type 0} (command : Command A) (s s' : SessionState A) (replies replies' : List (Reply A)) (refusal : Option Refusal) → OnSome refusal ((s' ≡ s) × (replies' ≡ replies)) → IfNone refusal (IsSessionCalled command s replies s' replies') → s'.size ≡ s.size
 tried_size {A} command s s' replies replies' None stays called = ap (λ (x : SessionState A). x.size) called.call
 tried_size {A} command s s' replies replies' (Some r) stays called = ap (λ (x : SessionState A). x.size) stays.0

@@ -9,14 +9,14 @@ use Rattle.store_shared.specs.Shared.{SessionState}
 use Rattle.store_shared.specs.Groups.{AreCalls}
 use Rattle.worker_pool.specs.declared.task.Task.{Task}
 use Rattle.worker_pool.specs.declared.share.Progress.{Progress}
-use Rattle.worker_pool.specs.Tasks.{run_of, IsTried}
+use Rattle.worker_pool.specs.Tasks.{run_of, IsTaskTried}
 use Rattle.worker_pool.specs.Shares.{ran_of, AreRuns, replies_of, IsFirstRefused, HasWorked}
 
 -- A worker's tasks below an index were tried, and no later ones.
 pub record HasTried {A : Type 0} (programs : List Accepted) (tasks : List (Task A)) (k w at : ℕ) (s : SessionState A) (replies : List (Reply A)) (first : Option (ℕ × Refusal)) : Type 0 where
   pub refusals : ℕ → Option Refusal
   pub ahead : (place : ℕ) → at ≤ place → refusals place ≡ None
-  pub tried : (place : ℕ) (task : Task A) → slice_get tasks place ≡ Some task → place < at → place % k ≡ w → IsTried s.size (run_of programs task) (refusals place)
+  pub tried : (place : ℕ) (task : Task A) → slice_get tasks place ≡ Some task → place < at → place % k ≡ w → IsTaskTried s.size (run_of programs task) (refusals place)
   pub runs : AreRuns programs (ran_of k w refusals (take at tasks)) s.number s.calls
   pub replied : replies_of s.calls ≡ replies
   pub first_is : IsFirstRefused (length tasks) k w refusals first
@@ -44,19 +44,19 @@ pub record HasCalled {A : Type 0} (programs : List Accepted) (tasks : List (Task
   pub ahead : IsAhead programs tasks k at s outcomes s'
 
 -- a reply is added to the replies, or there is a refusal
-abbrev pub IsTaken : {A : Type 0} → Result (Reply A) Refusal → List (Reply A) → List (Reply A) → Option Refusal → Type 0
-IsTaken (Ok reply) replies replies' refusal = (replies' ≡ replies ++ reply ∷ []) × (refusal ≡ None)
-IsTaken (Err fault) replies replies' refusal = (replies' ≡ replies) × (refusal ≡ Some fault)
+abbrev pub IsReplyTaken : {A : Type 0} → Result (Reply A) Refusal → List (Reply A) → List (Reply A) → Option Refusal → Type 0
+IsReplyTaken (Ok reply) replies replies' refusal = (replies' ≡ replies ++ reply ∷ []) × (refusal ≡ None)
+IsReplyTaken (Err fault) replies replies' refusal = (replies' ≡ replies) × (refusal ≡ Some fault)
 
 -- the worker's progress: it has tried its tasks below a later one, or all of them
-abbrev pub GoesOn : {A : Type 0} → List Accepted → List (Task A) → ℕ → ℕ → ℕ → SessionState A → List (Reply A) → Option (ℕ × Refusal) → Option ℕ → Type 0
-GoesOn programs tasks k w at s replies first None = HasWorked programs tasks k w s replies first
-GoesOn programs tasks k w at s replies first (Some next) = HasTried programs tasks k w next s replies first × ((next % k ≡ w) × ((at < next) × (next < length tasks)))
+abbrev pub WorkerGoesOn : {A : Type 0} → List Accepted → List (Task A) → ℕ → ℕ → ℕ → SessionState A → List (Reply A) → Option (ℕ × Refusal) → Option ℕ → Type 0
+WorkerGoesOn programs tasks k w at s replies first None = HasWorked programs tasks k w s replies first
+WorkerGoesOn programs tasks k w at s replies first (Some next) = HasTried programs tasks k w next s replies first × ((next % k ≡ w) × ((at < next) × (next < length tasks)))
 
 abbrev pub IsProgress : {A : Type 0} → List Accepted → List (Task A) → ℕ → ℕ → ℕ → SessionState A → List (Reply A) → Progress → Type 0
-IsProgress programs tasks k w at s replies progress = GoesOn programs tasks k w at s replies progress.first progress.next
+IsProgress programs tasks k w at s replies progress = WorkerGoesOn programs tasks k w at s replies progress.first progress.next
 
 -- the next index, if it is below the count
-abbrev pub IsNext : ℕ → ℕ → ℕ → Option ℕ → Type 0
-IsNext count at k None = count ≤ at + k
-IsNext count at k (Some next) = (next ≡ at + k) × (next < count)
+abbrev pub IsNextIndex : ℕ → ℕ → ℕ → Option ℕ → Type 0
+IsNextIndex count at k None = count ≤ at + k
+IsNextIndex count at k (Some next) = (next ≡ at + k) × (next < count)

@@ -10,13 +10,13 @@ use Rattle.store_shared.specs.Shared.{CallsState}
 use Rattle.worker_pool.specs.declared.task.Task.{Task}
 use Rattle.worker_pool.specs.declared.task.PoolFault.{PoolFault}
 use Rattle.worker_pool.specs.declared.task.PoolFault.TheVariants.{NoWorkers, NoProgram, NoSession, NoThread, Refused, NoMemory}
-use Rattle.worker_pool.specs.Tasks.{run_of, AreKnown, IsFirstUnknown, IsTried}
+use Rattle.worker_pool.specs.Tasks.{run_of, AreTasksKnown, IsFirstUnknown, IsTaskTried}
 use Rattle.worker_pool.specs.Shares.{share_of, ran_of, replies_of, AreRuns}
 
 -- there is a worker, and the programs of all tasks are registered
 pub record MayBegin {A : Type 0} (programs : List Accepted) (tasks : List (Task A)) (workers : ℕ) : Type 0 where
   pub some : 0 < workers
-  pub known : AreKnown programs tasks
+  pub known : AreTasksKnown programs tasks
 
 -- The calls of a worker are the runs of its whole share, and their replies are its share of the replies.
 pub record IsShareDone {A : Type 0} (programs : List Accepted) (tasks : List (Task A)) (workers worker : ℕ) (replies : List (Reply A)) (calls : CallsState A) : Type 0 where
@@ -39,7 +39,7 @@ pub record AreRefused {A : Type 0} (size : PageSize) (programs : List Accepted) 
   pub within : at < length tasks
   pub here : refusals at ≡ Some refusal
   pub before : (earlier : ℕ) → earlier < at → refusals earlier ≡ None
-  pub tried : (place : ℕ) (task : Task A) → slice_get tasks place ≡ Some task → IsTried size (run_of programs task) (refusals place)
+  pub tried : (place : ℕ) (task : Task A) → slice_get tasks place ≡ Some task → IsTaskTried size (run_of programs task) (refusals place)
   pub all_workers : length calls ≡ workers
   pub runs : (worker : ℕ) (its : CallsState A) → slice_get calls worker ≡ Some its → AreRuns programs (ran_of workers worker refusals tasks) its.number its.calls
 

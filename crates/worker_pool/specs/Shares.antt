@@ -8,7 +8,7 @@ use Rattle.store_cmd.specs.declared.Entry.{Entry}
 use Rattle.store_cmd.specs.declared.Refusal.{Refusal}
 use Rattle.store_shared.specs.Shared.{SessionState, with_call}
 use Rattle.worker_pool.specs.declared.task.Task.{Task}
-use Rattle.worker_pool.specs.Tasks.{run_of, IsTried}
+use Rattle.worker_pool.specs.Tasks.{run_of, IsTaskTried}
 
 -- the elements of a list at the indices that pass a test, in their order
 unfoldable pub at_places : {X : Type 0} → (ℕ → Bool) → List X → List X
@@ -42,7 +42,7 @@ pub record IsUnused {A : Type 0} (session : SessionState A) (replies : List (Rep
   pub replies_are : replies ≡ []
 
 -- a worker's session has one more call, of this command, and its replies have that call's reply
-pub record IsCalled {A : Type 0} (command : Command A) (session : SessionState A) (replies : List (Reply A)) (session' : SessionState A) (replies' : List (Reply A)) : Type 0 where
+pub record IsSessionCalled {A : Type 0} (command : Command A) (session : SessionState A) (replies : List (Reply A)) (session' : SessionState A) (replies' : List (Reply A)) : Type 0 where
   pub reply : Reply A
   pub call : session' ≡ with_call session command reply
   pub added : replies' ≡ replies ++ reply ∷ []
@@ -68,7 +68,7 @@ IsFirstRefused count workers worker refusals (Some first) = IsFirstOwn count wor
 -- The result of a worker: it tried each task of its share, and its calls are the runs of those that were not refused.
 pub record HasWorked {A : Type 0} (programs : List Accepted) (tasks : List (Task A)) (workers worker : ℕ) (session : SessionState A) (replies : List (Reply A)) (refused : Option (ℕ × Refusal)) : Type 0 where
   pub refusals : ℕ → Option Refusal
-  pub tried : (at : ℕ) (task : Task A) → slice_get tasks at ≡ Some task → at % workers ≡ worker → IsTried session.size (run_of programs task) (refusals at)
+  pub tried : (at : ℕ) (task : Task A) → slice_get tasks at ≡ Some task → at % workers ≡ worker → IsTaskTried session.size (run_of programs task) (refusals at)
   pub runs : AreRuns programs (ran_of workers worker refusals tasks) session.number session.calls
   pub replied : replies_of session.calls ≡ replies
   pub first : IsFirstRefused (length tasks) workers worker refusals refused

@@ -16,35 +16,35 @@ use Rattle.store_shared.specs.Shared.{IsRefusal}
 use Rattle.worker_pool.specs.declared.task.Task.{Task}
 
 -- the registered program of a number, as its instructions
-abbrev pub code_of : List Accepted → ℕ → List Insn
-code_of programs id = option_map_or (λ (p : Accepted). p.code) (slice_get programs id) []
+abbrev pub code_of_program : List Accepted → ℕ → List Insn
+code_of_program programs id = option_map_or (λ (p : Accepted). p.code) (slice_get programs id) []
 
 -- the command of a task: a run of the program with its number
 abbrev pub run_of : {A : Type 0} → List Accepted → Task A → Command A
-run_of programs task = commands.Run task.key (code_of programs task.prog.0) task.arg task.blank task.now
+run_of programs task = commands.Run task.key (code_of_program programs task.prog.0) task.arg task.blank task.now
 
 -- the program of the task is registered
 abbrev pub IsKnown : {A : Type 0} → List Accepted → Task A → Type 0
 IsKnown programs task = task.prog.0 < length programs
 
-abbrev pub AreKnown : {A : Type 0} → List Accepted → List (Task A) → Type 0
-AreKnown {A} programs tasks = All (λ (task : Task A). IsKnown programs task) tasks
+abbrev pub AreTasksKnown : {A : Type 0} → List Accepted → List (Task A) → Type 0
+AreTasksKnown {A} programs tasks = All (λ (task : Task A). IsKnown programs task) tasks
 
 -- the first task whose program is not registered
 pub record IsFirstUnknown {A : Type 0} (programs : List Accepted) (tasks : List (Task A)) (at : ℕ) : Type 0 where
   pub task : Task A
   pub here : slice_get tasks at ≡ Some task
   pub unknown : length programs ≤ task.prog.0
-  pub known : AreKnown programs (take at tasks)
+  pub known : AreTasksKnown programs (take at tasks)
 
 -- Why a task is refused: for the same reason as a session's call, or because there is no memory before that call.
 abbrev pub IsTaskRefusal : {A : Type 0} → PageSize → Command A → Refusal → Type 0
 IsTaskRefusal size command refusal = IsRefusal size command refusal ⊎ (refusal ≡ refusals.NoMemory)
 
 -- The outcome of a task: it was run, and its command has valid sizes, or it was refused.
-abbrev pub IsTried : {A : Type 0} → PageSize → Command A → Option Refusal → Type 0
-IsTried size command None = IsSmall size command
-IsTried size command (Some refusal) = IsTaskRefusal size command refusal
+abbrev pub IsTaskTried : {A : Type 0} → PageSize → Command A → Option Refusal → Type 0
+IsTaskTried size command None = IsSmall size command
+IsTaskTried size command (Some refusal) = IsTaskRefusal size command refusal
 
 -- the refusal for an invalid size
 abbrev pub IsRefusalFor : SizeFault → Refusal → Type 0

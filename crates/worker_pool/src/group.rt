@@ -2,8 +2,8 @@
 ghost use Rattle.std.specs.Prelude.{◌≡◌, ◌<◌, ◌≤◌, ◌+◌, IfOk, IfErr, OnErr, Some, length, vec_len, vec_capacity};
 ghost use Rattle.std.specs.List.{slice_get};
 ghost use Rattle.std.specs.Vec.Iter.{into_iter_items};
-ghost use Rattle.worker_pool.specs.Tasks.{run_of, code_of, IsKnown, AreKnown, IsTaskRefusal, IsRefusalFor};
-ghost use Rattle.worker_pool.specs.Groups.{AreRunsFrom, IsAhead, IsNext, place_behind};
+ghost use Rattle.worker_pool.specs.Tasks.{run_of, code_of_program, IsKnown, AreTasksKnown, IsTaskRefusal, IsRefusalFor};
+ghost use Rattle.worker_pool.specs.Groups.{AreRunsFrom, IsAhead, IsNextIndex, place_behind};
 
 use crate::task::Task;
 use prog_registry::{ProgId, Registry};
@@ -28,7 +28,7 @@ pub(crate) fn call_group<R: Wait, A: Allocator + Copy, G: Gate>(
     session: &mut Session<'_, A, G>,
     replies: &mut Vec<Reply<A>, A>,
 ) -> Result<IntoIter<Result<Reply<A>, Refusal>, A>, Refusal>
-    requires known { AreKnown registry.now.programs tasks.now }
+    requires known { AreTasksKnown registry.now.programs tasks.now }
     requires within { at < length tasks.now }
     requires some { 0 < workers }
     ensures ahead { IfOk result (λ outcomes. IsAhead registry.now.programs tasks.entry.now workers at session.old (into_iter_items outcomes) session.new) }
@@ -60,7 +60,7 @@ fn ready_group<A: Allocator + Copy, G: Gate>(
     workers: usize,
     session: &Session<'_, A, G>,
 ) -> Result<Vec<SharedCommand<A>, A>, Refusal>
-    requires known { AreKnown registry.now.programs tasks.now }
+    requires known { AreTasksKnown registry.now.programs tasks.now }
     requires within { at < length tasks.now }
     requires some { 0 < workers }
     ensures runs { IfOk result (λ calls. AreRunsFrom registry.now.programs tasks.entry.now workers at calls.items) }
@@ -89,7 +89,7 @@ fn ready_more<A: Allocator + Copy, G: Gate>(
     session: &Session<'_, A, G>,
     calls: Vec<SharedCommand<A>, A>,
 ) -> Vec<SharedCommand<A>, A>
-    requires known { AreKnown registry.now.programs tasks.now }
+    requires known { AreTasksKnown registry.now.programs tasks.now }
     requires within { at < length tasks.now }
     requires some { 0 < workers }
     requires runs { AreRunsFrom registry.now.programs tasks.now workers at calls.items }
@@ -122,7 +122,7 @@ pub(crate) fn place_after<A: Allocator>(
     workers: usize,
 ) -> Option<usize>
     requires { at < length tasks.now }
-    ensures { IsNext (length tasks.now) at workers result }
+    ensures { IsNextIndex (length tasks.now) at workers result }
 {
     if workers >= tasks.len() - at {
         return None;
@@ -196,7 +196,7 @@ fn program_of<A: Allocator + Copy>(
     id: ProgId,
 ) -> Result<Program<A>, AllocError>
     requires { id.0 < length registry.now.programs }
-    ensures { IfOk result (λ program. program ≡ code_of registry.now.programs id.0) }
+    ensures { IfOk result (λ program. program ≡ code_of_program registry.now.programs id.0) }
 {
     let Some(program) = registry.get(id) else {
         unreachable!()

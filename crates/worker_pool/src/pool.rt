@@ -2,7 +2,7 @@
 ghost use Rattle.std.specs.Prelude.{◌≡◌, ◌↔◌, ◌≤◌, [], IsTrue, IfNone, IfOk, IfErr, IfSome, OnOk, length, vec_len, vec_capacity};
 ghost use Rattle.sdbm_addr.specs.declared.PageSize.{PageSize};
 ghost use Rattle.std.specs.List.{All};
-ghost use Rattle.worker_pool.specs.Tasks.{AreKnown, IsFirstUnknown, IsKnown};
+ghost use Rattle.worker_pool.specs.Tasks.{AreTasksKnown, IsFirstUnknown, IsKnown};
 ghost use Rattle.worker_pool.specs.Shares.{IsUnused};
 ghost use Rattle.worker_pool.specs.Pool.{MayBegin, AreDone, IsPoolFault, IsUnfinished, IsUnready};
 
@@ -147,7 +147,7 @@ fn run_crew<R: Threads + Wait + Sync, A: Allocator + Copy + Send + Sync, G: Gate
 
 // The first task whose program is not in the registry.
 fn first_unknown<A: Allocator>(registry: &Registry<A>, tasks: &[Task<A>]) -> Option<usize>
-    ensures none { IfNone result (AreKnown registry.now.programs tasks.now) }
+    ensures none { IfNone result (AreTasksKnown registry.now.programs tasks.now) }
     ensures some { IfSome result (IsFirstUnknown registry.now.programs tasks.now) }
 {
     for at in 0..tasks.len() {

@@ -1,9 +1,9 @@
 //! The work of one worker.
 ghost use Rattle.std.specs.Prelude.{◌≡◌, ◌<◌, ◌≤◌, ◌+◌, ◌%◌, length, vec_len, vec_capacity};
 ghost use Rattle.std.specs.Vec.Iter.{into_iter_items};
-ghost use Rattle.worker_pool.specs.Tasks.{AreKnown};
+ghost use Rattle.worker_pool.specs.Tasks.{AreTasksKnown};
 ghost use Rattle.worker_pool.specs.Shares.{first_with, HasWorked, IsUnused};
-ghost use Rattle.worker_pool.specs.Groups.{HasTried, HasCalled, IsTaken, IsProgress};
+ghost use Rattle.worker_pool.specs.Groups.{HasTried, HasCalled, IsReplyTaken, IsProgress};
 
 use crate::group::{call_group, place_after};
 use crate::task::Task;
@@ -33,7 +33,7 @@ pub(crate) fn do_share<R: Wait, A: Allocator + Copy, G: Gate>(
     replies: &mut Vec<Reply<A>, A>,
 ) -> Option<(usize, Refusal)>
     requires worker { worker < workers }
-    requires known { AreKnown registry.now.programs tasks.now }
+    requires known { AreTasksKnown registry.now.programs tasks.now }
     requires unused { IsUnused session.old replies.old.items }
     ensures worked { HasWorked registry.now.programs tasks.now workers worker session.new replies.new.items result }
     ensures size { session.new.size ≡ session.old.size }
@@ -62,7 +62,7 @@ fn do_group<R: Wait, A: Allocator + Copy, G: Gate>(
     replies: &mut Vec<Reply<A>, A>,
     first: Option<(usize, Refusal)>,
 ) -> Progress
-    requires known { AreKnown registry.now.programs tasks.now }
+    requires known { AreTasksKnown registry.now.programs tasks.now }
     requires within { at < length tasks.now }
     requires some { 0 < workers }
     requires tried { HasTried registry.now.programs tasks.now workers (at % workers) at session.old replies.old.items first }
@@ -120,7 +120,7 @@ fn take<A: Allocator>(
     replies: &mut Vec<Reply<A>, A>,
 ) -> Option<Refusal>
     requires { vec_len replies.old + 1 ≤ vec_capacity replies.old }
-    ensures taken { IsTaken outcome replies.old.items replies.new.items result }
+    ensures taken { IsReplyTaken outcome replies.old.items replies.new.items result }
     ensures len { vec_len replies.new ≤ vec_len replies.old + 1 }
     ensures room { vec_capacity replies.new ≡ vec_capacity replies.old }
 {

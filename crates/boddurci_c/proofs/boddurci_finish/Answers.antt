@@ -1,5 +1,5 @@
 use Rattle.std.proofs.Common.{◌∙◌, Some, ap, sym, inl, inr, refl}
-use Rattle.boddurci_handles.specs.Statuses.{code_of}
+use Rattle.boddurci_handles.specs.Statuses.{status_code}
 use Rattle.boddurci_c.specs.Tickets.{WhyNot}
 use Rattle.boddurci_c.proofs.CallLemmas.{closed_denies, denies}
 use Rattle.boddurci_c.proofs.boddurci_finish.Goals as goal
@@ -10,7 +10,7 @@ returns-in_default c = inr (record { same = refl; denied = closed_denies (WhyNot
 pub returns-in-Ok : goal.returns-in-Ok
 returns-in-Ok c = inl (record {
   reply = c.in-Ok.reply;
-  code_is = c.code-in-Ok.ensures ∙ ap code_of c.of_reply.ensures;
+  code_is = c.code-in-Ok.ensures ∙ ap status_code c.of_reply.ensures;
   does = record { before = c.deref_mut.result.now; after = c.finish_on-done.new.db; old_is = c.in-Some.ensures.some ∙ ap Some (sym c.deref_mut.ensures.value); new_is = c.put.ensures; is = c.in-Ok.ensures.ok };
   told = c.end_of.ensures;
 })

@@ -2,7 +2,7 @@ use Rattle.std.proofs.Common.{◌∙◌, refl, subst, inl, inr}
 use Rattle.sdbm_files.specs.Opened.{IsOpenFault, SpellsNoDatabase}
 use Rattle.sdbm_files.specs.FaultText.{fault_text as open_text}
 use Rattle.boddurci_handles.specs.declared.status.Status.{Status}
-use Rattle.boddurci_c.specs.Calls.{IsOpened, IsToldAs, kind_for}
+use Rattle.boddurci_c.specs.Calls.{IsDbOpened, IsToldAs, kind_for}
 use Rattle.boddurci_c.proofs.CallLemmas.{shut}
 use Rattle.boddurci_c.proofs.boddurci_open.Goals as goal
 
@@ -14,8 +14,8 @@ returns-in-Ok-open_at c =
       code_is = c.code-in-Ok-open_at.ensures;
       old_is = shut c.args.slot.now.held (λ p. c.if-boddurci_is_open-eq1.false (c.boddurci_is_open.ensures.word ∙ p));
       new_is = was.1.0;
-      is = subst (λ s. IsOpened (kind_for c.args.unsigned_keys) s c.args.dir.now c.args.pag.now was.0) c.form_of-kind.ensures.size
-          (subst (λ k. IsOpened k c.form_of-kind.result.1 c.args.dir.now c.args.pag.now was.0) c.form_of-kind.ensures.kind was.1.1);
+      is = subst (λ s. IsDbOpened (kind_for c.args.unsigned_keys) s c.args.dir.now c.args.pag.now was.0) c.form_of-kind.ensures.size
+          (subst (λ k. IsDbOpened k c.form_of-kind.result.1 c.args.dir.now c.args.pag.now was.0) c.form_of-kind.ensures.kind was.1.1);
     })
 
 pub returns-in-Err : goal.returns-in-Err

@@ -1,7 +1,7 @@
 use Rattle.std.proofs.Common.{◌∙◌, Some, ap, sym, subst, inl, inr}
 use Rattle.store_cmd.specs.declared.Command.TheVariants.{Store}
-use Rattle.boddurci_handles.specs.Statuses.{code_of}
-use Rattle.boddurci_c.specs.Calls.{Does, DeniesBy, mode_for}
+use Rattle.boddurci_handles.specs.Statuses.{status_code}
+use Rattle.boddurci_c.specs.Calls.{DoesCommand, DeniesBy, mode_for}
 use Rattle.boddurci_c.proofs.CallLemmas.{closed_denies, denies}
 use Rattle.boddurci_c.proofs.boddurci_store.Goals as goal
 
@@ -11,8 +11,8 @@ returns-in_default c = inr (closed_denies (λ d status. DeniesBy d (Store c.args
 pub returns-in-Ok : goal.returns-in-Ok
 returns-in-Ok c = inl (record {
   reply = c.in-Ok.reply;
-  code_is = c.code-in-Ok.ensures ∙ ap code_of c.of_reply.ensures;
-  does = record { before = c.deref_mut.result.now; after = c.store-done.new.db; old_is = c.in-Some.ensures.some ∙ ap Some (sym c.deref_mut.ensures.value); new_is = c.put.ensures; is = subst (λ m. Does c.deref_mut.result.now (Store c.args.key.now c.args.value.now m) c.in-Ok.reply c.store-done.new.db) c.mode_of.ensures c.in-Ok.ensures.ok };
+  code_is = c.code-in-Ok.ensures ∙ ap status_code c.of_reply.ensures;
+  does = record { before = c.deref_mut.result.now; after = c.store-done.new.db; old_is = c.in-Some.ensures.some ∙ ap Some (sym c.deref_mut.ensures.value); new_is = c.put.ensures; is = subst (λ m. DoesCommand c.deref_mut.result.now (Store c.args.key.now c.args.value.now m) c.in-Ok.reply c.store-done.new.db) c.mode_of.ensures c.in-Ok.ensures.ok };
 })
 
 pub returns-in-Err : goal.returns-in-Err

@@ -1,5 +1,5 @@
 use Rattle.std.proofs.Common.{◌∙◌, Some, ap, sym, subst, refl, inl, inr}
-use Rattle.boddurci_handles.specs.Statuses.{code_of}
+use Rattle.boddurci_handles.specs.Statuses.{status_code}
 use Rattle.boddurci_c.specs.Stocks.{DeniesStock, IsStockImage}
 use Rattle.boddurci_c.proofs.CallLemmas.{closed_denies}
 use Rattle.boddurci_c.proofs.boddurci_submit_stock.Goals as goal
@@ -23,7 +23,7 @@ returns c = inr (inl (
     image = c.as_slice.result.now;
     stock = subst (IsStockImage c.args.name.now) (sym c.as_slice.ensures.value) c.in-Ok.ensures.ok;
     fault = c.in-Err-given.fault;
-    code_is = c.code-in-Err-given.ensures ∙ ap code_of c.fault_status.ensures;
+    code_is = c.code-in-Err-given.ensures ∙ ap status_code c.fault_status.ensures;
     submits = record { before = c.deref_mut-open.result.now; after = _; old_is = c.in-Some.ensures.some ∙ ap Some (sym c.deref_mut-open.ensures.value); new_is = c.put-2.ensures; is = (c.in-Err-given.ensures.err, record { image = refl; marks = refl; limit = refl; base = refl }) };
   },
   refl,

@@ -1,7 +1,7 @@
 use Rattle.std.proofs.Common.{rules, refl, ◌≡◌, ◌∙◌, List, Bor, Some, map, true, ap, sym, subst, option_map}
 use Rattle.clap.specs.Words.{HasKind, Row, Text, app_of, fault_of, found_of, is_simple, is_simple_and_free, rows_of, subcommand_name_of, subcommand_of, subcommand_rows_of}
 use Rattle.dbm_command_line.specs.Tool.{tool}
-use Rattle.dbm_command_line.specs.Wishes.{IsAccessGiven, IsAsked, lacks_word}
+use Rattle.dbm_command_line.specs.Wishes.{IsAccessGiven, IsRequestAsked, lacks_word}
 use Rattle.dbm_command_line.proofs.Matches.{met, refused_for, tool_is_free, tool_is_simple}
 use Rattle.dbm_command_line.proofs.read_words.Goals as goal
 
@@ -22,8 +22,8 @@ returns-in-Some-asked-clause-wish c =
     let named : Some c.in-Some.name.now ≡ subcommand_name_of m = search rules in
     let found : Some rows ≡ option_map (λ (p : Text × List Row). p.1) (subcommand_rows_of m) = search rules in
     let given : subcommand_rows_of m ≡ subcommand_of tool texts = (c.in_ok-matches.ensures.matches (ap is_simple is_tool ∙ tool_is_simple)).1 ∙ ap (λ a. subcommand_of a texts) is_tool in
-    let asks : IsAsked (Some (c.in-Some.name.now, rows)) c.in-Some-asked.ask = c.in-Some-asked.ensures.some in
-    subst (λ p. IsAsked p c.in-Some-asked.ask) (sym (met m c.in-Some.name.now rows named found) ∙ given) asks
+    let asks : IsRequestAsked (Some (c.in-Some.name.now, rows)) c.in-Some-asked.ask = c.in-Some-asked.ensures.some in
+    subst (λ p. IsRequestAsked p c.in-Some-asked.ask) (sym (met m c.in-Some.name.now rows named found) ∙ given) asks
 
 pub returns-in-Some-asked-clause-accepted : goal.returns-in-Some-asked-clause-accepted
 returns-in-Some-asked-clause-accepted c =

@@ -5,12 +5,12 @@ use Rattle.sdbm_files.specs.declared.opening.OpenFault.TheVariants as faults
 use Rattle.sdbm_files.specs.Reading.{PagRead}
 use Rattle.boddurci_handles.specs.declared.pieces.Pieces.{Pieces}
 use Rattle.boddurci_handles.specs.Pieces.{bytes_read}
-use Rattle.boddurci_c.specs.Calls.{IsOpened}
+use Rattle.boddurci_c.specs.Calls.{IsDbOpened}
 use Rattle.boddurci_c.proofs.opening.open_reading.Goals as goal
 
 pub returns-clause-ok : goal.returns-clause-ok
 returns-clause-ok c =
-    subst (λ (pag : List ℕ). IfOk c.open_read-opened.result (IsOpened c.args.kind c.args.size c.args.dir.now pag))
+    subst (λ (pag : List ℕ). IfOk c.open_read-opened.result (IsDbOpened c.args.kind c.args.size c.args.dir.now pag))
     (ap (λ (p : Pieces). p.pages.bytes) c.deref.ensures ∙ sym (ap bytes_read c.in-Some.ensures.some)) c.open_read-opened.ensures.ok
 
 pub returns-clause-err : goal.returns-clause-err

@@ -8,7 +8,7 @@ use Rattle.store_cmd.specs.declared.Reply.{Reply}
 use Rattle.store_shared.specs.Shared.{Opened, opened_by}
 use Rattle.worker_pool.specs.Pool.{AreDone, IsPoolFault}
 use Rattle.dbm_reports.proofs.Faults.{both_ok}
-use Rattle.dbm_batches.specs.Batches.{IsClosedAfter, LeadTo}
+use Rattle.dbm_batches.specs.Batches.{IsClosedAfter, TasksLeadTo}
 use Rattle.dbm_batches.specs.declared.batch.Done.{Done}
 use Rattle.dbm_batches.proofs.BatchFaults.{closing_fault, undone_fault}
 use Rattle.dbm_batches.proofs.batch.do_tasks.Goals as goal
@@ -20,7 +20,7 @@ returns-in-Ok-run_jobs-clause-ok g c =
     let answers = c.in-Ok-run_jobs.answers in
     let all : AreDone batch.database.size batch.registry.programs tasks batch.workers answers.replies.items answers.calls.items =
     subst (λ (size : PageSize). AreDone size batch.registry.programs tasks batch.workers answers.replies.items answers.calls.items) (ap (λ (o : Opened). o.size) c.in-Ok.ensures.ok) c.in-Ok-run_jobs.ensures.ok in
-    both_ok (λ (done : Done). done.replies ≡ answers.replies) (λ (done : Done). (before : Database) → c.in-Ok.store ≡ opened_by before → IsClosedAfter before answers.calls.items done.database) (λ (done : Done). LeadTo batch tasks done.replies.items done.database) c.close.result
+    both_ok (λ (done : Done). done.replies ≡ answers.replies) (λ (done : Done). (before : Database) → c.in-Ok.store ≡ opened_by before → IsClosedAfter before answers.calls.items done.database) (λ (done : Done). TasksLeadTo batch tasks done.replies.items done.database) c.close.result
     (λ done same closed. record {
       calls = answers.calls.items;
       done = subst (λ (replies : List (Reply Global)). AreDone batch.database.size batch.registry.programs tasks batch.workers replies answers.calls.items) (sym (ap (λ (v : Vec (Reply Global) Global). v.items) same)) all;

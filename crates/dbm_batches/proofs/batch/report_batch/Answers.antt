@@ -1,13 +1,13 @@
 use Rattle.std.proofs.lemmas.Result.{IfErr-weaker, IfOk-weaker}
 use Rattle.dbm_batches.specs.Batches.{DoesTasks, batch_causes}
-use Rattle.dbm_batches.specs.Causes.{HasCause}
+use Rattle.dbm_batches.specs.Causes.{HasWishCause}
 use Rattle.dbm_batches.proofs.BatchFaults.{known_tasks, ran_fault, unread_fault}
 use Rattle.dbm_reports.proofs.Faults.{as_err}
 use Rattle.dbm_batches.proofs.batch.report_batch.Goals as goal
 
 pub returns-in_err-input-clause-fault : goal.returns-in_err-input-clause-fault
 returns-in_err-input-clause-fault g c =
-    as_err (HasCause (batch_causes c.args.notation.now c.args.asked.form c.args.given.now c.args.asked.workers c.args.asked.image c.args.asked.time (g.R.Read.remaining c.args.reader.now))) _ c.from_residual-in_err-input.ensures.1
+    as_err (HasWishCause (batch_causes c.args.notation.now c.args.asked.form c.args.given.now c.args.asked.workers c.args.asked.image c.args.asked.time (g.R.Read.remaining c.args.reader.now))) _ c.from_residual-in_err-input.ensures.1
     (unread_fault c.args.notation.now c.args.asked.form c.args.given.now c.args.asked.workers c.args.asked.image c.args.asked.time _ c.in_ok-batch.batch _ c.in_ok-batch.ensures.ok c.in_err-input.ensures.fault)
 
 pub returns-clause-ok : goal.returns-clause-ok

@@ -3,7 +3,7 @@ use Rattle.std.proofs.lemmas.Result.{IfErr-weaker, IfOk-weaker}
 use Rattle.sdbm_addr.specs.Database.{Database}
 use Rattle.dbm_reports.proofs.Written.{printed_of, unserved_of}
 use Rattle.dbm_batches.specs.Batches.{OnBatch, batch_causes}
-use Rattle.dbm_batches.specs.Causes.{HasCause}
+use Rattle.dbm_batches.specs.Causes.{HasWishCause}
 use Rattle.dbm_batches.proofs.batch.serve_batch.Goals as goal
 
 pub returns-in-Ok-clause-ok : goal.returns-in-Ok-clause-ok

@@ -5,7 +5,7 @@ use Rattle.dbm_databases.specs.Playing.{script_causes}
 use Rattle.dbm_reports.proofs.Faults.{as_err}
 use Rattle.dbm_databases.proofs.Faults.{input_fault, played_fault}
 use Rattle.dbm_databases.proofs.Played.{spelled_read, asked_known, overlong_known}
-use Rattle.dbm_script.specs.Shorthand.{spelled}
+use Rattle.dbm_script.specs.Shorthand.{spelled_text}
 use Rattle.dbm_script.specs.declared.shorthand.LineKind.TheVariants.{OfScript}
 use Rattle.dbm_databases.proofs.playing.report_played.Goals as goal
 
@@ -21,7 +21,7 @@ returns-clause-ok g c =
       c.in_ok-image.image,
       (
         c.in_ok-image.ensures.ok,
-        (played.0, (asked_known c.args.strict c.args.notation.now c.in_ok-image.image _ (spelled OfScript c.args.time c.as_slice.result.now) c.args.most played.0 report (spelled_read c.args.time _ c.as_slice.result.now _ (rw c.as_slice.ensures.value c.in_ok-script.ensures.ok) refl) played.1.0, played.1.1)),
+        (played.0, (asked_known c.args.strict c.args.notation.now c.in_ok-image.image _ (spelled_text OfScript c.args.time c.as_slice.result.now) c.args.most played.0 report (spelled_read c.args.time _ c.as_slice.result.now _ (rw c.as_slice.ensures.value c.in_ok-script.ensures.ok) refl) played.1.0, played.1.1)),
       ),
     ))
     c.play_as.ensures.ok
@@ -30,7 +30,7 @@ pub returns-clause-fault : goal.returns-clause-fault
 returns-clause-fault g c =
     IfErr-weaker c.play_as.result _ _
     (λ fault h.
-    played_fault (script_causes c.args.notation.now c.args.form c.args.given.now c.args.time (g.R.Read.remaining c.args.reader.now) c.args.most) c.args.notation.now c.in_ok-image.image (Some (spelled OfScript c.args.time c.as_slice.result.now)) c.args.most fault
-    (λ long. (c.in_ok-image.image, (c.in_ok-image.ensures.ok, overlong_known c.args.notation.now c.in_ok-image.image _ (spelled OfScript c.args.time c.as_slice.result.now) c.args.most (spelled_read c.args.time _ c.as_slice.result.now _ (rw c.as_slice.ensures.value c.in_ok-script.ensures.ok) refl) long)))
+    played_fault (script_causes c.args.notation.now c.args.form c.args.given.now c.args.time (g.R.Read.remaining c.args.reader.now) c.args.most) c.args.notation.now c.in_ok-image.image (Some (spelled_text OfScript c.args.time c.as_slice.result.now)) c.args.most fault
+    (λ long. (c.in_ok-image.image, (c.in_ok-image.ensures.ok, overlong_known c.args.notation.now c.in_ok-image.image _ (spelled_text OfScript c.args.time c.as_slice.result.now) c.args.most (spelled_read c.args.time _ c.as_slice.result.now _ (rw c.as_slice.ensures.value c.in_ok-script.ensures.ok) refl) long)))
     h)
     c.play_as.ensures.fault

@@ -1,6 +1,6 @@
 use Rattle.std.proofs.Common.{◌≡◌, ◌+◌, ◌∙◌, Option, Some, length, refl, sym, ap, rules}
 use Rattle.sdbm_addr.specs.Pairs.{Pair}
-use Rattle.dbm_dump.specs.Loading.{IsStepFault}
+use Rattle.dbm_dump.specs.Loading.{IsLoadStepFault}
 use Rattle.dbm_dump.specs.Reading.{pair_list}
 use Rattle.dbm_dump.proofs.MorePairs.{as_err, step_store_fault, stores_one}
 use Rattle.dbm_dump.proofs.loading.take_line.Goals as goal
@@ -8,7 +8,7 @@ use Rattle.dbm_dump.proofs.loading.take_line.Goals as goal
 pub returns-in_err-image-in-Some-pair-clause-fault : goal.returns-in_err-image-in-Some-pair-clause-fault
 returns-in_err-image-in-Some-pair-clause-fault c =
     let pair : c.in-Some.field-0.pair ≡ Some (c.in-Some-pair.key, c.in-Some-pair.value) = search rules in
-    as_err (IsStepFault c.args.mode c.args.loading c.args.line.now c.args.number) _ c.from_residual-in_err-image-in-Some-pair.ensures.1
+    as_err (IsLoadStepFault c.args.mode c.args.loading c.args.line.now c.args.number) _ c.from_residual-in_err-image-in-Some-pair.ensures.1
     (step_store_fault c.args.mode c.args.loading c.args.line.now c.args.number c.in-Some.field-0 (c.in-Some-pair.key, c.in-Some-pair.value) _ (sym c.in_ok-stage.ensures ∙ c.in-Some.is) pair
     c.in_err-image-in-Some-pair.ensures.fault)
 

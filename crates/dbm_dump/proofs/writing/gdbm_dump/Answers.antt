@@ -1,5 +1,5 @@
 use Rattle.std.proofs.Common.{◌≤◌, ◌<◌, ◌^◌, ap, ◌∙◌, length, rules}
-use Rattle.dbm_dump.specs.Reading.{IsGood, pairs_of}
+use Rattle.dbm_dump.specs.Reading.{IsGood, pairs_in_dump}
 use Rattle.dbm_dump.specs.Texts.{gdbm_header, gdbm_pair}
 use Rattle.dbm_dump.specs.declared.stage.Stage.TheVariants.{First}
 use Rattle.dbm_dump.proofs.GdbmBack.{gdbm_reads}
@@ -24,7 +24,7 @@ pub returns-clause-reads : goal.returns-clause-reads
 returns-clause-reads c =
     let all : length c.args.pairs.now ≤ c.loop-pair.pair-index = search rules in
     let short : length c.args.pairs.now < 2 ^ 64 = search rules in
-    ap (pairs_of First)
+    ap (pairs_in_dump First)
     (gdbm_whole c.args.pairs.now c.loop-pair.pair-index c.loop-pair.text.items _ _ c.extend_from_slice-3.new.self.items all c.loop-pair.invariant.written c.in_ok-extend_from_slice-2.ensures.items
     c.in_ok-show_number.ensures c.in_ok-extend_from_slice-3.ensures.items)
     ∙ gdbm_reads c.args.pairs.now short (good_all IsGood c.args.pairs.now c.loop-pair.pair-index all c.loop-pair.invariant.good)

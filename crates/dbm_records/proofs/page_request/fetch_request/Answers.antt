@@ -1,5 +1,5 @@
 use Rattle.std.proofs.Common.{◌≡◌, ◌∷◌, [], ◌∙◌, List, ℕ, codes, sym, ap, rules}
-use Rattle.dbm_script.specs.Commands.{command_of}
+use Rattle.dbm_script.specs.Commands.{command_of_words}
 use Rattle.dbm_records.proofs.page_request.fetch_request.Goals as goal
 
 pub returns : goal.returns
@@ -9,7 +9,7 @@ returns c = λ file. record {
     before = db;
     opened = opened;
     command = c.in_ok-command.command;
-    is = ap (λ (key : List ℕ). command_of c.args.notation.now (codes "fetch" ∷ (key ∷ []))) (sym (c.as_slice.ensures.value ∙ c.in_ok-key.ensures)) ∙ c.in_ok-command.ensures.ok;
+    is = ap (λ (key : List ℕ). command_of_words c.args.notation.now (codes "fetch" ∷ (key ∷ []))) (sym (c.as_slice.ensures.value ∙ c.in_ok-key.ensures)) ∙ c.in_ok-command.ensures.ok;
     holds = told;
   };
 }

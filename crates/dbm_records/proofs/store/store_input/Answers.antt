@@ -3,9 +3,9 @@ use Rattle.std.specs.declared.alloc.Global.{Global}
 use Rattle.store_cmd.specs.declared.Command.{Command}
 use Rattle.dbm_script.proofs.Runs.{known_read}
 use Rattle.dbm_reports.specs.Causes.{IsCaused}
-use Rattle.dbm_reports.specs.Reports.{Changes}
+use Rattle.dbm_reports.specs.Reports.{ChangesFiles}
 use Rattle.dbm_reports.proofs.Faults.{as_err}
-use Rattle.dbm_records.specs.Store.{input_store_causes, with_value, words_by}
+use Rattle.dbm_records.specs.Store.{input_store_causes, with_store_value, words_by}
 use Rattle.dbm_records.proofs.Values.{asked_by, input_fault, means}
 use Rattle.dbm_records.proofs.store.store_input.Goals as goal
 
@@ -27,6 +27,6 @@ returns-clause-ok g c =
       opened = c.in_ok-image.ensures.ok.0;
       command = command;
       is = asked_by n _ _ _ _ _ _ command c.store_name-name.ensures (c.as_slice.ensures.value ∙ c.in_ok-key.ensures) c.as_slice-2.ensures c.in_ok-image.ensures.ok.1;
-      holds = known_read (g.R.Read.remaining c.args.reader.now) read (λ value. Changes n c.in_ok-image.image (with_value value command) None c.in_ok-change.field-0) c.in_ok-read_input.ensures.ok
-          (subst (λ (asked : Command Global). Changes n c.in_ok-image.image asked None c.in_ok-change.field-0) (c.with_value-command.ensures ∙ ap (λ (value : List ℕ). with_value value command) c.new-value.ensures) c.in_ok-change.ensures);
+      holds = known_read (g.R.Read.remaining c.args.reader.now) read (λ value. ChangesFiles n c.in_ok-image.image (with_store_value value command) None c.in_ok-change.field-0) c.in_ok-read_input.ensures.ok
+          (subst (λ (asked : Command Global). ChangesFiles n c.in_ok-image.image asked None c.in_ok-change.field-0) (c.with_value-command.ensures ∙ ap (λ (value : List ℕ). with_store_value value command) c.new-value.ensures) c.in_ok-change.ensures);
     }

@@ -2,7 +2,7 @@ use Rattle.std.proofs.Common.{◌≡◌, ◌∙◌, ◌<◌, ◌≤◌, List, �
 use Rattle.std.specs.Simd.Lanes.{Each1, chunk}
 use Rattle.std.proofs.lemmas.List.{length-map, take_all}
 use Rattle.std.proofs.lemmas.Simd.{Each1-from_get_or, put_chunk_whole}
-use Rattle.dbm_script.specs.Digits.{joined, lane_value}
+use Rattle.dbm_script.specs.Digits.{joined_digits, lane_value}
 use Rattle.dbm_script.proofs.HexPairs.{decode_lanes, lanes_unread}
 use Rattle.dbm_script.proofs.Vectors.{length-joined, mask_by_small, small_by_mask}
 use Rattle.dbm_script.proofs.digits.decode_eight.Goals as goal
@@ -28,5 +28,5 @@ returns-clause-bytes c = λ _.
     let small : Each1 (λ (x : ℕ). x ≤ 15) (map lane_value text) = subst (λ (v : List ℕ). Each1 (λ (x : ℕ). x ≤ 15) v) is (small_by_mask digits long c.if-digits-ne0.false) in
     let eight : length c.pairs.result ≡ 8 = ap length c.pairs.ensures ∙ length-joined digits long in
     decode_lanes 0 8 text c.requires.text fits small
-    ∙ ap (λ (v : List ℕ). Ok (joined v)) (sym is)
+    ∙ ap (λ (v : List ℕ). Ok (joined_digits v)) (sym is)
     ∙ ap Ok (sym c.pairs.ensures ∙ sym (put_chunk_whole c.args.out.now c.pairs.result (c.requires.out ∙ sym eight)))

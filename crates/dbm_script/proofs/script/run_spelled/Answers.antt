@@ -2,7 +2,7 @@ use Rattle.std.proofs.Common.{◌≡◌, ◌∷◌, ◌++◌, [], map, ap, sym, 
 use Rattle.prog_registry.specs.Registry.{Registered}
 use Rattle.dbm_script.specs.Pieces.{pieces_of, pieces_left}
 use Rattle.dbm_script.specs.Script.{RunsLines, RunsScript, stage}
-use Rattle.dbm_script.specs.Shorthand.{spelled, spelled_line}
+use Rattle.dbm_script.specs.Shorthand.{spelled_text, spelled_line}
 use Rattle.dbm_script.specs.declared.shorthand.LineKind.TheVariants.{OfScript}
 use Rattle.dbm_script.proofs.LinesStay.{lines_stay, spelled_first}
 use Rattle.dbm_script.proofs.Runs.{IsScriptRun-from, next_done, one_more}
@@ -60,7 +60,7 @@ returns-then-len-most-clause-long g c = λ _.
 pub returns-clause-runs : goal.returns-clause-runs
 returns-clause-runs g c =
     let before = c.loop-rest.invariant in
-    let input = spelled OfScript c.args.time c.args.input.now in
+    let input = spelled_text OfScript c.args.time c.args.input.now in
     let all : RunsLines g.row.A.Denot c.args.notation.now (stage c.args.image []) (pieces_of 10 input) before.told c.loop-rest.text.items (stage c.loop-rest.image c.loop-rest.registry.programs) = search rules in
     let runs : RunsScript g.row.A.Denot c.args.notation.now c.args.image input before.told c.loop-rest.text.items c.loop-rest.image = (c.loop-rest.registry.programs, all) in
     IsScriptRun-from g.row.A.Denot c.args.notation.now c.args.image input before.told c.loop-rest.text.items c.loop-rest.image runs

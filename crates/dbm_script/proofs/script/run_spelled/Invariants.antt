@@ -1,8 +1,8 @@
 use Rattle.std.proofs.Common.{◌≡◌, ◌≤◌, ◌++◌, List, [], ℕ, length, map, Option}
 use Rattle.dbm_script.specs.Pieces.{pieces_of, pieces_left}
-use Rattle.dbm_script.specs.Images.{Verdict}
+use Rattle.dbm_script.specs.Images.{ImageVerdict}
 use Rattle.dbm_script.specs.Script.{RunsLines, stage}
-use Rattle.dbm_script.specs.Shorthand.{spelled, spelled_line}
+use Rattle.dbm_script.specs.Shorthand.{spelled_text, spelled_line}
 use Rattle.dbm_script.specs.declared.shorthand.LineKind.TheVariants.{OfScript}
 use Rattle.dbm_script.proofs.script.run_spelled.Given as goal
 
@@ -10,8 +10,8 @@ use Rattle.dbm_script.proofs.script.run_spelled.Given as goal
 abbrev pub invariant-loop-rest : goal.invariant-loop-rest
 invariant-loop-rest g l = record {
   done : List (List ℕ);
-  lines : done ++ map (spelled_line OfScript l.time) (pieces_left 10 l.rest) ≡ pieces_of 10 (spelled OfScript l.time l.input);
-  told : List (Option Verdict);
+  lines : done ++ map (spelled_line OfScript l.time) (pieces_left 10 l.rest) ≡ pieces_of 10 (spelled_text OfScript l.time l.input);
+  told : List (Option ImageVerdict);
   ran : RunsLines g.row.A.Denot l.notation (stage l.fn.image []) done told l.text.items (stage l.image l.registry.programs);
   short : length l.text.items ≤ l.most;
   kind : l.image.kind ≡ l.fn.image.kind;

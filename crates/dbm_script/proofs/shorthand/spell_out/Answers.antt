@@ -1,6 +1,6 @@
 use Rattle.std.proofs.Common.{◌≡◌, ◌∙◌, ◌∷◌, ap, is_some, true, rules}
 use Rattle.dbm_script.specs.Pieces.{pieces_left, pieces_of}
-use Rattle.dbm_script.specs.Shorthand.{spelled, spelled_line}
+use Rattle.dbm_script.specs.Shorthand.{spelled_text, spelled_line}
 use Rattle.dbm_script.proofs.LinesStay.{lines_stay}
 use Rattle.dbm_script.proofs.SpelledLines.{lines_left, next_line}
 use Rattle.dbm_script.proofs.shorthand.spell_out.Goals as goal
@@ -15,5 +15,5 @@ loop-rest-preserved-in_ok-push g c =
 
 pub returns-clause-lines : goal.returns-clause-lines
 returns-clause-lines g c =
-    let is : c.loop-rest.text.items ≡ spelled c.args.lines c.args.time c.args.input.now = search rules in
+    let is : c.loop-rest.text.items ≡ spelled_text c.args.lines c.args.time c.args.input.now = search rules in
     ap (pieces_of 10) is ∙ lines_stay c.args.lines c.args.time c.args.input.now

@@ -1,6 +1,6 @@
 use Rattle.std.proofs.Common.{◌≡◌, [], inl, inr, refl, sym, subst, true, nat_eq, codes, List, ℕ}
 use Rattle.std.specs.List.{starts_with}
-use Rattle.dbm_session.specs.Sessions.{IsProgram}
+use Rattle.dbm_session.specs.Sessions.{IsOwnProgram}
 use Rattle.dbm_session.proofs.Turns.{Logs-from, Logs-same}
 use Rattle.dbm_session.proofs.running.answer_own.Goals as goal
 
@@ -9,7 +9,7 @@ returns-in-Shown-clause-answers g c = record { calls = []; answers = inl (refl, 
 
 pub returns-in_ok-answer_scripted-in-Line-clause-answers : goal.returns-in_ok-answer_scripted-in-Line-clause-answers
 returns-in_ok-answer_scripted-in-Line-clause-answers g c =
-    let program : starts_with nat_eq c.in-Line.line.items (codes "program ") ≡ true = subst IsProgram c.in-Line.is c.in_ok-answer_own.ensures.line in
+    let program : starts_with nat_eq c.in-Line.line.items (codes "program ") ≡ true = subst IsOwnProgram c.in-Line.is c.in_ok-answer_own.ensures.line in
     let one = c.in_ok-answer_scripted-in-Line.ensures.answers in
     record {
       calls = one.calls;

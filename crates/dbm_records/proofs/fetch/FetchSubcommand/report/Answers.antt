@@ -1,6 +1,6 @@
 use Rattle.std.proofs.Common.{Option, ap, is_some, sym, ◌∙◌, ◌∷◌, [], List, ℕ, codes}
 use Rattle.sdbm_addr.specs.Database.{Database}
-use Rattle.dbm_script.specs.Commands.{command_of}
+use Rattle.dbm_script.specs.Commands.{command_of_words}
 use Rattle.dbm_records.proofs.Values.{shows_none}
 use Rattle.dbm_records.proofs.fetch.FetchSubcommand.report.Goals as goal
 
@@ -9,7 +9,7 @@ returns-clause-ok g c = record {
   before = c.in_ok-image.image;
   opened = c.in_ok-image.ensures.ok.0;
   command = c.in_ok-image.command;
-  is = ap (λ (key : List ℕ). command_of c.args.notation.now (codes "fetch" ∷ (key ∷ []))) (sym (c.as_slice.ensures.value ∙ c.in_ok-key.ensures)) ∙ c.in_ok-image.ensures.ok.1;
+  is = ap (λ (key : List ℕ). command_of_words c.args.notation.now (codes "fetch" ∷ (key ∷ []))) (sym (c.as_slice.ensures.value ∙ c.in_ok-key.ensures)) ∙ c.in_ok-image.ensures.ok.1;
   holds = c.in_ok-look_as.ensures;
 }
 

@@ -1,5 +1,5 @@
 use Rattle.std.proofs.Common.{◌≡◌, Some, not, ◌∙◌}
-use Rattle.dbm_script.specs.Commands.{command_of}
+use Rattle.dbm_script.specs.Commands.{command_of_words}
 use Rattle.dbm_reports.specs.Words.{word_asked}
 use Rattle.dbm_records.specs.Commands.{store_words}
 use Rattle.dbm_records.proofs.NewKeys.{gives_database, stores}
@@ -12,7 +12,7 @@ rename-requires g c =
     let self = c.args.self.now in
     let key = word_asked self.raw_key n self.key.now in
     let new = word_asked self.raw_key n self.new_key.now in
-    let is : command_of n (store_words key new (not self.replace)) ≡ Some c.in_ok-image.command =
+    let is : command_of_words n (store_words key new (not self.replace)) ≡ Some c.in_ok-image.command =
     asked_by n _ _ key _ new _ c.in_ok-image.command c.store_name-name.ensures (c.as_slice.ensures.value ∙ c.in_ok-key.ensures) (c.as_slice-2.ensures.value ∙ c.in_ok-new.ensures) c.in_ok-image.ensures.ok.1 in
     stores n key new (not self.replace) c.in_ok-image.command is
 

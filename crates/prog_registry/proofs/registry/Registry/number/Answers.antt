@@ -1,6 +1,6 @@
 use Rattle.std.proofs.Common.{refl, ◌∙◌, ap, subst, inl, IfOk, IfErr}
 use Rattle.prog_registry.specs.Verdicts.{Recent}
-use Rattle.prog_registry.specs.Registry.{Registered, Gives, Refuses, RecallsIn}
+use Rattle.prog_registry.specs.Registry.{Registered, GivesNumber, RefusesImage, RecallsIn}
 use Rattle.prog_registry.specs.Programs.{IsNew}
 use Rattle.prog_registry.proofs.registry.Registry.number.Goals as goal
 
@@ -42,11 +42,11 @@ enlist-requires-clause-unheard g c = rw c.in_ok-program.ensures.same record {
 }
 
 pub returns-clause-ok : goal.returns-clause-ok
-returns-clause-ok g c = subst (λ (s : Registered). IfOk c.enlist.result (λ id. Gives s c.args.image.now id.0 c.enlist.new.self))
+returns-clause-ok g c = subst (λ (s : Registered). IfOk c.enlist.result (λ id. GivesNumber s c.args.image.now id.0 c.enlist.new.self))
     (c.in_ok-program.ensures.same ∙ ap (λ (v : Recent). let r : Registered = record { programs = c.self.inside.programs; recent = v } in r) c.in_default-recall.ensures.same ∙ c.self.view_is)
     c.enlist.ensures.ok
 
 pub returns-clause-err : goal.returns-clause-err
-returns-clause-err g c = subst (λ (s : Registered). IfErr c.enlist.result (λ fault. Refuses s c.args.image.now fault c.enlist.new.self))
+returns-clause-err g c = subst (λ (s : Registered). IfErr c.enlist.result (λ fault. RefusesImage s c.args.image.now fault c.enlist.new.self))
     (c.in_ok-program.ensures.same ∙ ap (λ (v : Recent). let r : Registered = record { programs = c.self.inside.programs; recent = v } in r) c.in_default-recall.ensures.same ∙ c.self.view_is)
     c.enlist.ensures.err

@@ -1,8 +1,8 @@
 use Rattle.std.proofs.Common.{◌≡◌, ◌⊎◌, ◌∙◌, ℕ, List, true, false, set, sym, subst}
 use Rattle.std.specs.List.{Contains}
-use Rattle.boddurci_marks.specs.Marks.{AreMarked}
-use Rattle.boddurci_marks.proofs.Marking.{marked_same, marked_more, unmarked, has_last, only_more}
-use Rattle.boddurci_marks.proofs.marks.Marks.add.Goals as goal
+use Rattle.boddurci_handles.specs.Marks.{AreMarked}
+use Rattle.boddurci_handles.proofs.Marking.{marked_same, marked_more, unmarked, has_last, only_more}
+use Rattle.boddurci_handles.proofs.marks.Marks.add.Goals as goal
 
 pub invariant_of-self-2 : goal.invariant_of-self-2
 invariant_of-self-2 c =

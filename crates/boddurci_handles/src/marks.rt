@@ -1,6 +1,6 @@
 //! The set of pages that may differ from the saved database.
 ghost use Rattle.std.specs.Prelude.{◌≡◌, ◌↔◌, ◌⊎◌, ◌<◌, ℕ, false, List, [], length, take, get_or, IsTrue, OnOk, OnErr, Contains};
-ghost use Rattle.boddurci_marks.specs.Marks.{HasMore};
+ghost use Rattle.boddurci_handles.specs.Marks.{HasMoreMarks};
 
 use std::alloc::{AllocError, Global};
 use std::marker::Model;
@@ -14,7 +14,7 @@ pub struct Marks {
 
 impl Model for Marks {
     ghost use Rattle.std.specs.Prelude.{ℕ, List};
-    ghost use Rattle.boddurci_marks.specs.Marks.{AreMarked};
+    ghost use Rattle.boddurci_handles.specs.Marks.{AreMarked};
 
     ghost Value = { List ℕ };
 
@@ -68,7 +68,7 @@ impl Marks {
     /// # Errors
     /// `AllocError` if out of memory. The set is unchanged.
     pub fn add(&mut self, number: u32) -> Result<(), AllocError>
-        ensures more { HasMore self.old self.new }
+        ensures more { HasMoreMarks self.old self.new }
         ensures only { (n : ℕ) → Contains self.new n → Contains self.old n ⊎ (n ≡ number) }
         ensures ok { OnOk result (Contains self.new number) }
         ensures err { OnErr result (self.new ≡ self.old) }
@@ -87,7 +87,7 @@ impl Marks {
     /// # Errors
     /// `AllocError` if out of memory. The set is unchanged.
     pub fn add_all(&mut self, numbers: &[u32]) -> Result<(), AllocError>
-        ensures more { HasMore self.old self.new }
+        ensures more { HasMoreMarks self.old self.new }
         ensures ok { OnOk result ((n : ℕ) → Contains numbers.now n → Contains self.new n) }
         ensures err { OnErr result (self.new ≡ self.old) }
     {

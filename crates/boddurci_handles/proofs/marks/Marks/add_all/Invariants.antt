@@ -1,10 +1,10 @@
 use Rattle.std.proofs.Common.{◌<◌, ℕ, get_or}
 use Rattle.std.specs.List.{Contains}
-use Rattle.boddurci_marks.specs.Marks.{HasMore}
-use Rattle.boddurci_marks.proofs.marks.Marks.add_all.Given as goal
+use Rattle.boddurci_handles.specs.Marks.{HasMoreMarks}
+use Rattle.boddurci_handles.proofs.marks.Marks.add_all.Given as goal
 
 abbrev pub invariant-loop-number : goal.invariant-loop-number
 invariant-loop-number l = record {
-  more : HasMore l.initial.self l.self;
+  more : HasMoreMarks l.initial.self l.self;
   each : (k : ℕ) → k < l.number-index → Contains l.self (get_or l.numbers k 0);
 }

@@ -13,7 +13,7 @@ pub record AreMarked (marked : List Bool) (numbers : List ℕ) : Type 0 where
   pub once : (i j : ℕ) → i < j → j < length numbers → get_or numbers i 0 ≡ get_or numbers j 0 → ⊥
 
 -- the new list extends the old one
-pub record HasMore (old new : List ℕ) : Type 0 where
+pub record HasMoreMarks (old new : List ℕ) : Type 0 where
   pub more : List ℕ
   pub is : new ≡ old ++ more
 
@@ -32,9 +32,9 @@ abbrev pub CoversTwins : Database → List (ℕ × Content) → List ℕ → Typ
 CoversTwins db twins marks = All (λ (e : ℕ × Content). Contains marks e.0 ⊎ (e.1.pairs ≡ pairs_at db e.0)) twins
 
 -- each page whose pairs a change replaces has a mark
-abbrev pub Covers : Database → ℕ → Option PageChange → List ℕ → Type 0
-Covers db number None marks = Unit {0}
-Covers db number (Some change) marks = Contains marks number × CoversTwins db change.twins marks
+abbrev pub CoversChange : Database → ℕ → Option PageChange → List ℕ → Type 0
+CoversChange db number None marks = Unit {0}
+CoversChange db number (Some change) marks = Contains marks number × CoversTwins db change.twins marks
 
 -- each mark is one of these numbers
 abbrev pub AreAmong : List ℕ → List ℕ → Type 0

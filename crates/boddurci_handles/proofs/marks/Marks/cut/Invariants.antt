@@ -1,6 +1,6 @@
 use Rattle.std.proofs.Common.{◌≡◌, length, take}
-use Rattle.boddurci_marks.specs.Marks.{AreMarked}
-use Rattle.boddurci_marks.proofs.marks.Marks.cut.Given as goal
+use Rattle.boddurci_handles.specs.Marks.{AreMarked}
+use Rattle.boddurci_handles.proofs.marks.Marks.cut.Given as goal
 
 abbrev pub invariant-loop-self : goal.invariant-loop-self
 invariant-loop-self l = record {

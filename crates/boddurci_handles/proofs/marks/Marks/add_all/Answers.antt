@@ -1,7 +1,7 @@
 use Rattle.std.proofs.Common.{ℕ, get_or, arith, below_more}
 use Rattle.std.specs.List.{Contains}
-use Rattle.boddurci_marks.proofs.Marked.{more_still, still, each_there}
-use Rattle.boddurci_marks.proofs.marks.Marks.add_all.Goals as goal
+use Rattle.boddurci_handles.proofs.Marked.{more_still, still, each_there}
+use Rattle.boddurci_handles.proofs.marks.Marks.add_all.Goals as goal
 
 pub loop-number-preserved : goal.loop-number-preserved
 loop-number-preserved c =

@@ -5,7 +5,7 @@ ghost use Rattle.std.specs.Option.{option_map};
 ghost use Rattle.sdbm_files.specs.Limits.{most_pages};
 ghost use Rattle.store_moves.specs.Works.{change_of, pairs_lent};
 ghost use Rattle.sdbm_addr.specs.Database.{pairs_at};
-ghost use Rattle.boddurci_marks.specs.Growth.{has_pairs, has_room, may_grow, most_in};
+ghost use Rattle.boddurci_handles.specs.Growth.{has_pairs, has_room, may_grow, most_in};
 
 use sdbm_addr::PageSize;
 use sdbm_files::Image;

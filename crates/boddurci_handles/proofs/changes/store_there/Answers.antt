@@ -3,8 +3,8 @@ use Rattle.std.specs.declared.alloc.Global.{Global}
 use Rattle.store_cmd.specs.declared.Command.TheVariants.{Store}
 use Rattle.store_cmd.specs.declared.Reply.TheVariants.{Stored}
 use Rattle.store_cmd.specs.declared.Entry.{Entry}
-use Rattle.boddurci_marks.proofs.Marked.{differ_done}
-use Rattle.boddurci_marks.proofs.changes.store_there.Goals as goal
+use Rattle.boddurci_handles.proofs.Marked.{differ_done}
+use Rattle.boddurci_handles.proofs.changes.store_there.Goals as goal
 
 pub returns-then-act_store-clause-done : goal.returns-then-act_store-clause-done
 returns-then-act_store-clause-done c = λ is. c.if-act_store.ensures.done refl 0

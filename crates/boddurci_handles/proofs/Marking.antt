@@ -4,7 +4,7 @@ use Rattle.std.specs.List.{Contains}
 use Rattle.std.proofs.lemmas.Bool.{cases_eq, cases_lt, false_from_ne_true}
 use Rattle.std.proofs.lemmas.List.{get_or_append_left, get_or_push, get_or_past}
 use Rattle.std.proofs.lemmas.List.Elements.{Contains-append_left, Contains-append_right, Contains-append_cases}
-use Rattle.boddurci_marks.specs.Marks.{AreMarked}
+use Rattle.boddurci_handles.specs.Marks.{AreMarked}
 
 module _ (old new : List Bool) (numbers : List ℕ) where
   pub marked_same : ((n : ℕ) → get_or new n false ≡ get_or old n false) → AreMarked old numbers → AreMarked new numbers

@@ -6,8 +6,8 @@ use Rattle.store_cmd.specs.declared.Entry.{Entry}
 use Rattle.std.proofs.Common.{subst}
 use Rattle.bpf_verify.specs.Verified.{Accepted}
 use Rattle.store_moves.specs.Acts.{Acts}
-use Rattle.boddurci_marks.proofs.Marked.{differ_done}
-use Rattle.boddurci_marks.proofs.changes.run_there.Goals as goal
+use Rattle.boddurci_handles.proofs.Marked.{differ_done}
+use Rattle.boddurci_handles.proofs.changes.run_there.Goals as goal
 
 pub returns-in-Some-clause-differ : goal.returns-in-Some-clause-differ
 returns-in-Some-clause-differ c =

@@ -7,9 +7,9 @@ use Rattle.sdbm_addr.specs.Pairs.{Content}
 use Rattle.sdbm_addr.specs.Database.{pairs_at}
 use Rattle.sdbm_split.specs.declared.Plan.{Plan}
 use Rattle.store_moves.specs.Works.{change_of}
-use Rattle.boddurci_marks.specs.Marks.{Covers, CoversTwins}
-use Rattle.boddurci_marks.proofs.Marked.{more_still, still}
-use Rattle.boddurci_marks.proofs.changes.mark_change.Goals as goal
+use Rattle.boddurci_handles.specs.Marks.{CoversChange, CoversTwins}
+use Rattle.boddurci_handles.proofs.Marked.{more_still, still}
+use Rattle.boddurci_handles.proofs.changes.mark_change.Goals as goal
 
 pub loop-twin-preserved : goal.loop-twin-preserved
 loop-twin-preserved c =
@@ -28,5 +28,5 @@ loop-twin-preserved c =
 
 pub returns-clause-covers : goal.returns-clause-covers
 returns-clause-covers c =
-    subst (λ (change : Option (Plan Global)). Covers c.args.image.now c.args.number (option_map change_of change) c.loop-twin.marks) (sym c.in-Some.is)
+    subst (λ (change : Option (Plan Global)). CoversChange c.args.image.now c.args.number (option_map change_of change) c.loop-twin.marks) (sym c.in-Some.is)
     (c.loop-twin.invariant.own, subst (λ (twins : List (ℕ × Content)). CoversTwins c.args.image.now twins c.loop-twin.marks) c.as_slice-twin-items.ensures.value (λ k d low. c.loop-twin.invariant.each k (omega (arith, low, c.loop-twin-test.false)) d))

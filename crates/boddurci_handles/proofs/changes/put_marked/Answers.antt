@@ -1,7 +1,7 @@
-use Rattle.boddurci_marks.proofs.Marked.{differ_put}
+use Rattle.boddurci_handles.proofs.Marked.{differ_put}
 use Rattle.std.specs.Option.{option_map}
 use Rattle.store_moves.specs.Works.{change_of}
-use Rattle.boddurci_marks.proofs.changes.put_marked.Goals as goal
+use Rattle.boddurci_handles.proofs.changes.put_marked.Goals as goal
 
 pub returns-in-Ok-put_in-clause-differ : goal.returns-in-Ok-put_in-clause-differ
 returns-in-Ok-put_in-clause-differ c =

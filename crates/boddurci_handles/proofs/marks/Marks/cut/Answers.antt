@@ -1,8 +1,8 @@
 use Rattle.std.proofs.Common.{◌≡◌, ◌∷◌, ◌++◌, [], ◌∙◌, ℕ, List, take, sym, ap, subst, arith}
 use Rattle.std.proofs.lemmas.List.{take-append-le}
-use Rattle.boddurci_marks.specs.Marks.{AreMarked}
-use Rattle.boddurci_marks.proofs.Marking.{marked_less}
-use Rattle.boddurci_marks.proofs.marks.Marks.cut.Goals as goal
+use Rattle.boddurci_handles.specs.Marks.{AreMarked}
+use Rattle.boddurci_handles.proofs.Marking.{marked_less}
+use Rattle.boddurci_handles.proofs.marks.Marks.cut.Goals as goal
 
 pub loop-self-preserved-in-Some : goal.loop-self-preserved-in-Some
 loop-self-preserved-in-Some c =

@@ -11,7 +11,7 @@ ghost use Rattle.store_cmd.specs.declared.Reply.TheVariants.{Stored};
 ghost use Rattle.store_moves.specs.Acts.{Acts};
 ghost use Rattle.store_moves.specs.Leads.{FillsNone, MayChange, changed_by};
 ghost use Rattle.store_moves.specs.Works.{change_of};
-ghost use Rattle.boddurci_marks.specs.Marks.{HasMore, DifferOn, Covers};
+ghost use Rattle.boddurci_handles.specs.Marks.{HasMoreMarks, DifferOn, CoversChange};
 
 use crate::growth::has_pairs;
 use crate::marks::Marks;
@@ -43,8 +43,8 @@ fn mark_change(
     number: u32,
     change: &Option<Plan<Global>>,
 ) -> Result<(), AllocError>
-    ensures more { HasMore marks.old marks.new }
-    ensures covers { OnOk result (Covers image.now number (option_map change_of change.now) marks.new) }
+    ensures more { HasMoreMarks marks.old marks.new }
+    ensures covers { OnOk result (CoversChange image.now number (option_map change_of change.now) marks.new) }
 {
     let Some(plan) = change else {
         return Ok(());
@@ -72,7 +72,7 @@ pub fn put_marked(
     requires { MayChange image.old place.page (option_map change_of change) }
     ensures ok { OnOk result (image.new ≡ changed_by image.old place.page (option_map change_of change)) }
     ensures differ { OnOk result ((base : Database) → DifferOn marks.old base image.old → DifferOn marks.new base image.new) }
-    ensures more { OnOk result (HasMore marks.old marks.new) }
+    ensures more { OnOk result (HasMoreMarks marks.old marks.new) }
     ensures returned { IfErr result (λ refused. refused.1 ≡ change) }
     ensures err { OnErr result (image.new ≡ image.old) }
     ensures kept { OnErr result (marks.new ≡ marks.old) }
@@ -105,7 +105,7 @@ pub fn store_there(
     ensures done { result ≡ true → Acts {A = Global} image.old (record { session = 0; command = Store key.now value.now mode; reply = Stored }) image.new }
     ensures fills { result ≡ true → FillsNone image.old image.new }
     ensures differ { result ≡ true → (base : Database) → DifferOn marks.old base image.old → DifferOn marks.new base image.new }
-    ensures more { result ≡ true → HasMore marks.old marks.new }
+    ensures more { result ≡ true → HasMoreMarks marks.old marks.new }
     ensures none { result ≡ false → image.new ≡ image.old }
     ensures kept { result ≡ false → marks.new ≡ marks.old }
 {
@@ -139,7 +139,7 @@ pub fn run_there(
     ensures done { IfSome result (λ reply. Acts image.old (record { session = 0; command = Run key.now (arc_value program.now).code arg.now blank now; reply = reply }) image.new) }
     ensures fills { IfSome result (λ _. FillsNone image.old image.new) }
     ensures differ { IfSome result (λ _. (base : Database) → DifferOn marks.old base image.old → DifferOn marks.new base image.new) }
-    ensures more { IfSome result (λ _. HasMore marks.old marks.new) }
+    ensures more { IfSome result (λ _. HasMoreMarks marks.old marks.new) }
     ensures none { IfNone result (image.new ≡ image.old) }
     ensures kept { IfNone result (marks.new ≡ marks.old) }
 {

@@ -18,15 +18,15 @@ use Rattle.store_moves.specs.Acts.{Acts}
 use Rattle.store_moves.specs.Leads.{IsPlaceOf, FillsNone, changed_by}
 use Rattle.store_moves.specs.Works.{key_of, HasKey}
 use Rattle.store_moves.proofs.Parts.{IsAlikeAt, acts_alike, pairs_beside}
-use Rattle.boddurci_marks.specs.Marks.{HasMore, DifferOn, Covers}
+use Rattle.boddurci_handles.specs.Marks.{HasMoreMarks, DifferOn, CoversChange}
 
-pub still : (old new : List ℕ) → HasMore old new → (n : ℕ) → Contains old n → Contains new n
+pub still : (old new : List ℕ) → HasMoreMarks old new → (n : ℕ) → Contains old n → Contains new n
 still old new more n there = subst (λ (l : List ℕ). Contains l n) (sym more.is) (Contains-append_left old more.more n there)
 
-pub no_more : (marks : List ℕ) → HasMore marks marks
+pub no_more : (marks : List ℕ) → HasMoreMarks marks marks
 no_more marks = record { more = []; is = sym (append-nil marks) }
 
-pub more_still : (old mid new : List ℕ) → HasMore old mid → HasMore mid new → HasMore old new
+pub more_still : (old mid new : List ℕ) → HasMoreMarks old mid → HasMoreMarks mid new → HasMoreMarks old new
 more_still old mid new first second = record { more = first.more ++ second.more; is = second.is ∙ (ap (λ (l : List ℕ). l ++ second.more) first.is ∙ append_assoc old first.more second.more) }
 
 bare_before : (old more : List ℕ) → old ++ more ≡ [] → old ≡ []
@@ -37,7 +37,7 @@ nothing_in : (marks : List ℕ) (n : ℕ) → marks ≡ [] → Contains marks n 
 nothing_in marks n bare there = let in_none : Contains [] n = subst (λ (l : List ℕ). Contains l n) bare there in omega (arith, in_none.1)
 
 -- more pages may be marked
-pub differ_more : (base db : Database) (old new : List ℕ) → HasMore old new → DifferOn old base db → DifferOn new base db
+pub differ_more : (base db : Database) (old new : List ℕ) → HasMoreMarks old new → DifferOn old base db → DifferOn new base db
 differ_more base db old new more differ = record {
   kind = differ.kind;
   size = differ.size;
@@ -61,7 +61,7 @@ twins_kept pages (e ∷ es) n old is all =
     at false t = is
 
 -- a page without a mark has the same pairs after a change
-pub page_kept : (db : Database) (number : ℕ) (change : Option PageChange) (marks : List ℕ) → Covers db number change marks → (n : ℕ) → (Contains marks n → ⊥) → pairs_at (changed_by db number change) n ≡ pairs_at db n
+pub page_kept : (db : Database) (number : ℕ) (change : Option PageChange) (marks : List ℕ) → CoversChange db number change marks → (n : ℕ) → (Contains marks n → ⊥) → pairs_at (changed_by db number change) n ≡ pairs_at db n
 page_kept db number None marks covers n none = refl
 page_kept db number (Some change) marks covers n none =
     twins_kept (put_page db.pages number change.leaf.pairs) change.twins n (pairs_at db n) (pairs-put_page db.pages number change.leaf.pairs n ∙ at (eqb n number) refl) (λ k d low is. elim (covers.1 k d low) [
@@ -81,13 +81,13 @@ size_kept : (db : Database) (number : ℕ) (change : Option PageChange) → (cha
 size_kept db number None = refl
 size_kept db number (Some change) = refl
 
-unchanged : (db : Database) (number : ℕ) (change : Option PageChange) (marks : List ℕ) → Covers db number change marks → marks ≡ [] → changed_by db number change ≡ db
+unchanged : (db : Database) (number : ℕ) (change : Option PageChange) (marks : List ℕ) → CoversChange db number change marks → marks ≡ [] → changed_by db number change ≡ db
 unchanged db number None marks covers bare = refl
 unchanged db number (Some change) marks covers bare = absurd (nothing_in marks number bare covers.0)
 
-module _ (db db' : Database) (old new : List ℕ) (more : HasMore old new) where
+module _ (db db' : Database) (old new : List ℕ) (more : HasMoreMarks old new) where
   -- the pages put in are marked
-  pub differ_put : (number : ℕ) (change : Option PageChange) → db' ≡ changed_by db number change → Covers db number change new → (base : Database) → DifferOn old base db → DifferOn new base db'
+  pub differ_put : (number : ℕ) (change : Option PageChange) → db' ≡ changed_by db number change → CoversChange db number change new → (base : Database) → DifferOn old base db → DifferOn new base db'
   differ_put number change is covers base differ = record {
     kind = ap (λ (d : Database). d.kind) is ∙ (kind_kept db number change ∙ differ.kind);
     size = ap (λ (d : Database). d.size) is ∙ (size_kept db number change ∙ differ.size);

@@ -11,7 +11,9 @@ use dbm_args::Form;
 use dbm_reports::{
     Given, Notes, Report, ReportFault, key_bytes_of, open, page_size_of, read_input,
 };
-use dbm_script::{LineKind, Notation, ScriptRun, TimeOfDay, read_number, run_spelled, spell_out};
+use dbm_script::{
+    BadLines, LineKind, Notation, ScriptRun, TimeOfDay, read_number, run_spelled, spell_out,
+};
 use sdbm_files::Image;
 use std::alloc::Global;
 use std::io::Read;
@@ -133,7 +135,10 @@ fn play_strictly(
     let lines = spell_out(alloc, LineKind::OfScript, time, script)?;
     let bad = has_bad_line(alloc, notation, lines.as_slice())?;
     if bad {
-        let bad_lines = find_bad_lines(alloc, notation, lines.as_slice())?;
+        // The note is missing if memory runs out.
+        let bad_lines = find_bad_lines(alloc, notation, lines.as_slice()).unwrap_or(
+            BadLines::none(),
+        );
         return Ok(Report {
             text: Vec::new(alloc),
             status: BARRED,

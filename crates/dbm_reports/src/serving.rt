@@ -68,6 +68,7 @@ pub fn write_report<F: Drop, W: Write>(
     ensures ok { IfOk result (λ outcome. IsPrinted (λ told. told ≡ report) (W.contents writer.old) (W.contents writer.new) outcome.status outcome.database) }
     ensures fault { IfErr result (IsUnserved (λ told. told ≡ report) (λ fault. ⊥) (W.contents writer.old) (W.contents writer.new)) }
     ensures database { IfOk result (λ outcome. outcome.database ≡ report.database) }
+    ensures notes { IfOk result (λ outcome. outcome.notes ≡ report.notes) }
 {
     let Ok(()) = write_all(writer, report.text.as_slice()) else {
         return Err(Unserved::Write);

@@ -1,5 +1,5 @@
 //! Counts the lines of a script that are not commands.
-ghost use Rattle.std.specs.Prelude.{◌≡◌, true};
+ghost use Rattle.std.specs.Prelude.{◌≡◌, ◌+◌, ◌<◌, false, true};
 
 /// The lines of a script that are not commands, such as a misspelled one. They are answered by `bad line`.
 #[derive(Clone, Copy, Debug, PartialEq, Eq)]
@@ -39,6 +39,7 @@ impl LineCount {
     /// Counts the next line, which is a command or not.
     pub fn add(&mut self, is_command: bool)
         ensures command { is_command ≡ true → self.new.bad ≡ self.old.bad }
+        ensures bad { is_command ≡ false → self.old.bad.count < 18446744073709551615 → self.new.bad.count ≡ self.old.bad.count + 1 }
     {
         self.lines = self.lines.saturating_add(1);
         if is_command {

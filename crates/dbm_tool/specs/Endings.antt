@@ -1,7 +1,8 @@
 -- The exit status of the program.
-use Rattle.std.specs.Prelude.{◌≡◌, ◌⊎◌, ℕ}
+use Rattle.std.specs.Prelude.{◌≡◌, ◌⊎◌, ℕ, Option, Some, None, Result, Ok, Err}
 use Rattle.dbm_command_line.specs.Wishes.{IsAnswer}
 use Rattle.dbm_command_line.specs.declared.fault.ToolFault.{ToolFault}
+use Rattle.dbm_tool.specs.declared.ending.Served.{Served as ServedRequest}
 use Rattle.dbm_tool.specs.declared.ending.Ending.{Ending}
 use Rattle.dbm_tool.specs.declared.ending.Ending.TheVariants.{Served, Refused, Failed}
 use Rattle.dbm_messages.specs.declared.fault.ServeFault.{ServeFault}
@@ -15,6 +16,12 @@ abbrev pub IsExitStatus : Ending → ℕ → Type 0
 IsExitStatus (Served served) status = status ≡ served.status
 IsExitStatus (Refused fault) status = IsRefusalStatus fault status
 IsExitStatus (Failed fault) status = status ≡ 2
+
+-- How a run ends after its request: it was served; or the reader of the answer is gone, which has the status 0; or it failed.
+abbrev pub IsEndingOf : Result (Option ServedRequest) ServeFault → Ending → Type 0
+IsEndingOf (Ok (Some served)) ending = ending ≡ Served served
+IsEndingOf (Ok None) ending = IsExitStatus ending 0
+IsEndingOf (Err fault) ending = ending ≡ Failed fault
 
 -- Printing an ending leaves it unchanged, except a refusal or help that cannot be printed.
 abbrev pub IsEndingTold : Ending → Ending → Type 0

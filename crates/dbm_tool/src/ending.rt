@@ -1,6 +1,6 @@
 //! How a run of the program ends.
 ghost use Rattle.std.specs.Prelude.{◌≡◌};
-ghost use Rattle.dbm_tool.specs.Endings.{IsExitStatus, IsRefusalStatus};
+ghost use Rattle.dbm_tool.specs.Endings.{IsEndingOf, IsExitStatus, IsRefusalStatus};
 
 use dbm_command_line::ToolFault;
 use dbm_messages::ServeFault;
@@ -38,6 +38,8 @@ impl Served {
     pub fn of(outcome: &Outcome, refusal: Option<String>, is_pending: bool) -> Served
         ensures status { result.status ≡ outcome.now.status }
         ensures notes { result.notes ≡ outcome.now.notes }
+        ensures refusal { result.refusal ≡ refusal }
+        ensures pending { result.is_pending ≡ is_pending }
     {
         Served {
             status: outcome.status,
@@ -51,6 +53,8 @@ impl Served {
     pub fn on_page(page: &PageResult, refusal: Option<String>, is_pending: bool) -> Served
         ensures status { result.status ≡ page.now.status }
         ensures notes { result.notes ≡ page.now.notes }
+        ensures refusal { result.refusal ≡ refusal }
+        ensures pending { result.is_pending ≡ is_pending }
     {
         Served {
             status: page.status,
@@ -70,6 +74,19 @@ pub enum Ending {
     Refused(ToolFault),
     /// The request failed.
     Failed(ServeFault),
+}
+
+impl Ending {
+    /// How a run ends after its request. `None` means that the reader of the answer is gone, which is no fault.
+    pub fn of(outcome: Result<Option<Served>, ServeFault>) -> Ending
+        ensures { IsEndingOf outcome result }
+    {
+        match outcome {
+            Ok(Some(served)) => Ending::Served(served),
+            Ok(None) => Ending::Served(Served::plain(0)),
+            Err(fault) => Ending::Failed(fault),
+        }
+    }
 }
 
 /// The exit status of the program: that of the served request, 0 if the words requested help or the version, and 2

@@ -39,6 +39,7 @@ use sdbm_saves::ReadFiles;
 use serve::serve;
 use sizes::{must_be_wide, refuse_small};
 use std::alloc::{AllocError, Global};
+use std::env::VarError;
 use std::fs::File;
 use std::io::{ErrorKind, Read, Write};
 use std::process::ExitCode;
@@ -102,14 +103,15 @@ fn words_meant<'a, R: Runtime + AllocGlobal>(
 ) -> Result<Vec<&'a str>, AllocError> {
     let alloc = rt.alloc();
     let words = words_after_name(alloc, args, false)?;
-    if !is_on(rt, "DBM_TEXT") {
+    if !is_on(rt, "DBM_TEXT")? {
         return Ok(words);
     }
     let with_text = words_after_name(alloc, args, true)?;
-    if read_words(alloc, with_text.as_slice()).is_ok() {
-        return Ok(with_text);
+    match read_words(alloc, with_text.as_slice()) {
+        Ok(_) => Ok(with_text),
+        Err(ToolFault::NoMemory) => Err(AllocError),
+        Err(_) => Ok(words),
     }
-    Ok(words)
 }
 
 // The words after the program's name, with `--text` after the name of the subcommand if `is_text`.
@@ -137,20 +139,16 @@ fn serve_and_tell<R: Runtime<File = File> + AllocGlobal + Threads + Wait + Sync>
     let records = !matches!(request.ask, Ask::Wish(Wish::Load(_)) | Ask::Session(_));
     let input = ProgressReader::new(rt, rt.reader(), work_asked(&request.ask));
     let mut reader = RecordingReader::new(rt.alloc(), input, records);
-    match serve_request(rt, request, &mut reader) {
-        Ok(Some(served)) => {
-            note(rt, &context, &served, reader.text());
-            Ending::Served(served)
-        }
-        Ok(None) => Ending::Served(Served::plain(0)),
-        Err(fault) => {
-            let ending = tell(rt, Some(&context), Ending::Failed(fault));
-            if matches!(fault, ServeFault::BadLine(_)) {
-                note_line_end(rt, LineKind::OfBatch, reader.text());
-            }
-            ending
-        }
+    let outcome = serve_request(rt, request, &mut reader);
+    if let Ok(Some(served)) = &outcome {
+        note(rt, &context, served, reader.text());
     }
+    let is_bad_line = matches!(outcome, Err(ServeFault::BadLine(_)));
+    let ending = tell(rt, Some(&context), Ending::of(outcome));
+    if is_bad_line {
+        note_line_end(rt, LineKind::OfBatch, reader.text());
+    }
+    ending
 }
 
 // The refusal of the same words with `\n` for each line feed, if one has a line feed. `clap` shows words unchanged, and a word must not be
@@ -310,7 +308,7 @@ fn take_asked<R: Runtime<File = File> + AllocGlobal>(
     access: Access<'_>,
     taking: Taking<'_>,
 ) -> Result<RunFiles, ServeFault> {
-    let peeks = may_be_quick(ask) && (access.quick || is_on(rt, "DBM_QUICK"));
+    let peeks = may_be_quick(ask) && (access.quick || is_on(rt, "DBM_QUICK")?);
     let Taking { place, patience } = taking;
     let work = work_asked(ask);
     Ok(take_and_tell(rt, place, peeks, patience, access.verbose, work)?)
@@ -324,10 +322,11 @@ struct Taking<'a> {
 }
 
 // Returns `true` if a variable of the environment is `1`.
-fn is_on<R: Runtime + AllocGlobal>(rt: &R, name: &str) -> bool {
+fn is_on<R: Runtime + AllocGlobal>(rt: &R, name: &str) -> Result<bool, AllocError> {
     match env::var(rt, name) {
-        Ok(word) => word.as_str() == "1",
-        Err(_) => false,
+        Ok(word) => Ok(word.as_str() == "1"),
+        Err(VarError::OutOfMemory) => Err(AllocError),
+        Err(_) => Ok(false),
     }
 }
 

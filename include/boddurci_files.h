@@ -40,9 +40,9 @@
  * BASE.redo, BASE.lock and BASE.writer must be files with one name, owned by you, by root or by the owner of BASE.pag, and writable only
  * for users who may write BASE.pag; otherwise the result is BODDURCI_UNSAFE. (A reader ignores a BASE.writer that is not such a file.) A
  * lock may also belong to a user who may write BASE.pag, by its group or because all may. After UNSAFE look who has made the file, and
- * remove it if you do not trust that user. If a redo file belongs to a user you trust, let that user's next command recover it, or give it to the owner of
- * BASE.pag: the data files may hold half of its saves. Closing a base removes a redo file that could not get the owner, the group and the
- * permissions of BASE.pag, so only a killed process leaves one.
+ * remove it if you do not trust that user. If a redo file belongs to a user you trust, let that user's next command recover it, or give it
+ * to the owner of BASE.pag: the data files may hold half of its saves. Closing a base removes a redo file that could not get the owner, the
+ * group and the permissions of BASE.pag, so only a killed process leaves one.
  *
  * A base belongs to the process that has opened it. In a child that this process forks, boddurci_save is BODDURCI_FORKED, boddurci_take
  * returns NULL, boddurci_give does nothing, and boddurci_close_files only frees memory: the locks stay with the parent.

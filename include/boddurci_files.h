@@ -39,10 +39,10 @@
  *
  * BASE.redo, BASE.lock and BASE.writer must be files with one name, owned by you, by root or by the owner of BASE.pag, and writable only
  * for users who may write BASE.pag; otherwise the result is BODDURCI_UNSAFE. (A reader ignores a BASE.writer that is not such a file.) A
- * lock may also belong to a user who may write BASE.pag, by its group or because all may. Then look who has made it, and remove it if you
- * do not trust that user. If a redo file belongs to a user you trust, let that user's next command recover it, or give it to the owner of
- * BASE.pag: the data files may hold half of its saves. Closing a base removes a redo file that could not get the owner, the group and the
- * permissions of BASE.pag, so only a killed process leaves one.
+ * lock may also belong to a user who may write BASE.pag, by its group or because all may. After UNSAFE look who has made the file, and
+ * remove it if you do not trust that user. If a redo file belongs to a user you trust, let that user's next command recover it, or give it
+ * to the owner of BASE.pag: the data files may hold half of its saves. Closing a base removes a redo file that could not get the owner, the
+ * group and the permissions of BASE.pag, so only a killed process leaves one.
  *
  * A base belongs to the process that has opened it. In a child that this process forks, boddurci_save is BODDURCI_FORKED, boddurci_take
  * returns NULL, boddurci_give does nothing, and boddurci_close_files only frees memory: the locks stay with the parent.
@@ -146,10 +146,10 @@ void boddurci_give(boddurci_base *base);
  *
  * Costs. A save is one sync and a few writes. The opening has opened the log, with room for 1 MiB, or 64 KiB if the disk or the process has
  * no more. A log that saves fill within a second gets 4 MiB, if there is room. A save takes some more syncs if it finds the log full and
- * empties it, if .pag or .dir gets shorter, or if it is the first of a
- * new database. It reads .dir and the pages that may have changed: the cost depends on the changes, not on the size of the base. But if a
- * time of a file differs from the one that this base has left or read, or if the base began with BODDURCI_EMPTY, it reads and compares both
- * files whole. A page on which a run has saved nothing counts as one that may have changed. The save holds the mutex while it compares
+ * empties it, if .pag or .dir gets shorter, or if it is the first of a new database. It reads .dir and the pages that may have changed: the
+ * cost depends on the changes, not on the size of the base. But if a time of a file differs from the one that this base has left or read, or
+ * if the base began with BODDURCI_EMPTY, it reads and compares both files whole. A page on which a program ran counts as one that may have
+ * changed, even if the program saved nothing. The save holds the mutex while it compares
  * pages, and not while it reads and writes them. (If other threads change more pages than it can follow, three times in succession, it
  * reads once under the mutex.) Changes that other threads make meanwhile are in the next save.
  *
@@ -157,16 +157,16 @@ void boddurci_give(boddurci_base *base);
  * The text says what was found: another length, a file that was made, a later write, or a page with other bytes. Each later save is CHANGED
  * too, until boddurci_save_with overwrites the files by BODDURCI_INSIST. To keep the data of the other program, close the base and open it
  * again. Nothing is merged. A new file without bytes is no change, nor are another owner, mode or link, nor a new time alone (touch) if
- * this base has changed no page. A write during the sync of a save is a change for the next one. A write within the same tick of the clock
+ * this base has changed no page. A write during the sync of a save makes the next save CHANGED. A write within the same tick of the clock
  * (some milliseconds) as a save of this base may not be seen. On a file system that takes its times from elsewhere, such as NFS, SMB and
  * FUSE, saves compare pages and not times, so a write on a page that this base has changed too is not seen.
  *
  * Threads may save at the same time, each after its own changes. A call returns the outcome of a save that began after the call, so its
  * changes are in that save. A save waits for readers that have BASE.lock. Calls that come during a save wait until it has ended. Then one
  * of them saves for all that wait, and all of them return the status and the fault of that save: after a fault each may save again. No
- * thread is served twice while another one waits. A single thread waits for nobody. A thread that is cancelled returns from its call first.
- * While saves take less than half a millisecond, a thread that waits looks for the end again and again and yields the processor, for twice
- * as long as the last save took; then it sleeps. Under SCHED_FIFO a thread yields only to threads of its own priority.
+ * thread is served twice while another one waits. A single thread waits for nobody. A cancellation takes effect only after the call.
+ * While saves take less than half a millisecond, a waiting thread polls for the end and yields the processor, for twice as long as the last
+ * save took; then it sleeps. Under SCHED_FIFO a thread yields only to threads of its own priority.
  *
  * Full disks. Both files get the blocks that they need before the save counts, if the file system can allocate them. So a full disk is
  * FILE_FAILED with nothing changed. So is a save that would make one of the three files longer than the process may (RLIMIT_FSIZE), and it
@@ -208,8 +208,8 @@ void boddurci_close_files(boddurci_base *base);
  * costs one sync. The log stays open between the calls of all processes, with its mark; a note in its header tells the next call where it
  * ends. These calls take longer, and as much memory as opening the base:
  *
- * - a change that one page is not enough for, or that the last page of .pag would be empty after, opens the whole base, and so does any call
- *   on files that this library has not written, or that have a .dir of more than 256 KiB;
+ * - a change for which one page is not enough, or after which the last page of .pag would be empty, opens the whole base; so does any call on
+ *   files that this library has not written, or that have a .dir of more than 256 KiB;
  * - the first call after a process was killed in the middle of a call, or after the system was started again, recovers the log, and a
  *   change after a command of dbm, a service or Perl begins a new log, with some syncs;
  * - a change by a user who may write .pag and does not own it, if BASE.redo is missing, makes and removes it: this user cannot give it to

@@ -28,7 +28,7 @@ struct reading {
     size_t length;
     size_t directory_length; /* when the save looked at the files */
     struct numbers listed;
-    struct numbers own; /* if the pages are compared: those that may have changed when the plan was made */
+    struct numbers own; /* the pages that may have changed when the plan was made; only if pages are compared */
     uint8_t *pages;
     size_t size; /* of a page */
 };
@@ -49,7 +49,7 @@ static void end_reading(struct reading *reading)
     reading->pages = NULL;
 }
 
-/* Clears a reading whose contents now belong to another one. Keeps the lengths of the files and the page size. */
+/* Clears a reading without freeing its memory, which a copy now owns. Keeps the lengths of the files and the page size. */
 static void forget_reading(struct reading *reading)
 {
     struct reading none = {.length = reading->length, .directory_length = reading->directory_length, .size = reading->size};
@@ -77,7 +77,7 @@ static uint32_t list_changed(boddurci *db, struct numbers *numbers)
     return status;
 }
 
-/* Lists all pages of the file and of the database, and those that may have changed, which may be past both ends. */
+/* Lists all pages of the file and of the database. A page that may have changed is listed even if it is past both ends. */
 static uint32_t list_all(boddurci *db, struct reading *reading)
 {
     boddurci_cursor cursor;
@@ -112,7 +112,7 @@ static const uint8_t *page_in(const struct reading *before, uint32_t number)
     return found != NULL ? before->pages + (size_t)(found - at) * before->size : NULL;
 }
 
-/* The number of listed pages, from one of them on, that are adjacent in the file and were not read before. */
+/* The number of pages that one read can take: listed pages from `first` on that are adjacent in the file and were not read before. */
 static size_t side_by_side(const struct reading *reading, const struct reading *before, size_t first)
 {
     size_t count = 1;
@@ -139,7 +139,7 @@ static uint32_t read_pages(int file, struct reading *reading, const struct readi
     return BODDURCI_DONE;
 }
 
-/* Reads all of .dir. A short one is not mapped: that takes longer than reading it. */
+/* Reads all of .dir. A short .dir is not mapped, because mapping takes longer than reading. */
 static uint32_t read_directory(int file, struct reading *reading, boddurci_fault *fault)
 {
     enum { SHORT = 65536 };
@@ -154,7 +154,7 @@ static uint32_t read_directory(int file, struct reading *reading, boddurci_fault
     return boddurci_read_at(file, 0, directory->at, length) == 0 ? BODDURCI_DONE : boddurci_fail_by_system(fault, "a file cannot be read");
 }
 
-/* Reads the directory, or the listed pages. The files of a base that was saved are open. A missing file has no bytes. */
+/* Reads the directory, or the listed pages. After the first save of a base its files are open already. A missing file has no bytes. */
 static uint32_t read_part(boddurci_base *base, enum boddurci_file which, struct reading *reading, const struct reading *before,
                           boddurci_fault *fault)
 {
@@ -188,9 +188,9 @@ struct saving {
     int insists;                   /* it overwrites the changes of another program */
     int are_names_same;            /* all names lead to the files of the last save */
     int compares;                  /* the pages that the base has not changed must equal those of the file */
-    enum boddurci_change change;   /* how the files differ from the notes */
-    enum boddurci_file which;      /* and which file */
-    struct boddurci_note found[2]; /* the present state of both */
+    enum boddurci_change change;   /* how the files differ from the notes of the last save */
+    enum boddurci_file which;      /* which file differs */
+    struct boddurci_note found[2]; /* the present state of both files */
     struct reading reading;
     struct boddurci_bytes plan;
 };
@@ -210,8 +210,8 @@ static size_t room_of(const struct reading *reading)
     return LEAST + (blocks < MOST ? blocks : MOST) * CHANGE;
 }
 
-/* Makes the plan of a save, after the room that its record needs. It is empty if the files equal the database already. Free it in any
- * case. */
+/* Makes the plan of a save. The first BODDURCI_PLAN_AT bytes of its memory are left free for the log record. The plan is empty if the files
+ * equal the database already. Free it in any case. */
 static uint32_t plan_of(boddurci *db, const struct reading *reading, struct boddurci_bytes *plan)
 {
     const uint8_t *directory = or_none(reading->directory);
@@ -247,8 +247,8 @@ static int read_cached(int file, struct reading *reading, const struct reading *
     return 0;
 }
 
-/* Lists the pages again, and reads those that other threads have changed meanwhile, if that takes no time: the caller has the mutex. Returns
- * 0 if it has, and otherwise changes nothing. */
+/* Lists the pages again, and reads those that other threads have changed meanwhile, if they are in the page cache: the caller has the mutex
+ * and must not wait for the disk. Returns 0 if it has read them; otherwise it changes nothing. */
 static int read_more(boddurci_base *base, struct saving *saving)
 {
     struct reading *before = &saving->reading, more = {.length = before->length, .size = before->size};
@@ -269,7 +269,7 @@ static int read_more(boddurci_base *base, struct saving *saving)
     return is_read;
 }
 
-/* Lists the pages to read, reads them, and plans. It holds the mutex, but not while it reads, unless the caller requests that. */
+/* Lists the pages to read, reads them, and plans. It holds the mutex while it lists and plans; while it reads, only if `holds` is 1. */
 static uint32_t try_plan(boddurci_base *base, struct saving *saving, const struct reading *before, int holds, boddurci_fault *fault)
 {
     boddurci *db = boddurci_take_own(base);
@@ -297,7 +297,7 @@ static uint32_t try_plan(boddurci_base *base, struct saving *saving, const struc
 
 enum { TRIES = 3 };
 
-/* Plans, and again if other threads have changed more pages meanwhile. */
+/* Plans. Starts over if other threads have changed more pages meanwhile; after TRIES attempts it holds the mutex while it reads. */
 static uint32_t plan_now(boddurci_base *base, struct saving *saving, boddurci_fault *fault)
 {
     uint32_t status = BODDURCI_STALE;
@@ -310,7 +310,7 @@ static uint32_t plan_now(boddurci_base *base, struct saving *saving, boddurci_fa
     return status;
 }
 
-/* Marks the pages of a plan that is not carried out as changed; if that fails the next save reads all pages. */
+/* Marks the pages of a plan that was not carried out as changed again. If that fails, the next save reads all pages. */
 static void mark_again(boddurci_base *base, const struct saving *saving)
 {
     const struct numbers *numbers = saving->compares ? &saving->reading.own : &saving->reading.listed;
@@ -321,7 +321,7 @@ static void mark_again(boddurci_base *base, const struct saving *saving)
 
 /* ---- files that another program has changed */
 
-/* Stores how a file was found. */
+/* Writes into `base->change` how another program has changed a file. */
 static void note_change(boddurci_base *base, const struct saving *saving)
 {
     static const char *const names[2] = {"BASE.pag", "BASE.dir"};
@@ -358,8 +358,8 @@ static int has_own_changes(boddurci_base *base)
     return status != BODDURCI_DONE || count != 0;
 }
 
-/* Before any write: checks by lengths and times whether another program has changed the files. If only times differ all pages are compared,
- * unless the other program may have written one that the base has changed. */
+/* Before any write: checks by lengths and times whether another program has changed the files. If only times differ, all pages are compared.
+ * That is not enough if the other program may have written a page that the base has changed too: then the save is refused. */
 static uint32_t must_be_ours(boddurci_base *base, struct saving *saving, boddurci_fault *fault)
 {
     int is_known = base->is_noted || base->doubt != BODDURCI_SAME, is_other = saving->change == BODDURCI_OTHERS;
@@ -373,8 +373,8 @@ static uint32_t must_be_ours(boddurci_base *base, struct saving *saving, boddurc
     return base->change[0] != 0 && !saving->insists ? is_changed(base, fault) : BODDURCI_DONE;
 }
 
-/* Searches a plan for a page that the base has not changed. If the base has changed none, any difference counts. boddurci.h has the form of
- * a plan. */
+/* Searches a plan for a change of another program: a page that the base has not changed, or anything if the base has changed no page.
+ * boddurci.h has the form of a plan. */
 static void compare(boddurci_base *base, const struct saving *saving)
 {
     enum { HEADER = 28, CHANGE = 9 };
@@ -489,7 +489,7 @@ static uint32_t prepare(boddurci_base *base, struct saving *saving, boddurci_fau
     return status;
 }
 
-/* Notes the files after a save. If another program has written during the save, that is a change for the next one. */
+/* Notes the files after a save. If another program has written during the save, the next save reports the change. */
 static void settle(boddurci_base *base, const struct saving *saving, enum boddurci_change again)
 {
     uint64_t lengths[2];
@@ -506,9 +506,9 @@ static void settle(boddurci_base *base, const struct saving *saving, enum boddur
     boddurci_note_saved(&base->notes, &base->logged.disk, lengths);
 }
 
-/* The whole save. If no page has changed and the files match the notes, it reads nothing; only the first save compares the lengths of the
- * files and the directory. If the files equal the database it writes nothing. If another program writes them during the reading, and the
- * save insists, the next save reads all. */
+/* The save, after `prepare`. If no page has changed and the files match the notes, it reads nothing; but the first save compares the lengths
+ * of the files and the directory. If the files equal the database, it writes nothing. If the save insists, and another program has written
+ * the files while they were read, the next save reads all pages. */
 static uint32_t save_prepared(boddurci_base *base, struct saving *saving, boddurci_fault *fault)
 {
     enum boddurci_file which;
@@ -526,7 +526,7 @@ static uint32_t save_prepared(boddurci_base *base, struct saving *saving, boddur
 }
 
 /* Releases BASE.lock after a save. If the log has failed, readers would see files that lack a committed save or have half of one, so the
- * lock stays until a later save has recovered them. After CHANGED the log is closed, and readers see the files that were found. */
+ * lock is held until a later save has recovered them. After CHANGED the log is closed, and readers see what the other program wrote. */
 static void give_files(boddurci_base *base, uint32_t status, int were_kept)
 {
     const struct boddurci_logged *logged = &base->logged;

@@ -22,7 +22,7 @@ static int64_t milliseconds(void)
     return (int64_t)time.tv_sec * 1000 + time.tv_nsec / 1000000;
 }
 
-/* The end of a wait; below 0 if it has none. */
+/* The time at which a wait ends, or -1 for a wait without a limit. */
 static int64_t end_of_wait(const boddurci_shared *shared)
 {
     int64_t wait = __atomic_load_n(&shared->wait, __ATOMIC_RELAXED), start = milliseconds();
@@ -53,8 +53,8 @@ static void give_all(void)
     pthread_mutex_unlock(&all_mutex);
 }
 
-/* Closes the lock files of a base if another thread of the parent was in the middle of a call. That thread may just have closed one of them,
- * and another file may have got its descriptor. So a descriptor is closed only if it is the file under the name of the lock. */
+/* Closes the lock files of a base if another thread of the parent was in the middle of a call. That thread may just have closed a lock file,
+ * and another file may have got its descriptor. So a descriptor is closed only if it still is the file that has the lock's name. */
 static void leave_locks_of_call(struct boddurci_place *place)
 {
     for (enum boddurci_file lock = BODDURCI_LOCK; lock <= BODDURCI_WRITER; lock++)
@@ -63,8 +63,8 @@ static void leave_locks_of_call(struct boddurci_place *place)
     boddurci_drop_locks(place);
 }
 
-/* Closes the locks in a child: the next call opens them again. If another thread was in a call, the base is lost for the child. If that call
- * was on the whole database, the child keeps the locks of the inner base of call_whole, which is not in this list. */
+/* Closes the locks in a child: the next call opens them again. If another thread was in a call, the child cannot use the base. If that call
+ * was on the whole database, the child keeps the locks of the base that call_whole had opened, which is not in the list `all`. */
 static void leave_locks(void)
 {
     for (boddurci_shared *shared = all; shared != NULL; shared = shared->next) {
@@ -146,7 +146,7 @@ static uint32_t open_handle(boddurci_shared *shared, boddurci_fault *fault)
     return status == BODDURCI_DONE ? status : boddurci_fail(fault, status, 0, boddurci_text(status));
 }
 
-/* Opens the files for reading, as a reader of the whole database, and closes them: it checks whether wide pages look small. */
+/* Checks whether the files of a base with wide pages look small: opens them as a reader of the whole database, and closes them. */
 static uint32_t look_at_size(const boddurci_shared *shared, const char *name, boddurci_fault *fault)
 {
     boddurci_base *base;
@@ -173,7 +173,8 @@ static int has_marked(const boddurci_shared *shared)
     return is_marked;
 }
 
-/* Checks that the database exists. After a crash of the machine .pag may exist only in a marked log, from which the first call makes it. */
+/* Checks that the database exists. After a crash of the machine .pag may be missing although a marked log has its bytes; the first call
+ * then makes the file. */
 static uint32_t look_for_pages(boddurci_shared *shared, boddurci_fault *fault)
 {
     int pages;
@@ -279,7 +280,7 @@ static uint32_t begin(boddurci_shared *shared, int64_t end, boddurci_fault *faul
 
 /* ---- the whole database */
 
-/* Writes the name of the base, which leads to the folder that is open even if that was renamed. */
+/* Returns a name of the base that leads to the open folder, even if the folder was renamed. */
 static char *whole_name(const boddurci_shared *shared)
 {
     const char *pages = shared->place.names[BODDURCI_PAGES];
@@ -297,7 +298,7 @@ static char *whole_name(const boddurci_shared *shared)
     return name;
 }
 
-/* Submits the programs again: they get the same numbers. */
+/* Submits all programs of the handle to another database: they get the same numbers there. */
 static uint32_t submit_all(const boddurci_shared *shared, boddurci *db)
 {
     uint8_t text[1];
@@ -326,7 +327,7 @@ static uint32_t answer_whole(const boddurci_shared *shared, boddurci_base *base,
     return status == BODDURCI_DONE ? status : boddurci_fail(fault, status, 0, boddurci_text(status));
 }
 
-/* Opens the whole database for a call, and closes it. It is one step too: nobody else changes the database while it is open. */
+/* Opens the whole database for a call, and closes it. The call is one step too, because nobody else changes the database meanwhile. */
 static uint32_t call_whole(const boddurci_shared *shared, struct boddurci_command *command, int64_t end, boddurci_fault *fault)
 {
     boddurci_base *base;
@@ -359,8 +360,8 @@ static uint32_t change(boddurci_shared *shared, struct boddurci_command *command
     return status == BODDURCI_DONE && is_whole ? call_whole(shared, command, end, fault) : status;
 }
 
-/* Recovers the log, and fetches. If this user may not recover it, or another process has BASE.writer, fetches from the whole database, with
- * the log applied in memory, for which BASE.lock is enough. */
+/* Recovers the log, and fetches. If this user may not recover it, or another process has BASE.writer, it fetches from the whole database and
+ * applies the log in memory, for which BASE.lock is enough. */
 static uint32_t fetch_recovered(boddurci_shared *shared, struct boddurci_command *command, int64_t end, boddurci_fault *fault)
 {
     uint32_t status = BODDURCI_LOCKED;
@@ -372,7 +373,7 @@ static uint32_t fetch_recovered(boddurci_shared *shared, struct boddurci_command
     return call_whole(shared, command, end, fault);
 }
 
-/* A fetch that may have to be made again. */
+/* The state of a fetch, which may have to be repeated. */
 struct fetching {
     boddurci_shared *shared;
     struct boddurci_command *command;
@@ -380,8 +381,8 @@ struct fetching {
     int must_recover, is_whole;
 };
 
-/* Takes BASE.lock for a fetch, if that exists. If a save waits for it, that save goes first; but only until a signal comes, since a wait that
- * begins again after each signal might never end. */
+/* Takes BASE.lock for a fetch, if the file exists. A save that waits for the lock goes first. After a signal, saves no longer go first, since
+ * a wait that begins again after each signal might never end. */
 static uint32_t take_after_saves(struct boddurci_place *place, int64_t end, boddurci_fault *fault)
 {
     uint32_t status = boddurci_take_shared(place, left_of(end), fault);
@@ -408,8 +409,8 @@ static int has_lock(const struct boddurci_place *place)
     return faccessat(place->folder, place->names[BODDURCI_LOCK], F_OK, 0) == 0;
 }
 
-/* Without BASE.lock the fetch is made again if the lock exists by now: the first writer may have made it meanwhile. A log that must be
- * recovered may be that of a service whose save waits for the files, so that save goes first. */
+/* Fetches. If BASE.lock was missing and exists now, the fetch is repeated: the first writer may have come meanwhile. A log that must be
+ * recovered may belong to a service whose save waits for the files, so the fetch is repeated after that save. */
 static uint32_t fetch(boddurci_shared *shared, struct boddurci_command *command, int64_t end, boddurci_fault *fault)
 {
     struct fetching it = {shared, command, end, 0, 0};
@@ -496,7 +497,7 @@ static uint8_t *copy_program(boddurci_shared *shared, const uint8_t *bytes, size
     return copy;
 }
 
-/* Keeps a program that has a new number, for calls on the whole database. */
+/* Stores a copy of a program that got a new number, for calls on the whole database. Otherwise frees the copy. */
 static void keep_program(boddurci_shared *shared, uint32_t number, uint8_t *copy, size_t length, int is_stock)
 {
     if (number != shared->program_count) {

@@ -581,8 +581,8 @@ static int bind_names(void)
 }
 
 #define BIND_TEXT "bind($module, addresses, plain, program, ran, clock, /)\n--\n\n" \
-    "The classes Calls and Lock, over the calls of the library at these addresses and the methods of a class in Python; once in a\n" \
-    "process, since both are of the interpreter that has bound them: later it is None."
+    "Returns the classes Calls and Lock. Calls makes the calls of the library at these addresses, and uses the methods of a class in\n" \
+    "Python for all other calls. A later call in the process returns None: the classes belong to the interpreter that called first."
 
 static PyObject *bind(PyObject *module, PyObject *words)
 {

@@ -1,5 +1,5 @@
-"""Tests of the extension `_boddurci` of boddurci.py: it has the same results as the methods in Python, on random and on unusual calls,
-leaves calls to them when it must, and leaks no reference. test_boddurci.py tests the rest, with the extension and without."""
+"""Tests of `_boddurci`, the extension of boddurci.py. It has the same results as the methods in Python, on random and on unusual calls. It
+passes a call to those methods when it must, and leaks no reference. test_boddurci.py tests the rest, with the extension and without."""
 
 import inspect
 import os
@@ -200,7 +200,7 @@ class Extension(InFolder):
                 db[bytearray(b"a")]
 
     def test_it_is_bound_once(self):
-        """The first interpreter has it."""
+        """Only the first interpreter of a process uses the extension: a second `bind` returns None."""
         import _boddurci
 
         self.assertIsNone(_boddurci.bind())

@@ -1,9 +1,9 @@
-"""Tries the must-fail edits of a proved crate on the work that its proof has left in out/, as many as possible in one check.
+"""Tries the must-fail edits of a proved crate, as many as possible in one check, on the work that its proof has left in out/.
 
-A check continues after a function that it refuses, and names each refused function. An edit changes the body of a function and no contract,
-so edits of different functions are independent: they are applied together, and an edit is refused if its function is. An edit is tried
-by itself if its function is not named, or is refused only since it calls another refused one; if the edit changes text outside function
-bodies; or if it changes a function that another edit changes too.
+A check continues after a function that it refuses, and names each refused function. Most edits change bodies of functions and no
+contract, so edits of different functions are independent. They are applied together, and an edit is refused if its function is refused.
+An edit is tried by itself in these cases: the check does not name its function, or refuses it only because it calls another refused
+function; the edit changes text outside function bodies; another edit changes the same function.
 """
 
 import re
@@ -14,7 +14,7 @@ from tree import SOURCES
 HEAD = re.compile(r'^( *)(?:pub(?:\([a-z]+\))? )?(?:unsafe )?(?:const )?(?:extern "C" )?fn (\w+)', re.M)
 OWNER = re.compile(r"^(?:impl|trait|pub trait)\b(.*)$", re.M)
 SAID = re.compile(r"^fn (\S+): (?:not proved|no proof(?!: it calls))", re.M)
-# The messages of a check about a text that it can't read. It has not judged the meaning of such a text.
+# The messages of a check about a source that it can't parse or resolve. Such a source is not a refused edit.
 UNREADABLE = "is not in scope|has no field|is no name|operand is missing|expected the end"
 UNREAD = re.compile(rf"^(?:\./)?(?:src|specs)/\S+:\d+:\d+: error: (?:[^`]|.*(?:{UNREADABLE}))", re.M)
 REFUSED, PROVED, BAD, NOTHING = range(4)
@@ -45,7 +45,7 @@ def replacements(edit):
 
 
 def owner_of(text, at, file):
-    """Returns the first part of the name of a function: type and trait if the function is in an impl, else the module of its file."""
+    """Returns the part of a function's name before `::`: type and trait if the function is in an impl, otherwise the module of its file."""
     open_heads = [it for it in OWNER.finditer(text, 0, at) if "\n}\n" not in text[it.end() : at]]
     if not open_heads:
         return file.rpartition("/")[2][:-3]
@@ -57,7 +57,7 @@ def owner_of(text, at, file):
 
 
 def function_at(text, at, file, crate):
-    """Returns the end of the name of the function whose body contains a place of a source, or None if there is no such function."""
+    """Returns the last two parts, OWNER::NAME, of the name of the function whose body contains offset `at`, or None if no body does."""
     for head in HEAD.finditer(text, 0, at):
         body = re.compile(rf"^{head[1]}(?:\S.*)?\{{$", re.M).search(text, head.start())
         if body and body.end() < at < text.find(f"\n{head[1]}}}\n", body.end()):
@@ -73,7 +73,7 @@ def edited(crate, edit, texts):
         if file not in new:
             raise BadEdit(f"there is no file {file}")
         if new[file].count(old) != 1:
-            raise BadEdit(f"an old text stands in {file} {new[file].count(old)} times, and not once: {old.strip()}")
+            raise BadEdit(f"an old text occurs {new[file].count(old)} times in {file}, not once: {old.strip()}")
         functions.add(function_at(new[file], new[file].index(old), file, crate.name))
         new[file] = new[file].replace(old, text)
     if new == texts:
@@ -105,7 +105,7 @@ def sorted_out(crate, texts):
 
 
 def checked(room, texts, new):
-    """Checks new texts. Returns the outcome, and the ends of the names of the refused functions."""
+    """Writes the new texts and checks them. Returns the outcome, and the last two parts of the names of the refused functions."""
     for file in texts:
         if new[file] != texts[file]:
             (room.folder / file).write_text(new[file], encoding="utf-8")
@@ -114,7 +114,7 @@ def checked(room, texts, new):
         return BAD, set()
     if status == 1 and re.search(r"^logic=not-proved", said, re.M):
         return REFUSED, {"::".join(name.split("::")[-2:]) for name in SAID.findall(said)}
-    # Status 3 is a limit of the prover: that is a refusal too, without a reason.
+    # Status 3: the prover met a limit. That counts as a refusal, with no function named.
     return {0: PROVED, 3: REFUSED}.get(status, NOTHING), set()
 
 

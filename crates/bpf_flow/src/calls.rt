@@ -49,8 +49,8 @@ fn call_reply(state: &mut State) -> Result<(), FlowFault>
     Ok(())
 }
 
-/// `Copy` takes the addresses in R1 and R2 and the number of bytes in R3. Both must have the greatest number of
-/// bytes that R3 may hold. The bytes at R1 are written.
+/// `Copy` takes the addresses in R1 and R2 and the number of bytes in R3. From both addresses on there must be as many
+/// bytes as the greatest number that R3 may hold. Those at R1 are written.
 fn call_copy(state: &mut State) -> Result<(), FlowFault>
     ensures { OnOk result (IsCalled Copy state.old state.new) }
 {

@@ -19,7 +19,7 @@ pub enum Helper {
     Present,
     /// 4: answers the session's number.
     Who,
-    /// 5: copies the number of bytes in R3 from R2's address to R1's; answers that number.
+    /// 5: copies n bytes from the address in R2 to the address in R1, for the number n in R3; answers n.
     Copy,
 }
 
@@ -59,8 +59,8 @@ pub fn copies(id: i32) -> bool
 }
 
 impl Helper {
-    /// The helper's answer for R0. `given` is its argument: the number in R1 for `Reply`, which
-    /// becomes the reply word, and the number of bytes for `Copy`, whose caller copies the bytes.
+    /// The helper's answer for R0. `given` is its argument: for `Reply` the number in R1, which
+    /// becomes the reply word; for `Copy` the number of bytes, which the caller of `answer` copies.
     /// The other helpers take no argument and leave the reply word unchanged. Allocates no memory.
     pub fn answer(self, given: u64, env: &Env, word: &mut u64) -> u64
         ensures value { result ≡ (answer_of self given env.entry.now word.old).value }
@@ -91,8 +91,7 @@ impl Helper {
         }
     }
 
-    /// The possible answers: 0 for `Reply`, at most 1 for `Present`, at most 1,024 for `Copy`, and
-    /// any number for the rest.
+    /// The possible answers: all numbers from 0 to `greatest`.
     #[tactic(auto, using(crate::proofs::AnswerFacts::answer_fits))]
     pub fn result(self) -> Known
         ensures contains { AnswersIn (Contains result) self }

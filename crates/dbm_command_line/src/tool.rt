@@ -65,10 +65,12 @@ fn titled_command<'a>(alloc: Global) -> Command<'a>
         .version("2.0.0")
         .about("A key-value store in the files of an sdbm database")
         .after_help(
-            "Bytes are in hex, two digits a byte, and . is no bytes; with --text, or DBM_TEXT=1, they are text.\n\
-             The status is 0; 1 if fetch, store, delete, rename or run answers missing, exists, crowded or refused,\n\
-             if verify answers refused, or if run --expect gets another code; 2 for a fault, which is printed on\n\
-             standard error; and 3 if run --expect does not run the program.\n\n\
+            "Keys and values are in hex, two digits a byte; with --text, or DBM_TEXT=1, they are text. . is no bytes.\n\
+             Exit status:\n\
+             0  success, and every other answer\n\
+             1  one command answered missing, exists, crowded or refused, or run --expect got another code\n\
+             2  a fault, which is printed on standard error\n\
+             3  run --expect does not run the program\n\n\
              Example: dbm store users ab xyz --text\n\
              stores the value xyz of the key ab in users.dir and users.pag.",
         )

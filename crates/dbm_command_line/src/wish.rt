@@ -55,7 +55,7 @@ pub struct Request<'a> {
 }
 
 impl<'a> Wish<'a> {
-    /// What it needs beside its own words: its files, and the notation of its bytes.
+    /// What the program prepares for the subcommand: its files, whether it writes them, and the notation of bytes.
     pub fn head(&self) -> Head<'a>
         ensures { result ≡ head_of self.now }
     {

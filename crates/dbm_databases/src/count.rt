@@ -43,7 +43,7 @@ impl<'a> Count<'a> {
         })
     }
 
-    /// What it needs beside its own words.
+    /// What the program prepares for the subcommand.
     pub fn head(&self) -> Head<'a>
         ensures { result ≡ count_head self.now }
     {

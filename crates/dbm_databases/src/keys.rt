@@ -45,7 +45,7 @@ impl<'a> Keys<'a> {
         })
     }
 
-    /// What it needs beside its own words.
+    /// What the program prepares for the subcommand.
     pub fn head(&self) -> Head<'a>
         ensures { result ≡ keys_head self.now }
     {
@@ -70,7 +70,7 @@ impl<'a> Keys<'a> {
         }
     }
 
-    /// Serves the subcommand: writes its rows while they are made.
+    /// Runs the subcommand. Writes the rows to `writer` as it makes them.
     ///
     /// # Errors
     /// Those of `serve_rows`.

@@ -50,7 +50,7 @@ impl<'a> List<'a> {
         })
     }
 
-    /// What it needs beside its own words.
+    /// What the program prepares for the subcommand.
     pub fn head(&self) -> Head<'a>
         ensures { result ≡ list_head self.now }
     {

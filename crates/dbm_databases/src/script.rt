@@ -52,7 +52,7 @@ impl<'a> Script<'a> {
         })
     }
 
-    /// What it needs beside its own words.
+    /// What the program prepares for the subcommand.
     pub fn head(&self) -> Head<'a>
         ensures { result ≡ script_head self.now }
     {

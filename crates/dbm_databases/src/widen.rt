@@ -35,7 +35,7 @@ impl<'a> Widen<'a> {
         })
     }
 
-    /// What it needs beside its own words.
+    /// What the program prepares for the subcommand.
     pub fn head(&self) -> Head<'a>
         ensures { result ≡ widen_head self.now }
     {

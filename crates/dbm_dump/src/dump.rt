@@ -38,7 +38,7 @@ impl<'a> Dump<'a> {
         })
     }
 
-    /// What it needs beside its own words.
+    /// What the program prepares for the subcommand.
     pub fn head(&self) -> Head<'a>
         ensures { result ≡ dump_head self.now }
     {

@@ -44,7 +44,7 @@ impl<'a> Load<'a> {
         })
     }
 
-    /// What it needs beside its own words.
+    /// What the program prepares for the subcommand.
     pub fn head(&self) -> Head<'a>
         ensures { result ≡ load_head self.now }
     {

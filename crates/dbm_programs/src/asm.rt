@@ -31,7 +31,7 @@ impl<'a> Asm<'a> {
         })
     }
 
-    /// What it needs beside its own words.
+    /// What the program prepares for the subcommand.
     pub fn head(&self) -> Head<'a>
         ensures { result ≡ asm_head self.now }
     {

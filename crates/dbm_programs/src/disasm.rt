@@ -33,7 +33,7 @@ impl<'a> Disasm<'a> {
         })
     }
 
-    /// What it needs beside its own words.
+    /// What the program prepares for the subcommand.
     pub fn head(&self) -> Head<'a>
         ensures { result ≡ disasm_head self.now }
     {

@@ -53,7 +53,7 @@ impl<'a> Batch<'a> {
         })
     }
 
-    /// What it needs beside its own words.
+    /// What the program prepares for the subcommand.
     pub fn head(&self) -> Head<'a>
         ensures { result ≡ batch_head self.now }
     {

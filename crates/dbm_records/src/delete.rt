@@ -45,7 +45,7 @@ impl<'a> Delete<'a> {
         })
     }
 
-    /// What it needs beside its own words.
+    /// What the program prepares for the subcommand.
     pub fn head(&self) -> Head<'a>
         ensures { result ≡ delete_head self.now }
     {

@@ -51,7 +51,7 @@ impl<'a> Fetch<'a> {
         })
     }
 
-    /// What it needs beside its own words.
+    /// What the program prepares for the subcommand.
     pub fn head(&self) -> Head<'a>
         ensures { result ≡ fetch_head self.now }
     {

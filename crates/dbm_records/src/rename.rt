@@ -51,7 +51,7 @@ impl<'a> Rename<'a> {
         })
     }
 
-    /// What it needs beside its own words.
+    /// What the program prepares for the subcommand.
     pub fn head(&self) -> Head<'a>
         ensures { result ≡ rename_head self.now }
     {

@@ -62,7 +62,7 @@ impl<'a> Run<'a> {
         })
     }
 
-    /// What it needs beside its own words.
+    /// What the program prepares for the subcommand.
     pub fn head(&self) -> Head<'a>
         ensures { result ≡ run_head self.entry.now }
     {

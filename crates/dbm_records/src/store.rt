@@ -57,7 +57,7 @@ impl<'a> Store<'a> {
         })
     }
 
-    /// What it needs beside its own words.
+    /// What the program prepares for the subcommand.
     pub fn head(&self) -> Head<'a>
         ensures { result ≡ store_head self.now }
     {
@@ -166,7 +166,7 @@ impl Subcommand for Store<'_> {
     }
 }
 
-/// The name of the command of a store.
+/// The first word of the script line that does the same: `insert` or `replace`.
 pub fn store_name(insert: bool) -> &'static [u8]
     ensures { result.now ≡ store_command_name insert }
 {

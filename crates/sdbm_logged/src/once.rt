@@ -25,10 +25,11 @@ const LEAST_ROOM: usize = 28_672;
 // A log with more room than this, in bytes, is removed after the save.
 const MOST_ROOM: usize = 258_048;
 
-// A log for a longer record is made by the save itself.
+// The most room, in bytes, with which a log is opened before its save. For a longer record `save_by` makes a longer log.
 const LONGEST: usize = 1 << 30;
 
-/// Saves a plan that knows the files of a database at rest. `redo` has the bytes of its redo file. The save opens a log, commits the plan,
+/// Saves a plan that was made from the current files (it knows them), when no save is pending (the files are at rest). `redo` has the
+/// bytes of the redo file. The save opens a log, commits the plan,
 /// applies it to both data files, and closes the log. If the plan may need new blocks of the disk, the room is checked first.
 ///
 /// `Done` means that the database is at rest again. The redo file then stays as an empty log that the next save can reuse, unless it is
@@ -199,7 +200,7 @@ fn remove<D: Disk>(disk: &mut D) -> Result<(), DiskError>
     disk.clear()
 }
 
-// Writes zeros after the header of a closed log of this room.
+// Writes zeros after the header of a closed log, which then has room for `room` bytes.
 fn write_zeros<D: Disk>(disk: &mut D, room: usize, zeros: &[u8]) -> Result<(), DiskError>
     requires rest { IsAtRest (D.seen disk.old) (D.may_leave disk.old) }
     requires near { room ≤ 4000000000 }

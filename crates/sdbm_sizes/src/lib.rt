@@ -129,7 +129,7 @@ pub fn pages_look_small<A: Allocator + Copy>(
     Ok(false)
 }
 
-// The number of whole wide pages in a file of a length, at most that of the longest `.pag`.
+// The number of whole wide pages in a file of `len` bytes, but at most `MOST_PAGES`.
 fn pages_in(len: usize) -> usize
     ensures inside { result * 8192 ≤ len }
     ensures low { result ≤ most_pages Wide }

@@ -11,7 +11,7 @@ use sdbm_addr::{Bytes, KeyBytes, PageSize};
 use std::alloc::Allocator;
 use store_cmd::KeptEntry;
 
-/// Why a store is not closed. Checked in this order, the first two together.
+/// Why a store is not closed. The reasons are checked in this order, but `Stranger` and `Double` in one pass over the calls.
 #[derive(Clone, Copy, Debug, PartialEq, Eq)]
 pub enum CloseFault {
     /// The store has no session with this number.
@@ -22,7 +22,7 @@ pub enum CloseFault {
     Missing(u64),
     /// The calls of this session differ from its calls in the trail.
     Torn(u64),
-    /// The trail's opening differs from the pairs with which the store was opened.
+    /// The trail's opening, the hash kind or the page size differs from that with which the store was opened.
     Opening,
 }
 
@@ -52,8 +52,8 @@ pub(crate) fn close_fault<A: Allocator + Copy>(
     None
 }
 
-// The first session that is missing or whose calls are torn. The slow comparison, which searches the list for each entry and
-// the entries for each element of the list, runs only if the single pass fails.
+// The first session that is missing or whose calls are torn. A single pass finds out whether there is one. Only if it fails, the slow
+// comparison runs: it searches the list of calls for each entry, and all entries for each session.
 fn first_apart<A: Allocator + Copy>(
     alloc: A,
     made: u64,
@@ -102,7 +102,7 @@ fn first_strange<A: Allocator>(handed: &[Calls<A>], made: u64) -> Option<CloseFa
     None
 }
 
-// The session of the first entry whose calls were not handed in.
+// The session of the first entry whose session did not hand in its calls.
 #[tactic(auto, using(crate::proofs::CloseLemmas::Here))]
 fn first_missing<A: Allocator>(entries: &[KeptEntry<A>], handed: &[Calls<A>]) -> Option<u64>
     ensures none { IfNone result (Covers entries.now handed.now) }

@@ -78,7 +78,7 @@ fn most_labels(rt: HostRuntime) -> Result<(), Fail> {
     Ok(())
 }
 
-// Jumps from the first unit over all of the code, and from each further unit, to its end.
+// Each unit is a jump to the end of the code; the first jumps over all other units.
 #[test]
 fn longest_jumps(rt: HostRuntime) -> Result<(), Fail> {
     let mut text = String::new(rt.alloc());

@@ -19,14 +19,14 @@ const WANTED: u64 = 3;
 // The largest number of rounds. Few more than `WANTED` are needed if two threads run at once.
 const ROUNDS: u64 = 24;
 
-// The number of a round that never begins.
+// The value of `began` after the last round.
 const OVER: u64 = u64::MAX;
 
 // The number of looks before a thread stops waiting.
 const TURNS: u64 = 1_000_000_000;
 
-// The rounds of two sessions, numbered from 1. In each the first session runs its group of programs; in each except the first the
-// second session makes its call meanwhile.
+// The rounds of two sessions, numbered from 1. In each round the first session runs its group of programs. Meanwhile the second session
+// makes its call, except in the first round, in which it only measures.
 #[derive(Drop)]
 struct Rounds {
     began: AtomicU64,
@@ -60,7 +60,7 @@ impl Rounds {
         self.beside.load(Ordering::SeqCst) >= WANTED || self.refused.load(Ordering::SeqCst) > 0
     }
 
-    // Looks until a count has reached a value, and returns the number of looks.
+    // Polls a count until it has reached a value, and returns how often it looked.
     fn look_for(count: &AtomicU64, wanted: u64) -> u64 {
         for looks in 0..TURNS {
             if count.load(Ordering::SeqCst) >= wanted {
@@ -70,7 +70,7 @@ impl Rounds {
         TURNS
     }
 
-    // Looks this number of times.
+    // Waits for the time of this number of looks.
     fn linger(&self, looks: u64) {
         for _ in 0..looks {
             self.ended.load(Ordering::SeqCst);
@@ -102,8 +102,8 @@ impl<'s, G: Gate> Party<'s, G> {
         rounds.began.store(OVER, Ordering::SeqCst);
     }
 
-    // Makes its first call, and counts it if the programs take a quarter of their time or more after it. A thread that is woken or
-    // stopped takes less.
+    // Makes its calls a sixteenth of the programs' time after the round began. Counts them if the programs still run for at least a
+    // quarter of their time after them. If this thread had to wait for the programs, or was not scheduled, they run for less.
     fn call_beside<R: Wait>(&mut self, rt: &R, rounds: &Rounds, round: u64, whole: u64) {
         rounds.linger(whole / 16);
         for command in self.commands.iter() {

@@ -1,5 +1,6 @@
 -- The arguments of `incr`, its results and its errors.
-use Rattle.std.specs.Prelude.{◌≡◌, ℕ, ◌++◌, List, [], ◌∷◌, codes, Option, Some, None, true, false}
+use Rattle.std.specs.Prelude.{◌≡◌, ℕ, ◌++◌, List, [], ◌∷◌, codes, cond, drop, length, min, nat_eq, Option, Some, None, true, false}
+use Rattle.std.specs.List.{starts_with}
 use Rattle.std.specs.Borrow.{Bor}
 use Rattle.std.specs.declared.alloc.Global.{Global}
 use Rattle.clap.specs.Words.{Shape, Row, Text, new_rule}
@@ -7,11 +8,11 @@ use Rattle.byte_text.specs.Numbers.{low_bytes, number_of, signed_of}
 use Rattle.sdbm_addr.specs.Database.{Database}
 use Rattle.bpf_insn.specs.Code.{IsImage}
 use Rattle.stock_programs.specs.BoundedCounter.{bounded_counter}
-use Rattle.dbm_script.specs.Notation.{bytes_of, reads_hex}
+use Rattle.dbm_script.specs.Notation.{bytes_of_word, reads_hex}
 use Rattle.dbm_script.specs.declared.notations.Notation.{Notation}
 use Rattle.dbm_script.specs.declared.run_words.RunWords.{RunWords}
 use Rattle.dbm_args.specs.CommandLine.{required_word, flag, valued_option, subcommand, writing_in}
-use Rattle.dbm_args.specs.Given.{IsForm, IsGiven, IsNotation, IsWord, is_given}
+use Rattle.dbm_args.specs.Given.{IsForm, IsOptionGiven, IsNotation, IsWord, is_given}
 use Rattle.dbm_args.specs.Heads.{head_on}
 use Rattle.dbm_args.specs.declared.options.Form.{Form}
 use Rattle.dbm_args.specs.declared.options.Head.{Head}
@@ -30,7 +31,7 @@ incr = subcommand (codes "incr") (required_word (codes "BASE") ∷ required_word
 
 abbrev pub IncrAsks : List Row → Incr → Type 0
 IncrAsks rows incr =
-    IsWord (codes "BASE") rows incr.base × (IsForm rows incr.form × (IsNotation rows incr.notation × (IsWord (codes "KEY") rows incr.key × (IsGiven (codes "AMOUNT") rows incr.amount × (IsGiven (codes "min") rows incr.min × (IsGiven (codes "max") rows incr.max × (incr.raw_key ≡ is_given (codes "raw-key") rows)))))))
+    IsWord (codes "BASE") rows incr.base × (IsForm rows incr.form × (IsNotation rows incr.notation × (IsWord (codes "KEY") rows incr.key × (IsOptionGiven (codes "AMOUNT") rows incr.amount × (IsOptionGiven (codes "min") rows incr.min × (IsOptionGiven (codes "max") rows incr.max × (incr.raw_key ≡ is_given (codes "raw-key") rows)))))))
 
 -- what it needs beside its own words
 abbrev pub incr_head : Incr → Head
@@ -66,15 +67,14 @@ incr_words key numbers = record { key = key; arg = incr_argument numbers; blank 
 
 -- the text without `ran CODE ` at its start, where CODE is one digit
 abbrev pub number_alone : List ℕ → List ℕ
-number_alone (114 ∷ 97 ∷ 110 ∷ 32 ∷ code ∷ 32 ∷ rest) = rest
-number_alone text = text
+number_alone text = cond (starts_with nat_eq text (codes "ran ")) (drop (min (length text) 6) text) text
 
 -- the report of a run of `bounded_counter` that should return 1, with its reply word alone as the text
 pub record OnIncr (n : Notation Global) (incr : Incr) (given : Given) (report : Report) : Type 0 where
   pub before : Database
   pub opened : IsOpened incr.form given before
   pub key : List ℕ
-  pub key_is : bytes_of n (word_asked incr.raw_key n incr.key.now) ≡ Some key
+  pub key_is : bytes_of_word n (word_asked incr.raw_key n incr.key.now) ≡ Some key
   pub numbers : IncrNumbers
   pub numbers_are : numbers_of incr.amount incr.min incr.max ≡ Some numbers
   pub image : List ℕ
@@ -85,10 +85,17 @@ pub record OnIncr (n : Notation Global) (incr : Incr) (given : Given) (report : 
   pub status_is : report.status ≡ run.status
   pub written : report.database ≡ run.database
 
+-- the key's word is not valid bytes
+abbrev pub key_causes : Notation Global → List ℕ → Causes
+key_causes n word = record no_causes {
+  words = (reads_hex n ≡ true) × (bytes_of_word n word ≡ None);
+  texts = (reads_hex n ≡ false) × (bytes_of_word n word ≡ None);
+}
+
 abbrev pub incr_causes : Notation Global → Incr → Given → Causes
 incr_causes n incr given = record no_causes {
-  words = (reads_hex n ≡ true) × (bytes_of n (word_asked incr.raw_key n incr.key.now) ≡ None);
-  texts = (reads_hex n ≡ false) × (bytes_of n (word_asked incr.raw_key n incr.key.now) ≡ None);
+  words = (reads_hex n ≡ true) × (bytes_of_word n (word_asked incr.raw_key n incr.key.now) ≡ None);
+  texts = (reads_hex n ≡ false) × (bytes_of_word n (word_asked incr.raw_key n incr.key.now) ≡ None);
   numbers = numbers_of incr.amount incr.min incr.max ≡ None;
   opening = IsShut incr.form given;
 }

@@ -1,14 +1,12 @@
 //! `incr`: adds to the number of a key, by the stock program `bounded_counter`.
-ghost use Rattle.std.specs.Prelude.{◌≡◌, ◌++◌, IfErr, IfOk, IfSome, IsNone, Some, false, true};
-ghost use Rattle.bpf_insn.specs.Code.{IsImage};
+ghost use Rattle.std.specs.Prelude.{◌≡◌, IfErr, IfOk, IfSome, IsNone, Some, codes, false};
 ghost use Rattle.clap.specs.Words.{found_of, new_rule, rows_of, rule_of};
-ghost use Rattle.std.specs.Prelude.{codes};
-ghost use Rattle.stock_programs.specs.BoundedCounter.{bounded_counter};
 ghost use Rattle.dbm_args.specs.CommandLine.{IsSubcommand};
 ghost use Rattle.dbm_args.specs.Given.{has_words};
 ghost use Rattle.dbm_records.specs.Incr as spec;
-ghost use Rattle.dbm_records.specs.Incr.{IncrAsks, incr_head, number_alone, numbers_of};
+ghost use Rattle.dbm_records.specs.Incr.{IncrAsks, incr_head, number_alone};
 ghost use Rattle.dbm_reports.specs.Causes.{IsCaused};
+ghost use Rattle.dbm_script.specs.Notation.{bytes_of_word};
 
 use crate::running::run_image;
 use byte_text::{put_number, read_number, read_signed};
@@ -20,8 +18,8 @@ use dbm_args::arguments::{
 use dbm_args::{
     Form, Head, Named, NotationOptions, Numbers, Words, form, has_flag, notation, subcommand, word,
 };
-use dbm_reports::{Given, Report, ReportFault, Subcommand, open, word_asked};
-use dbm_script::{Notation, RunWords};
+use dbm_reports::{Given, Report, ReportFault, Subcommand, bad_words, open, word_asked};
+use dbm_script::{Notation, RunWords, read_bytes};
 use sdbm_addr::Bytes;
 use std::alloc::{AllocError, Global};
 use std::io::Read;
@@ -29,6 +27,9 @@ use stock_names::Stock;
 
 /// The length of a number in bytes.
 const NUMBER: usize = 8;
+
+/// The length of `ran CODE ` with a code of one digit.
+const AFTER_CODE: usize = 6;
 
 /// The code of a run that added.
 const ADDED: u64 = 1;
@@ -165,7 +166,8 @@ impl Subcommand for Incr<'_> {
         given: &Given,
         _reader: &mut R,
     ) -> Result<Report, ReportFault> {
-        let key = word_asked(alloc, notation, self.key, self.raw_key)?;
+        let word = word_asked(alloc, notation, self.key, self.raw_key)?;
+        let key = key_in(alloc, notation, word.as_slice())?;
         let Some(numbers) = numbers_of(self.amount, self.min, self.max) else {
             return Err(ReportFault::BadNumber);
         };
@@ -190,34 +192,62 @@ struct IncrNumbers {
     max: u64,
 }
 
-// Reads the amount and the bounds; by default 1, and all numbers. Returns `None` if one is not a number.
+// Reads the amount and the bounds. Returns `None` if one is not a number.
 fn numbers_of(amount: Option<&str>, min: Option<&str>, max: Option<&str>) -> Option<IncrNumbers>
-    ensures { result ≡ numbers_of amount min max }
+    ensures { result ≡ spec.numbers_of amount min max }
 {
-    let amount = match amount {
-        Some(word) => read_signed(word.as_bytes())?,
-        None => 1,
+    let Some(amount) = amount_in(amount) else {
+        return None;
     };
-    let min = match min {
-        Some(word) => read_number(word.as_bytes(), u64::MAX)?,
-        None => 0,
+    let Some(min) = bound_in(min, 0) else {
+        return None;
     };
-    let max = match max {
-        Some(word) => read_number(word.as_bytes(), u64::MAX)?,
-        None => u64::MAX,
+    let Some(max) = bound_in(max, u64::MAX) else {
+        return None;
     };
     Some(IncrNumbers { amount, min, max })
 }
 
+// The amount, by default 1, in two's complement.
+fn amount_in(word: Option<&str>) -> Option<u64>
+    ensures { result ≡ spec.amount_in word }
+{
+    match word {
+        Some(word) => read_signed(word.as_bytes()),
+        None => Some(1),
+    }
+}
+
+// A bound, or its default.
+fn bound_in(word: Option<&str>, least: u64) -> Option<u64>
+    ensures { result ≡ spec.bound_in least word }
+{
+    match word {
+        Some(word) => read_number(word.as_bytes(), u64::MAX),
+        None => Some(least),
+    }
+}
+
 // The argument of `bounded_counter`: the amount, the floor and the ceiling.
 fn argument(alloc: Global, numbers: IncrNumbers) -> Result<Bytes<Global>, AllocError>
-    ensures { IfOk result (λ arg. arg ≡ spec.argument numbers) }
+    ensures { IfOk result (λ arg. arg ≡ spec.incr_argument numbers) }
 {
     let mut bytes = Vec::new(alloc);
     put_number(numbers.amount, NUMBER, &mut bytes)?;
     put_number(numbers.min, NUMBER, &mut bytes)?;
     put_number(numbers.max, NUMBER, &mut bytes)?;
-    Ok(Bytes::from_vec(bytes))
+    Ok(Bytes::new(bytes))
+}
+
+// The bytes of a key's word.
+fn key_in(alloc: Global, notation: &Notation<Global>, word: &[u8]) -> Result<Bytes<Global>, ReportFault>
+    ensures ok { IfOk result (λ key. bytes_of_word notation.now word.now ≡ Some key) }
+    ensures fault { IfErr result (IsCaused (spec.key_causes notation.now word.now)) }
+{
+    match read_bytes(alloc, notation, word)? {
+        Some(key) => Ok(key),
+        None => Err(bad_words(notation)),
+    }
 }
 
 // The report of a run, with the reply word alone as its text if the program ran.
@@ -240,8 +270,8 @@ fn with_number_alone(alloc: Global, report: Report) -> Result<Report, AllocError
 fn after_code(text: &[u8]) -> &[u8]
     ensures { result.now ≡ number_alone text.now }
 {
-    match text {
-        [b'r', b'a', b'n', b' ', _, b' ', rest @ ..] => rest,
-        _ => text,
+    if text.starts_with(b"ran ") {
+        return &text[text.len().min(AFTER_CODE)..];
     }
+    text
 }

@@ -7,6 +7,7 @@ use Rattle.dbm_records.specs.Store.{store}
 use Rattle.dbm_records.specs.Delete.{delete}
 use Rattle.dbm_records.specs.Rename.{rename}
 use Rattle.dbm_records.specs.Run.{run}
+use Rattle.dbm_records.specs.Incr.{incr}
 use Rattle.dbm_records.specs.Batch.{batch}
 use Rattle.dbm_databases.specs.List.{list}
 use Rattle.dbm_databases.specs.Keys.{keys}
@@ -40,5 +41,5 @@ bare_shape = record titled {
 abbrev pub tool : App
 tool = record {
   top = record bare_shape { is_leaf = false };
-  subs = fetch ∷ store ∷ delete ∷ rename ∷ list ∷ keys ∷ count ∷ check ∷ stats ∷ script ∷ session ∷ widen ∷ backup ∷ dump ∷ load ∷ asm ∷ disasm ∷ verify ∷ programs ∷ run ∷ batch ∷ [];
+  subs = fetch ∷ store ∷ delete ∷ rename ∷ list ∷ keys ∷ count ∷ check ∷ stats ∷ script ∷ session ∷ widen ∷ backup ∷ dump ∷ load ∷ asm ∷ disasm ∷ verify ∷ programs ∷ run ∷ incr ∷ batch ∷ [];
 }

@@ -26,6 +26,7 @@ use Rattle.dbm_programs.specs.Programs.{ProgramsAsks}
 use Rattle.dbm_programs.specs.Verify.{VerifyAsks, verify_head}
 use Rattle.dbm_records.specs.Batch.{BatchAsks, each_core, batch_head}
 use Rattle.dbm_records.specs.Run.{RunAsks, run_head}
+use Rattle.dbm_records.specs.Incr.{IncrAsks, incr_head}
 use Rattle.dbm_databases.specs.Script.{ScriptAsks, script_head}
 use Rattle.dbm_databases.specs.Widen.{WidenAsks, widen_head}
 use Rattle.dbm_session.specs.Session.{SessionAsks}
@@ -48,6 +49,7 @@ head_of (wish.Store store) = store_head store
 head_of (wish.Delete delete) = delete_head delete
 head_of (wish.Rename rename) = rename_head rename
 head_of (wish.Run run) = run_head run
+head_of (wish.Incr incr) = incr_head incr
 head_of (wish.Batch batch) = batch_head batch
 head_of (wish.List list) = list_head list
 head_of (wish.Keys keys) = keys_head keys
@@ -117,6 +119,7 @@ WishAsks name rows (wish.Store store) = (name ≡ codes "store") × StoreAsks ro
 WishAsks name rows (wish.Delete delete) = (name ≡ codes "delete") × DeleteAsks rows delete
 WishAsks name rows (wish.Rename rename) = (name ≡ codes "rename") × RenameAsks rows rename
 WishAsks name rows (wish.Run run) = (name ≡ codes "run") × RunAsks rows run
+WishAsks name rows (wish.Incr incr) = (name ≡ codes "incr") × IncrAsks rows incr
 WishAsks name rows (wish.Batch batch) = (name ≡ codes "batch") × BatchAsks rows batch
 WishAsks name rows (wish.List list) = (name ≡ codes "list") × ListAsks rows list
 WishAsks name rows (wish.Keys keys) = (name ≡ codes "keys") × KeysAsks rows keys

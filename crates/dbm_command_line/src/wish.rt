@@ -6,7 +6,7 @@ use dbm_args::{Access, Head, TimeUnit, Words};
 use dbm_databases::{Check, Count, Keys, List, Script, Stats, Widen};
 use dbm_dump::{Backup, Dump, Load};
 use dbm_programs::{Asm, Disasm, Programs, Verify};
-use dbm_records::{Batch, Delete, EACH_CORE, Fetch, Rename, Run, Store};
+use dbm_records::{Batch, Delete, EACH_CORE, Fetch, Incr, Rename, Run, Store};
 use dbm_script::TimeOfDay;
 use dbm_session::Session;
 
@@ -19,6 +19,7 @@ pub enum Wish<'a> {
     Delete(Delete<'a>),
     Rename(Rename<'a>),
     Run(Run<'a>),
+    Incr(Incr<'a>),
     Batch(Batch<'a>),
     List(List<'a>),
     Keys(Keys<'a>),
@@ -65,6 +66,7 @@ impl<'a> Wish<'a> {
             Wish::Delete(delete) => delete.head(),
             Wish::Rename(rename) => rename.head(),
             Wish::Run(run) => run.head(),
+            Wish::Incr(incr) => incr.head(),
             Wish::Batch(batch) => batch.head(),
             Wish::List(list) => list.head(),
             Wish::Keys(keys) => keys.head(),
@@ -161,6 +163,7 @@ impl<'a> Wish<'a> {
             Wish::Delete(delete) => delete.words(),
             Wish::Rename(rename) => rename.words(),
             Wish::Run(run) => run.words(),
+            Wish::Incr(incr) => incr.words(),
             Wish::Batch(batch) => batch.words(),
             Wish::List(list) => list.words(),
             Wish::Keys(keys) => keys.words(),

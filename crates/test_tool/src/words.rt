@@ -36,6 +36,7 @@ fn asked_text(global: Global, wish: &Wish<'_>) -> Result<String, AllocError> {
         Wish::Delete(delete) => format!(in global; "{delete:?}"),
         Wish::Rename(rename) => format!(in global; "{rename:?}"),
         Wish::Run(run) => format!(in global; "{run:?}"),
+        Wish::Incr(incr) => format!(in global; "{incr:?}"),
         Wish::Batch(batch) => format!(in global; "{batch:?}"),
         Wish::List(list) => format!(in global; "{list:?}"),
         Wish::Keys(keys) => format!(in global; "{keys:?}"),

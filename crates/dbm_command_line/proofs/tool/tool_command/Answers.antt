@@ -18,6 +18,7 @@ use Rattle.dbm_programs.specs.Disasm.{disasm}
 use Rattle.dbm_programs.specs.Programs.{programs}
 use Rattle.dbm_programs.specs.Verify.{verify}
 use Rattle.dbm_records.specs.Run.{run}
+use Rattle.dbm_records.specs.Incr.{incr}
 use Rattle.dbm_records.specs.Batch.{batch}
 use Rattle.dbm_command_line.proofs.tool.tool_command.Goals as goal
 
@@ -43,4 +44,5 @@ returns c =
     let verified = c.with_subcommand-command-18.ensures _ verify disassembled c.verify_command.ensures in
     let shown = c.with_subcommand-command-19.ensures _ programs verified c.programs_command.ensures in
     let ran = c.with_subcommand-command-20.ensures _ run shown c.run_command.ensures in
-    c.with_subcommand.ensures _ batch ran c.batch_command.ensures
+    let added = c.with_subcommand-command-21.ensures _ incr ran c.incr_command.ensures in
+    c.with_subcommand.ensures _ batch added c.batch_command.ensures

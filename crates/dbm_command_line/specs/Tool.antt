@@ -18,6 +18,7 @@ use Rattle.dbm_databases.specs.Script.{script}
 use Rattle.dbm_databases.specs.Widen.{widen}
 use Rattle.dbm_session.specs.Session.{session}
 use Rattle.dbm_dump.specs.Backup.{backup}
+use Rattle.dbm_dump.specs.Compact.{compact}
 use Rattle.dbm_dump.specs.Dump.{dump}
 use Rattle.dbm_dump.specs.Load.{load}
 use Rattle.dbm_programs.specs.Asm.{asm}
@@ -41,5 +42,5 @@ bare_shape = record titled {
 abbrev pub tool : App
 tool = record {
   top = record bare_shape { is_leaf = false };
-  subs = fetch ∷ store ∷ delete ∷ rename ∷ list ∷ keys ∷ count ∷ check ∷ stats ∷ script ∷ session ∷ widen ∷ backup ∷ dump ∷ load ∷ asm ∷ disasm ∷ verify ∷ programs ∷ run ∷ incr ∷ batch ∷ [];
+  subs = fetch ∷ store ∷ delete ∷ rename ∷ incr ∷ list ∷ keys ∷ count ∷ check ∷ stats ∷ script ∷ session ∷ widen ∷ compact ∷ backup ∷ dump ∷ load ∷ asm ∷ disasm ∷ verify ∷ programs ∷ run ∷ batch ∷ [];
 }

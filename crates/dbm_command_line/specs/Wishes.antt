@@ -9,6 +9,7 @@ use Rattle.clap.specs.declared.error.Error.{Error}
 use Rattle.dbm_command_line.specs.Tool.{tool}
 use Rattle.dbm_args.specs.Given.{IsAccessOf, has_words}
 use Rattle.dbm_dump.specs.Backup.{BackupAsks}
+use Rattle.dbm_dump.specs.Compact.{CompactAsks, compact_head}
 use Rattle.dbm_dump.specs.Dump.{DumpAsks, dump_head}
 use Rattle.dbm_dump.specs.Load.{LoadAsks, load_head}
 use Rattle.dbm_databases.specs.Count.{CountAsks, count_head}
@@ -58,6 +59,7 @@ head_of (wish.Check check) = check_head check
 head_of (wish.Stats stats) = stats_head stats
 head_of (wish.Script script) = script_head script
 head_of (wish.Widen widen) = widen_head widen
+head_of (wish.Compact compact) = compact_head compact
 head_of (wish.Dump dump) = dump_head dump
 head_of (wish.Load load) = load_head load
 head_of (wish.Asm asm) = asm_head asm
@@ -128,6 +130,7 @@ WishAsks name rows (wish.Check check) = (name ≡ codes "check") × CheckAsks ro
 WishAsks name rows (wish.Stats stats) = (name ≡ codes "stats") × StatsAsks rows stats
 WishAsks name rows (wish.Script script) = (name ≡ codes "script") × ScriptAsks rows script
 WishAsks name rows (wish.Widen widen) = (name ≡ codes "widen") × WidenAsks rows widen
+WishAsks name rows (wish.Compact compact) = (name ≡ codes "compact") × CompactAsks rows compact
 WishAsks name rows (wish.Dump dump) = (name ≡ codes "dump") × DumpAsks rows dump
 WishAsks name rows (wish.Load load) = (name ≡ codes "load") × LoadAsks rows load
 WishAsks name rows (wish.Asm asm) = (name ≡ codes "asm") × AsmAsks rows asm

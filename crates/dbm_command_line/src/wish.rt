@@ -4,7 +4,7 @@ ghost use Rattle.dbm_command_line.specs.Wishes.{asks_clock, asks_cores, head_of,
 
 use dbm_args::{Access, Head, TimeUnit, Words};
 use dbm_databases::{Check, Count, Keys, List, Script, Stats, Widen};
-use dbm_dump::{Backup, Dump, Load};
+use dbm_dump::{Backup, Compact, Dump, Load};
 use dbm_programs::{Asm, Disasm, Programs, Verify};
 use dbm_records::{Batch, Delete, EACH_CORE, Fetch, Incr, Rename, Run, Store};
 use dbm_script::TimeOfDay;
@@ -28,6 +28,7 @@ pub enum Wish<'a> {
     Stats(Stats<'a>),
     Script(Script<'a>),
     Widen(Widen<'a>),
+    Compact(Compact<'a>),
     Dump(Dump<'a>),
     Load(Load<'a>),
     Asm(Asm<'a>),
@@ -75,6 +76,7 @@ impl<'a> Wish<'a> {
             Wish::Stats(stats) => stats.head(),
             Wish::Script(script) => script.head(),
             Wish::Widen(widen) => widen.head(),
+            Wish::Compact(compact) => compact.head(),
             Wish::Dump(dump) => dump.head(),
             Wish::Load(load) => load.head(),
             Wish::Asm(asm) => asm.head(),
@@ -172,6 +174,7 @@ impl<'a> Wish<'a> {
             Wish::Stats(stats) => stats.words(),
             Wish::Script(script) => script.words(),
             Wish::Widen(widen) => widen.words(),
+            Wish::Compact(compact) => compact.words(),
             Wish::Dump(dump) => dump.words(),
             Wish::Load(load) => load.words(),
             Wish::Asm(asm) => asm.words(),

@@ -104,8 +104,9 @@ fn amount_word<'a>(alloc: Global) -> Arg<'a>
     ensures rule { rule_of result ≡ new_rule (codes "AMOUNT") }
     ensures local { result.global ≡ false }
 {
-    Arg::new(alloc, "AMOUNT")
-        .help("What to add, by default 1; -N subtracts, with -- before the words")
+    Arg::new(alloc, "AMOUNT").help(
+        "What to add, by default 1; -N subtracts, with -- before the words",
+    )
 }
 
 /// Declares the subcommand `incr` for `clap`.
@@ -179,7 +180,14 @@ impl Subcommand for Incr<'_> {
             now: 0,
         };
         let image = Stock::BoundedCounter.image(alloc)?;
-        let report = run_image(alloc, notation, database, image.as_slice(), words, Some(ADDED))?;
+        let report = run_image(
+            alloc,
+            notation,
+            database,
+            image.as_slice(),
+            words,
+            Some(ADDED),
+        )?;
         Ok(with_number_alone(alloc, report)?)
     }
 }
@@ -240,7 +248,11 @@ fn argument(alloc: Global, numbers: IncrNumbers) -> Result<Bytes<Global>, AllocE
 }
 
 // The bytes of a key's word.
-fn key_in(alloc: Global, notation: &Notation<Global>, word: &[u8]) -> Result<Bytes<Global>, ReportFault>
+fn key_in(
+    alloc: Global,
+    notation: &Notation<Global>,
+    word: &[u8],
+) -> Result<Bytes<Global>, ReportFault>
     ensures ok { IfOk result (λ key. bytes_of_word notation.now word.now ≡ Some key) }
     ensures fault { IfErr result (IsCaused (spec.key_causes notation.now word.now)) }
 {

@@ -24,6 +24,7 @@ use Rattle.dbm_databases.specs.Stats.{stats_in}
 use Rattle.dbm_databases.specs.Script.{script_in}
 use Rattle.dbm_databases.specs.Widen.{widen_in}
 use Rattle.dbm_dump.specs.Causes.{DumpKnown}
+use Rattle.dbm_dump.specs.Compact.{compact_in}
 use Rattle.dbm_dump.specs.Dump.{dump_in}
 use Rattle.dbm_dump.specs.Load.{load_in}
 use Rattle.dbm_programs.specs.Asm.{asm_in}
@@ -75,6 +76,7 @@ service_in n (wish.Check check) given input = reporting (check_in check given)
 service_in n (wish.Stats stats) given input = reporting (stats_in stats given)
 service_in n (wish.Script script) given input = reporting (script_in n script.base script given input)
 service_in n (wish.Widen widen) given input = reporting (widen_in widen given)
+service_in n (wish.Compact compact) given input = reporting (compact_in compact given)
 service_in n (wish.Dump dump) given input = dumping (dump_in dump given)
 service_in n (wish.Load load) given input = dumping (load_in load given input)
 service_in n (wish.Asm asm) given input = reporting (asm_in given)

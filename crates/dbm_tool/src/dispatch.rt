@@ -61,6 +61,7 @@ fn serve_in<T: Threads + Wait + Sync, R: Read, W: Write>(
         Wish::Stats(stats) => outcome_of(serve(alloc, n, &stats, given, reader, writer)),
         Wish::Script(script) => outcome_of(serve(alloc, n, &script, given, reader, writer)),
         Wish::Widen(widen) => outcome_of(serve(alloc, n, &widen, given, reader, writer)),
+        Wish::Compact(compact) => outcome_of(serve(alloc, n, &compact, given, reader, writer)),
         Wish::Dump(dump) => outcome_of(serve(alloc, n, &dump, given, reader, writer)),
         Wish::Load(load) => outcome_of(serve(alloc, n, &load, given, reader, writer)),
         Wish::Asm(asm) => outcome_of(serve(alloc, n, &asm, given, reader, writer)),

@@ -45,6 +45,7 @@ fn asked_text(global: Global, wish: &Wish<'_>) -> Result<String, AllocError> {
         Wish::Stats(stats) => format!(in global; "{stats:?}"),
         Wish::Script(script) => format!(in global; "{script:?}"),
         Wish::Widen(widen) => format!(in global; "{widen:?}"),
+        Wish::Compact(compact) => format!(in global; "{compact:?}"),
         Wish::Dump(dump) => format!(in global; "{dump:?}"),
         Wish::Load(load) => format!(in global; "{load:?}"),
         Wish::Asm(asm) => format!(in global; "{asm:?}"),

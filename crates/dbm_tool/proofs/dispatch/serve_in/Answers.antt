@@ -1,4 +1,5 @@
 use Rattle.std.proofs.Common.{refl}
+use Rattle.dbm_dump.specs.Compact.{compact_in}
 use Rattle.dbm_dump.specs.Dump.{dump_in}
 use Rattle.dbm_dump.specs.Load.{load_in}
 use Rattle.dbm_databases.specs.Count.{count_in}
@@ -59,6 +60,9 @@ returns-in-Script g c = rw (c.in-Script.is) (reported (script_in c.args.n.now c.
 
 pub returns-in-Widen : goal.returns-in-Widen
 returns-in-Widen g c = rw (c.in-Widen.is) (reported (widen_in c.in-Widen.widen c.args.given.now) _ _ _ _ _ _ c.serve-in-Widen.result c.outcome_of-in-Widen.result c.outcome_of-in-Widen.ensures c.serve-in-Widen.ensures.ok c.serve-in-Widen.ensures.fault c.serve-in-Widen.ensures.database c.serve-in-Widen.ensures.unread)
+
+pub returns-in-Compact : goal.returns-in-Compact
+returns-in-Compact g c = rw (c.in-Compact.is) (reported (compact_in c.in-Compact.compact c.args.given.now) _ _ _ _ _ _ c.serve-in-Compact.result c.outcome_of-in-Compact.result c.outcome_of-in-Compact.ensures c.serve-in-Compact.ensures.ok c.serve-in-Compact.ensures.fault c.serve-in-Compact.ensures.database c.serve-in-Compact.ensures.unread)
 
 pub returns-in-Dump : goal.returns-in-Dump
 returns-in-Dump g c = rw (c.in-Dump.is) (dumped (dump_in c.in-Dump.dump c.args.given.now) _ _ _ _ _ _ c.serve-in-Dump.result c.outcome_of-in-Dump.result c.outcome_of-in-Dump.ensures c.serve-in-Dump.ensures.ok c.serve-in-Dump.ensures.fault c.serve-in-Dump.ensures.database c.serve-in-Dump.ensures.unread)

@@ -71,7 +71,7 @@ fn titled_command<'a>(alloc: Global) -> Command<'a>
             "Keys and values are in hex, two digits a byte; with --text, or DBM_TEXT=1, they are text. . is no bytes.\n\
              Exit status:\n\
              0  success, and every other answer\n\
-             1  one command answered missing, exists, crowded or refused, or run --expect got another code\n\
+             1  one command answered missing, exists, crowded or refused, run --expect got another code, or incr is at a bound\n\
              2  a fault, which is printed on standard error\n\
              3  run --expect does not run the program\n\n\
              Example: dbm store users ab xyz --text\n\

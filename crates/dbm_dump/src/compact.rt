@@ -42,7 +42,7 @@ impl<'a> Compact<'a> {
         })
     }
 
-    /// What it needs beside its own words.
+    /// What the program prepares for the subcommand.
     pub fn head(&self) -> Head<'a>
         ensures { result ≡ compact_head self.now }
     {
@@ -76,8 +76,8 @@ pub fn compact_command<'a>(alloc: Global) -> Result<Command<'a>, AllocError>
     ]?;
     let about = "Make the files as small as their pairs allow";
     let notes =
-        "Prints ok N for a database of N pairs: they are stored anew, in one save, and no pair changes. Files get no\n\
-         shorter by deletes and by expired leases, so compact after many of them.\n\n\
+        "Prints ok N for a database of N pairs: they are stored anew, in one save, and no pair changes. Prints crowded,\n\
+         with status 1, if a pair does not fit in the new files: then nothing changes.\n\n\
          Example: dbm compact users";
     subcommand(alloc, "compact", about, notes, args)
 }

@@ -66,7 +66,7 @@ impl<'a> Incr<'a> {
         })
     }
 
-    /// What it needs beside its own words.
+    /// What the program prepares for the subcommand.
     pub fn head(&self) -> Head<'a>
         ensures { result ≡ incr_head self.entry.now }
     {

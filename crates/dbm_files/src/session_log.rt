@@ -17,7 +17,7 @@ use sdbm_logged::{
     save_next,
 };
 use sdbm_saves::{
-    CallLog, FoundRead, Noted, ReadFiles, Recorded, Unknown, number, plan_kept, plan_nothing,
+    CallLog, FoundRead, GhostImage, ReadFiles, Recorded, Unknown, number, plan_kept, plan_nothing,
     plan_read,
 };
 use std::alloc::Global;
@@ -32,7 +32,7 @@ const MOST_KEPT: usize = 16_777_216;
 const ROOM: usize = 258_048;
 
 // The disk of a session, which holds the files open.
-type SessionDisk<'a, R> = Recorded<RealFiles<'a, R>, Unknown, Noted>;
+type SessionDisk<'a, R> = Recorded<RealFiles<'a, R>, Unknown, GhostImage>;
 
 // The log of a session between two saves.
 #[derive(Drop)]
@@ -344,8 +344,8 @@ fn save_found<'a, R: Files<File = File>>(
     requires pages { IfSome new (λ new. new.pages.items ≡ renewed Pages plan.now found.files.pages.now.bytes) }
     requires directory { IfSome new (λ new. new.directory.items ≡ renewed Directory plan.now found.files.directory.now) }
 {
-    let noted = Noted::of_read(found.files.pages, found.files.directory, found.redo);
-    let mut disk = Recorded::<RealFiles<'a, R>, Unknown, Noted>::new(files, noted);
+    let noted = GhostImage::of_read(found.files.pages, found.files.directory, found.redo);
+    let mut disk = Recorded::<RealFiles<'a, R>, Unknown, GhostImage>::new(files, noted);
     match save_first(alloc, &mut disk, found.redo, plan, ROOM)? {
         (LogSave::Pending(_), _) => Ok(SessionLog::Closed),
         (LogSave::Done, log) => match new {

@@ -8,6 +8,7 @@ use Rattle.dbm_records.specs.Delete.{delete}
 use Rattle.dbm_records.specs.Rename.{rename}
 use Rattle.dbm_records.specs.Run.{run}
 use Rattle.dbm_records.specs.Incr.{incr}
+use Rattle.dbm_records.specs.Each.{each}
 use Rattle.dbm_records.specs.Batch.{batch}
 use Rattle.dbm_databases.specs.List.{list}
 use Rattle.dbm_databases.specs.Keys.{keys}
@@ -42,5 +43,5 @@ bare_shape = record titled {
 abbrev pub tool : App
 tool = record {
   top = record bare_shape { is_leaf = false };
-  subs = fetch ∷ store ∷ delete ∷ rename ∷ incr ∷ list ∷ keys ∷ count ∷ check ∷ stats ∷ script ∷ session ∷ widen ∷ compact ∷ backup ∷ dump ∷ load ∷ asm ∷ disasm ∷ verify ∷ programs ∷ run ∷ batch ∷ [];
+  subs = fetch ∷ store ∷ delete ∷ rename ∷ incr ∷ list ∷ keys ∷ count ∷ check ∷ stats ∷ script ∷ session ∷ widen ∷ compact ∷ backup ∷ dump ∷ load ∷ asm ∷ disasm ∷ verify ∷ programs ∷ run ∷ each ∷ batch ∷ [];
 }

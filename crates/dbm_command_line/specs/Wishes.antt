@@ -28,6 +28,7 @@ use Rattle.dbm_programs.specs.Verify.{VerifyAsks, verify_head}
 use Rattle.dbm_records.specs.Batch.{BatchAsks, each_core, batch_head}
 use Rattle.dbm_records.specs.Run.{RunAsks, run_head}
 use Rattle.dbm_records.specs.Incr.{IncrAsks, incr_head}
+use Rattle.dbm_records.specs.Each.{EachAsks, each_head}
 use Rattle.dbm_databases.specs.Script.{ScriptAsks, script_head}
 use Rattle.dbm_databases.specs.Widen.{WidenAsks, widen_head}
 use Rattle.dbm_session.specs.Session.{SessionAsks}
@@ -51,6 +52,7 @@ head_of (wish.Delete delete) = delete_head delete
 head_of (wish.Rename rename) = rename_head rename
 head_of (wish.Run run) = run_head run
 head_of (wish.Incr incr) = incr_head incr
+head_of (wish.Each each) = each_head each
 head_of (wish.Batch batch) = batch_head batch
 head_of (wish.List list) = list_head list
 head_of (wish.Keys keys) = keys_head keys
@@ -85,11 +87,13 @@ unit_named word = if bytes_eq word (codes "now") then Some Seconds else if bytes
 -- the unit of the time of day, if a request needs it
 abbrev pub time_asked : Wish → Option TimeUnit
 time_asked (wish.Run run) = unit_named run.now.now
+time_asked (wish.Each each) = unit_named each.now.now
 time_asked _ = None
 
--- the same request, with this word as the time of its run
+-- the same request, with this word as the time of its runs
 abbrev pub with_time : Bor Text → Wish → Wish
 with_time time (wish.Run run) = wish.Run (record run { now = time })
+with_time time (wish.Each each) = wish.Each (record each { now = time })
 with_time time other = other
 
 -- the lines of standard input may request the time of day
@@ -122,6 +126,7 @@ WishAsks name rows (wish.Delete delete) = (name ≡ codes "delete") × DeleteAsk
 WishAsks name rows (wish.Rename rename) = (name ≡ codes "rename") × RenameAsks rows rename
 WishAsks name rows (wish.Run run) = (name ≡ codes "run") × RunAsks rows run
 WishAsks name rows (wish.Incr incr) = (name ≡ codes "incr") × IncrAsks rows incr
+WishAsks name rows (wish.Each each) = (name ≡ codes "each") × EachAsks rows each
 WishAsks name rows (wish.Batch batch) = (name ≡ codes "batch") × BatchAsks rows batch
 WishAsks name rows (wish.List list) = (name ≡ codes "list") × ListAsks rows list
 WishAsks name rows (wish.Keys keys) = (name ≡ codes "keys") × KeysAsks rows keys

@@ -8,7 +8,7 @@ use clap::ArgMatches;
 use dbm_databases::{Check, Count, Keys, List, Script, Stats, Widen};
 use dbm_dump::{Backup, Compact, Dump, Load};
 use dbm_programs::{Asm, Disasm, Programs, Verify};
-use dbm_records::{Batch, Delete, Fetch, Incr, Rename, Run, Store};
+use dbm_records::{Batch, Delete, Each, Fetch, Incr, Rename, Run, Store};
 use dbm_session::Session;
 
 /// Reads the matches of the subcommand `name`. Returns `None` if a required word is missing, or if there is no subcommand of this
@@ -53,6 +53,7 @@ fn wished<'a>(name: &str, matches: &ArgMatches<'a>) -> Option<Wish<'a>>
         "verify" => Some(Wish::Verify(Verify::matched(matches)?)),
         "run" => Some(Wish::Run(Run::matched(matches)?)),
         "incr" => Some(Wish::Incr(Incr::matched(matches)?)),
+        "each" => Some(Wish::Each(Each::matched(matches)?)),
         "batch" => Some(Wish::Batch(Batch::matched(matches)?)),
         _ => None,
     }

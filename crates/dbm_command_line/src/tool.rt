@@ -14,8 +14,8 @@ use dbm_databases::{
 use dbm_dump::{backup_command, compact_command, dump_command, load_command};
 use dbm_programs::{asm_command, disasm_command, programs_command, verify_command};
 use dbm_records::{
-    batch_command, delete_command, fetch_command, incr_command, rename_command, run_command,
-    store_command,
+    batch_command, delete_command, each_command, fetch_command, incr_command, rename_command,
+    run_command, store_command,
 };
 use dbm_session::session_command;
 use std::alloc::{AllocError, Global};
@@ -47,6 +47,7 @@ pub fn tool_command<'a>(alloc: Global) -> Result<Command<'a>, AllocError>
     let command = with_subcommand(command, verify_command(alloc));
     let command = with_subcommand(command, programs_command(alloc));
     let command = with_subcommand(command, run_command(alloc));
+    let command = with_subcommand(command, each_command(alloc));
     with_subcommand(command, batch_command(alloc))
 }
 

@@ -6,6 +6,8 @@ pub mod Rename
 pub mod Running
 pub mod Run
 pub mod Incr
+pub mod EachRuns
+pub mod Each
 pub mod Batch
 pub mod PageRequests
 pub mod PageResults

@@ -5,6 +5,8 @@
 mod batch;
 mod command;
 mod delete;
+mod each;
+mod each_run;
 mod fetch;
 mod incr;
 mod page_request;
@@ -14,10 +16,12 @@ mod renaming;
 mod run;
 mod running;
 mod store;
+mod tally;
 
 pub use batch::{Batch, EACH_CORE, batch_command};
 pub use command::command_in;
 pub use delete::{Delete, delete_command};
+pub use each::{Each, each_command};
 pub use fetch::{Fetch, fetch_command, look_as};
 pub use incr::{Incr, incr_command};
 pub use page_request::{PageRequest, delete_request, fetch_request, run_request, store_request};

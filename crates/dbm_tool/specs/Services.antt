@@ -16,6 +16,7 @@ use Rattle.dbm_records.specs.Delete.{delete_in}
 use Rattle.dbm_records.specs.Rename.{rename_in}
 use Rattle.dbm_records.specs.Run.{run_in}
 use Rattle.dbm_records.specs.Incr.{incr_in}
+use Rattle.dbm_records.specs.Each.{each_in}
 use Rattle.dbm_databases.specs.List.{list_in}
 use Rattle.dbm_databases.specs.Keys.{keys_in}
 use Rattle.dbm_databases.specs.Count.{count_in}
@@ -68,6 +69,7 @@ service_in n (wish.Delete delete) given input = reporting (delete_in n delete gi
 service_in n (wish.Rename rename) given input = reporting (rename_in n rename given)
 service_in n (wish.Run run) given input = reporting (run_in n run given)
 service_in n (wish.Incr incr) given input = reporting (incr_in n incr given)
+service_in n (wish.Each each) given input = reporting (each_in n each given)
 service_in n (wish.Batch batch) given input = batch_in n batch given input
 service_in n (wish.List list) given input = reporting (list_in n list given)
 service_in n (wish.Keys keys) given input = reporting (keys_in n keys given)

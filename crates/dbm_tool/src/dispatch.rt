@@ -53,6 +53,7 @@ fn serve_in<T: Threads + Wait + Sync, R: Read, W: Write>(
         Wish::Rename(rename) => outcome_of(serve(alloc, n, &rename, given, reader, writer)),
         Wish::Run(asked) => outcome_of(serve(alloc, n, &asked, given, reader, writer)),
         Wish::Incr(incr) => outcome_of(serve(alloc, n, &incr, given, reader, writer)),
+        Wish::Each(each) => outcome_of(serve(alloc, n, &each, given, reader, writer)),
         Wish::Batch(asked) => outcome_of(serve_batch(rt, alloc, n, asked, given, reader, writer)),
         Wish::List(list) => outcome_of(list.serve(alloc, n, given, writer)),
         Wish::Keys(keys) => outcome_of(keys.serve(alloc, n, given, writer)),

@@ -37,6 +37,7 @@ fn asked_text(global: Global, wish: &Wish<'_>) -> Result<String, AllocError> {
         Wish::Rename(rename) => format!(in global; "{rename:?}"),
         Wish::Run(run) => format!(in global; "{run:?}"),
         Wish::Incr(incr) => format!(in global; "{incr:?}"),
+        Wish::Each(each) => format!(in global; "{each:?}"),
         Wish::Batch(batch) => format!(in global; "{batch:?}"),
         Wish::List(list) => format!(in global; "{list:?}"),
         Wish::Keys(keys) => format!(in global; "{keys:?}"),

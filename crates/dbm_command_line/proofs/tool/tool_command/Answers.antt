@@ -20,6 +20,7 @@ use Rattle.dbm_programs.specs.Programs.{programs}
 use Rattle.dbm_programs.specs.Verify.{verify}
 use Rattle.dbm_records.specs.Run.{run}
 use Rattle.dbm_records.specs.Incr.{incr}
+use Rattle.dbm_records.specs.Each.{each}
 use Rattle.dbm_records.specs.Batch.{batch}
 use Rattle.dbm_command_line.proofs.tool.tool_command.Goals as goal
 
@@ -47,4 +48,5 @@ returns c =
     let with_verify = c.with_subcommand-command-20.ensures _ verify with_disasm c.verify_command.ensures in
     let with_programs = c.with_subcommand-command-21.ensures _ programs with_verify c.programs_command.ensures in
     let with_run = c.with_subcommand-command-22.ensures _ run with_programs c.run_command.ensures in
-    c.with_subcommand.ensures _ batch with_run c.batch_command.ensures
+    let with_each = c.with_subcommand-command-23.ensures _ each with_run c.each_command.ensures in
+    c.with_subcommand.ensures _ batch with_each c.batch_command.ensures

@@ -16,6 +16,7 @@ use Rattle.dbm_programs.specs.Verify.{verify_in}
 use Rattle.dbm_records.specs.Rename.{rename_in}
 use Rattle.dbm_records.specs.Run.{run_in}
 use Rattle.dbm_records.specs.Incr.{incr_in}
+use Rattle.dbm_records.specs.Each.{each_in}
 use Rattle.dbm_databases.specs.Script.{script_in}
 use Rattle.dbm_databases.specs.Widen.{widen_in}
 use Rattle.dbm_tool.specs.Services.{batch_in}
@@ -39,6 +40,9 @@ returns-in-Run g c = rw (c.in-Run.is) (reported (run_in c.args.n.now c.in-Run.as
 
 pub returns-in-Incr : goal.returns-in-Incr
 returns-in-Incr g c = rw (c.in-Incr.is) (reported (incr_in c.args.n.now c.in-Incr.incr c.args.given.now) _ _ _ _ _ _ c.serve-in-Incr.result c.outcome_of-in-Incr.result c.outcome_of-in-Incr.ensures c.serve-in-Incr.ensures.ok c.serve-in-Incr.ensures.fault c.serve-in-Incr.ensures.database c.serve-in-Incr.ensures.unread)
+
+pub returns-in-Each : goal.returns-in-Each
+returns-in-Each g c = rw (c.in-Each.is) (reported (each_in c.args.n.now c.in-Each.each c.args.given.now) _ _ _ _ _ _ c.serve-in-Each.result c.outcome_of-in-Each.result c.outcome_of-in-Each.ensures c.serve-in-Each.ensures.ok c.serve-in-Each.ensures.fault c.serve-in-Each.ensures.database c.serve-in-Each.ensures.unread)
 
 pub returns-in-List : goal.returns-in-List
 returns-in-List g c = rw (c.in-List.is) (reported (list_in c.args.n.now c.in-List.list c.args.given.now) _ _ _ _ _ _ c.serve-in-List.result c.outcome_of-in-List.result c.outcome_of-in-List.ensures c.serve-in-List.ensures.ok c.serve-in-List.ensures.fault c.serve-in-List.ensures.database (λ _. refl))

@@ -11,6 +11,6 @@ mod writing;
 
 pub use escapes::DIGITS;
 pub use layouts::{Kind, Layout, Number, read_layout, show_by};
-pub use numbers::read_number;
+pub use numbers::{put_number, read_number, read_signed};
 pub use text::{read_text, show_text};
 pub use writing::{CutShort, write_all};

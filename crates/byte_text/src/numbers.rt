@@ -69,8 +69,8 @@ fn parsed(text: &[u8]) -> Option<u64>
     digits.parse().ok()
 }
 
-// Parses a signed number of 64 bits and returns its two's complement. Returns `None` if the text is not such a number.
-pub(crate) fn read_signed(text: &[u8]) -> Option<u64>
+/// Parses a signed number of 64 bits and returns its two's complement. Returns `None` if the text is not such a number.
+pub fn read_signed(text: &[u8]) -> Option<u64>
     ensures { result ≡ signed_of text.now }
 {
     match text {
@@ -106,8 +106,11 @@ pub(crate) fn show_signed<A: Allocator>(word: u64, text: &mut Vec<u8, A>) -> Res
     show_number(u64::MAX - word + 1, text)
 }
 
-// Appends the low `width` bytes of a number, little-endian.
-pub(crate) fn put_number<A: Allocator>(
+/// Appends the low `width` bytes of a number, little-endian.
+///
+/// # Errors
+/// `AllocError` if allocation fails; some of the bytes may have been appended.
+pub fn put_number<A: Allocator>(
     number: u64,
     width: usize,
     bytes: &mut Vec<u8, A>,

@@ -7,6 +7,8 @@ use Rattle.dbm_records.specs.Store.{store}
 use Rattle.dbm_records.specs.Delete.{delete}
 use Rattle.dbm_records.specs.Rename.{rename}
 use Rattle.dbm_records.specs.Run.{run}
+use Rattle.dbm_records.specs.Incr.{incr}
+use Rattle.dbm_records.specs.Each.{each}
 use Rattle.dbm_records.specs.Batch.{batch}
 use Rattle.dbm_databases.specs.List.{list}
 use Rattle.dbm_databases.specs.Keys.{keys}
@@ -17,6 +19,7 @@ use Rattle.dbm_databases.specs.Script.{script}
 use Rattle.dbm_databases.specs.Widen.{widen}
 use Rattle.dbm_session.specs.Session.{session}
 use Rattle.dbm_dump.specs.Backup.{backup}
+use Rattle.dbm_dump.specs.Compact.{compact}
 use Rattle.dbm_dump.specs.Dump.{dump}
 use Rattle.dbm_dump.specs.Load.{load}
 use Rattle.dbm_programs.specs.Asm.{asm}
@@ -40,5 +43,5 @@ bare_shape = record titled {
 abbrev pub tool : App
 tool = record {
   top = record bare_shape { is_leaf = false };
-  subs = fetch ∷ store ∷ delete ∷ rename ∷ list ∷ keys ∷ count ∷ check ∷ stats ∷ script ∷ session ∷ widen ∷ backup ∷ dump ∷ load ∷ asm ∷ disasm ∷ verify ∷ programs ∷ run ∷ batch ∷ [];
+  subs = fetch ∷ store ∷ delete ∷ rename ∷ incr ∷ list ∷ keys ∷ count ∷ check ∷ stats ∷ script ∷ session ∷ widen ∷ compact ∷ backup ∷ dump ∷ load ∷ asm ∷ disasm ∷ verify ∷ programs ∷ run ∷ each ∷ batch ∷ [];
 }

@@ -9,6 +9,7 @@ use Rattle.clap.specs.declared.error.Error.{Error}
 use Rattle.dbm_command_line.specs.Tool.{tool}
 use Rattle.dbm_args.specs.Given.{IsAccessOf, has_words}
 use Rattle.dbm_dump.specs.Backup.{BackupAsks}
+use Rattle.dbm_dump.specs.Compact.{CompactAsks, compact_head}
 use Rattle.dbm_dump.specs.Dump.{DumpAsks, dump_head}
 use Rattle.dbm_dump.specs.Load.{LoadAsks, load_head}
 use Rattle.dbm_databases.specs.Count.{CountAsks, count_head}
@@ -26,6 +27,8 @@ use Rattle.dbm_programs.specs.Programs.{ProgramsAsks}
 use Rattle.dbm_programs.specs.Verify.{VerifyAsks, verify_head}
 use Rattle.dbm_records.specs.Batch.{BatchAsks, each_core, batch_head}
 use Rattle.dbm_records.specs.Run.{RunAsks, run_head}
+use Rattle.dbm_records.specs.Incr.{IncrAsks, incr_head}
+use Rattle.dbm_records.specs.Each.{EachAsks, each_head}
 use Rattle.dbm_databases.specs.Script.{ScriptAsks, script_head}
 use Rattle.dbm_databases.specs.Widen.{WidenAsks, widen_head}
 use Rattle.dbm_session.specs.Session.{SessionAsks}
@@ -48,6 +51,8 @@ head_of (wish.Store store) = store_head store
 head_of (wish.Delete delete) = delete_head delete
 head_of (wish.Rename rename) = rename_head rename
 head_of (wish.Run run) = run_head run
+head_of (wish.Incr incr) = incr_head incr
+head_of (wish.Each each) = each_head each
 head_of (wish.Batch batch) = batch_head batch
 head_of (wish.List list) = list_head list
 head_of (wish.Keys keys) = keys_head keys
@@ -56,6 +61,7 @@ head_of (wish.Check check) = check_head check
 head_of (wish.Stats stats) = stats_head stats
 head_of (wish.Script script) = script_head script
 head_of (wish.Widen widen) = widen_head widen
+head_of (wish.Compact compact) = compact_head compact
 head_of (wish.Dump dump) = dump_head dump
 head_of (wish.Load load) = load_head load
 head_of (wish.Asm asm) = asm_head asm
@@ -81,11 +87,13 @@ unit_named word = if bytes_eq word (codes "now") then Some Seconds else if bytes
 -- the unit of the time of day, if a request needs it
 abbrev pub time_asked : Wish → Option TimeUnit
 time_asked (wish.Run run) = unit_named run.now.now
+time_asked (wish.Each each) = unit_named each.now.now
 time_asked _ = None
 
--- the same request, with this word as the time of its run
+-- the same request, with this word as the time of its runs
 abbrev pub with_time : Bor Text → Wish → Wish
 with_time time (wish.Run run) = wish.Run (record run { now = time })
+with_time time (wish.Each each) = wish.Each (record each { now = time })
 with_time time other = other
 
 -- the lines of standard input may request the time of day
@@ -117,6 +125,8 @@ WishAsks name rows (wish.Store store) = (name ≡ codes "store") × StoreAsks ro
 WishAsks name rows (wish.Delete delete) = (name ≡ codes "delete") × DeleteAsks rows delete
 WishAsks name rows (wish.Rename rename) = (name ≡ codes "rename") × RenameAsks rows rename
 WishAsks name rows (wish.Run run) = (name ≡ codes "run") × RunAsks rows run
+WishAsks name rows (wish.Incr incr) = (name ≡ codes "incr") × IncrAsks rows incr
+WishAsks name rows (wish.Each each) = (name ≡ codes "each") × EachAsks rows each
 WishAsks name rows (wish.Batch batch) = (name ≡ codes "batch") × BatchAsks rows batch
 WishAsks name rows (wish.List list) = (name ≡ codes "list") × ListAsks rows list
 WishAsks name rows (wish.Keys keys) = (name ≡ codes "keys") × KeysAsks rows keys
@@ -125,6 +135,7 @@ WishAsks name rows (wish.Check check) = (name ≡ codes "check") × CheckAsks ro
 WishAsks name rows (wish.Stats stats) = (name ≡ codes "stats") × StatsAsks rows stats
 WishAsks name rows (wish.Script script) = (name ≡ codes "script") × ScriptAsks rows script
 WishAsks name rows (wish.Widen widen) = (name ≡ codes "widen") × WidenAsks rows widen
+WishAsks name rows (wish.Compact compact) = (name ≡ codes "compact") × CompactAsks rows compact
 WishAsks name rows (wish.Dump dump) = (name ≡ codes "dump") × DumpAsks rows dump
 WishAsks name rows (wish.Load load) = (name ≡ codes "load") × LoadAsks rows load
 WishAsks name rows (wish.Asm asm) = (name ≡ codes "asm") × AsmAsks rows asm

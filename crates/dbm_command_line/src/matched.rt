@@ -6,9 +6,9 @@ ghost use Rattle.dbm_command_line.specs.Wishes.{SubcommandAsks, WishAsks, lacks_
 use crate::wish::{Ask, Wish};
 use clap::ArgMatches;
 use dbm_databases::{Check, Count, Keys, List, Script, Stats, Widen};
-use dbm_dump::{Backup, Dump, Load};
+use dbm_dump::{Backup, Compact, Dump, Load};
 use dbm_programs::{Asm, Disasm, Programs, Verify};
-use dbm_records::{Batch, Delete, Fetch, Rename, Run, Store};
+use dbm_records::{Batch, Delete, Each, Fetch, Incr, Rename, Run, Store};
 use dbm_session::Session;
 
 /// Reads the matches of the subcommand `name`. Returns `None` if a required word is missing, or if there is no subcommand of this
@@ -45,12 +45,15 @@ fn wished<'a>(name: &str, matches: &ArgMatches<'a>) -> Option<Wish<'a>>
         "stats" => Some(Wish::Stats(Stats::matched(matches)?)),
         "script" => Some(Wish::Script(Script::matched(matches)?)),
         "widen" => Some(Wish::Widen(Widen::matched(matches)?)),
+        "compact" => Some(Wish::Compact(Compact::matched(matches)?)),
         "dump" => Some(Wish::Dump(Dump::matched(matches)?)),
         "load" => Some(Wish::Load(Load::matched(matches)?)),
         "asm" => Some(Wish::Asm(Asm::matched(matches)?)),
         "disasm" => Some(Wish::Disasm(Disasm::matched(matches)?)),
         "verify" => Some(Wish::Verify(Verify::matched(matches)?)),
         "run" => Some(Wish::Run(Run::matched(matches)?)),
+        "incr" => Some(Wish::Incr(Incr::matched(matches)?)),
+        "each" => Some(Wish::Each(Each::matched(matches)?)),
         "batch" => Some(Wish::Batch(Batch::matched(matches)?)),
         _ => None,
     }

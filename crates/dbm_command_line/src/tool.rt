@@ -11,10 +11,11 @@ use dbm_databases::{
     check_command, count_command, keys_command, list_command, script_command, stats_command,
     widen_command,
 };
-use dbm_dump::{backup_command, dump_command, load_command};
+use dbm_dump::{backup_command, compact_command, dump_command, load_command};
 use dbm_programs::{asm_command, disasm_command, programs_command, verify_command};
 use dbm_records::{
-    batch_command, delete_command, fetch_command, rename_command, run_command, store_command,
+    batch_command, delete_command, each_command, fetch_command, incr_command, rename_command,
+    run_command, store_command,
 };
 use dbm_session::session_command;
 use std::alloc::{AllocError, Global};
@@ -28,6 +29,7 @@ pub fn tool_command<'a>(alloc: Global) -> Result<Command<'a>, AllocError>
     let command = with_subcommand(command, store_command(alloc));
     let command = with_subcommand(command, delete_command(alloc));
     let command = with_subcommand(command, rename_command(alloc));
+    let command = with_subcommand(command, incr_command(alloc));
     let command = with_subcommand(command, list_command(alloc));
     let command = with_subcommand(command, keys_command(alloc));
     let command = with_subcommand(command, count_command(alloc));
@@ -36,6 +38,7 @@ pub fn tool_command<'a>(alloc: Global) -> Result<Command<'a>, AllocError>
     let command = with_subcommand(command, script_command(alloc));
     let command = with_subcommand(command, session_command(alloc));
     let command = with_subcommand(command, widen_command(alloc));
+    let command = with_subcommand(command, compact_command(alloc));
     let command = with_subcommand(command, backup_command(alloc));
     let command = with_subcommand(command, dump_command(alloc));
     let command = with_subcommand(command, load_command(alloc));
@@ -44,6 +47,7 @@ pub fn tool_command<'a>(alloc: Global) -> Result<Command<'a>, AllocError>
     let command = with_subcommand(command, verify_command(alloc));
     let command = with_subcommand(command, programs_command(alloc));
     let command = with_subcommand(command, run_command(alloc));
+    let command = with_subcommand(command, each_command(alloc));
     with_subcommand(command, batch_command(alloc))
 }
 
@@ -68,7 +72,7 @@ fn titled_command<'a>(alloc: Global) -> Command<'a>
             "Keys and values are in hex, two digits a byte; with --text, or DBM_TEXT=1, they are text. . is no bytes.\n\
              Exit status:\n\
              0  success, and every other answer\n\
-             1  one command answered missing, exists, crowded or refused, or run --expect got another code\n\
+             1  one command answered missing, exists, crowded or refused, run --expect got another code, or incr is at a bound\n\
              2  a fault, which is printed on standard error\n\
              3  run --expect does not run the program\n\n\
              Example: dbm store users ab xyz --text\n\

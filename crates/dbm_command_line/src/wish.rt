@@ -1,12 +1,12 @@
 //! The requests of a command line.
 ghost use Rattle.std.specs.Prelude.{◌≡◌};
-ghost use Rattle.dbm_command_line.specs.Wishes.{asks_clock, asks_cores, head_of, time_asked, with_clock, with_time, with_workers};
+ghost use Rattle.dbm_command_line.specs.Wishes.{asks_clock, asks_cores, head_of, time_asked, unit_named, with_clock, with_time, with_workers};
 
 use dbm_args::{Access, Head, TimeUnit, Words};
 use dbm_databases::{Check, Count, Keys, List, Script, Stats, Widen};
-use dbm_dump::{Backup, Dump, Load};
+use dbm_dump::{Backup, Compact, Dump, Load};
 use dbm_programs::{Asm, Disasm, Programs, Verify};
-use dbm_records::{Batch, Delete, EACH_CORE, Fetch, Rename, Run, Store};
+use dbm_records::{Batch, Delete, EACH_CORE, Each, Fetch, Incr, Rename, Run, Store};
 use dbm_script::TimeOfDay;
 use dbm_session::Session;
 
@@ -19,6 +19,8 @@ pub enum Wish<'a> {
     Delete(Delete<'a>),
     Rename(Rename<'a>),
     Run(Run<'a>),
+    Incr(Incr<'a>),
+    Each(Each<'a>),
     Batch(Batch<'a>),
     List(List<'a>),
     Keys(Keys<'a>),
@@ -27,11 +29,23 @@ pub enum Wish<'a> {
     Stats(Stats<'a>),
     Script(Script<'a>),
     Widen(Widen<'a>),
+    Compact(Compact<'a>),
     Dump(Dump<'a>),
     Load(Load<'a>),
     Asm(Asm<'a>),
     Disasm(Disasm<'a>),
     Verify(Verify<'a>),
+}
+
+// The unit that a word for the time names, if it requests the time of day.
+fn unit_named(word: &str) -> Option<TimeUnit>
+    ensures { result ≡ unit_named word.now }
+{
+    match word {
+        "now" => Some(TimeUnit::Seconds),
+        "now-ms" => Some(TimeUnit::Milliseconds),
+        _ => None,
+    }
 }
 
 /// The request of a command line.
@@ -65,6 +79,8 @@ impl<'a> Wish<'a> {
             Wish::Delete(delete) => delete.head(),
             Wish::Rename(rename) => rename.head(),
             Wish::Run(run) => run.head(),
+            Wish::Incr(incr) => incr.head(),
+            Wish::Each(each) => each.head(),
             Wish::Batch(batch) => batch.head(),
             Wish::List(list) => list.head(),
             Wish::Keys(keys) => keys.head(),
@@ -73,6 +89,7 @@ impl<'a> Wish<'a> {
             Wish::Stats(stats) => stats.head(),
             Wish::Script(script) => script.head(),
             Wish::Widen(widen) => widen.head(),
+            Wish::Compact(compact) => compact.head(),
             Wish::Dump(dump) => dump.head(),
             Wish::Load(load) => load.head(),
             Wish::Asm(asm) => asm.head(),
@@ -81,26 +98,24 @@ impl<'a> Wish<'a> {
         }
     }
 
-    /// The unit of the time of day, if it is requested: by `run` with `now` or `now-ms` as its time.
+    /// The unit of the time of day, if it is requested: by `run` or `each` with `now` or `now-ms` as its time.
     pub fn time_asked(&self) -> Option<TimeUnit>
         ensures { result ≡ time_asked self.now }
     {
         match *self {
-            Wish::Run(run) => match run.now {
-                "now" => Some(TimeUnit::Seconds),
-                "now-ms" => Some(TimeUnit::Milliseconds),
-                _ => None,
-            },
+            Wish::Run(run) => unit_named(run.now),
+            Wish::Each(each) => unit_named(each.now),
             _ => None,
         }
     }
 
-    /// The same request, with this word as the time of a run.
+    /// The same request, with this word as the time of its runs.
     pub fn with_time(self, time: &'a str) -> Wish<'a>
         ensures { result ≡ with_time time.entry self.entry }
     {
         match self {
             Wish::Run(run) => Wish::Run(Run { now: time, ..run }),
+            Wish::Each(each) => Wish::Each(Each { now: time, ..each }),
             other => other,
         }
     }
@@ -161,6 +176,8 @@ impl<'a> Wish<'a> {
             Wish::Delete(delete) => delete.words(),
             Wish::Rename(rename) => rename.words(),
             Wish::Run(run) => run.words(),
+            Wish::Incr(incr) => incr.words(),
+            Wish::Each(each) => each.words(),
             Wish::Batch(batch) => batch.words(),
             Wish::List(list) => list.words(),
             Wish::Keys(keys) => keys.words(),
@@ -169,6 +186,7 @@ impl<'a> Wish<'a> {
             Wish::Stats(stats) => stats.words(),
             Wish::Script(script) => script.words(),
             Wish::Widen(widen) => widen.words(),
+            Wish::Compact(compact) => compact.words(),
             Wish::Dump(dump) => dump.words(),
             Wish::Load(load) => load.words(),
             Wish::Asm(asm) => asm.words(),

@@ -8,3 +8,4 @@ pub mod PlainBack
 pub mod GdbmBack
 pub mod MoreTexts
 pub mod Dumping
+pub mod Compacting

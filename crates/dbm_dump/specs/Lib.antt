@@ -11,3 +11,4 @@ pub mod Backup
 pub mod Causes
 pub mod Dump
 pub mod Load
+pub mod Compact

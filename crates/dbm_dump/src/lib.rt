@@ -1,8 +1,9 @@
 //! Dumps: all pairs of a database as one text, in our own format, in gdbm's or as commands for Redis, and loading the first two. Also the
-//! subcommands `backup`, `dump` and `load`.
+//! subcommands `backup`, `compact`, `dump` and `load`.
 #![tactic(auto)]
 
 mod backup;
+mod compact;
 mod copy_fault;
 mod dump;
 mod fault;
@@ -16,6 +17,7 @@ mod symbols;
 mod writing;
 
 pub use backup::{Backup, backup_command};
+pub use compact::{Compact, compact_command};
 pub use copy_fault::CopyFault;
 pub use dump::{Dump, dump_command};
 pub use fault::DumpFault;

@@ -175,7 +175,7 @@ fn take_line(
 }
 
 // Stores the pair of the line with this number.
-fn store_pair(
+pub(crate) fn store_pair(
     alloc: Global,
     mode: Mode,
     image: Image<Global>,

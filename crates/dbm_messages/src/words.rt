@@ -1,6 +1,7 @@
 //! Invalid words of a command line.
 
 use crate::sentence::{Part, Sentence, with_three, with_two};
+use byte_text::read_signed;
 use dbm_args::{Named, Numbers, Words};
 use dbm_script::{Notation, read_blank, read_bytes, read_number};
 use std::alloc::Global;
@@ -22,6 +23,9 @@ const NO_TIME: &str = "is neither now, now-ms nor a number below 184467440737095
 
 const NO_EVERY: &str =
     "is neither a number of lines, at least 1, nor a number of seconds with an s, such as 5s";
+
+const NO_AMOUNT: &str =
+    "is not a number from -9223372036854775808 to 9223372036854775807 without leading zeros";
 
 const NO_COUNT: &str = "is not a number below 4294967296";
 
@@ -85,6 +89,18 @@ pub fn number_sentence<'a>(numbers: Numbers<'a>) -> Option<Sentence<'a>> {
     if let Some(word) = numbers.workers {
         let name = "WORKERS";
         return Some(word_sentence(Named { name, word }, NO_COUNT));
+    }
+    if let Some(word) = numbers.amount
+        && read_signed(word.as_bytes()).is_none()
+    {
+        let name = "AMOUNT";
+        return Some(word_sentence(Named { name, word }, NO_AMOUNT));
+    }
+    if let Some(wrong) = wrong_number("--min", numbers.min) {
+        return Some(word_sentence(wrong, NO_NUMBER));
+    }
+    if let Some(wrong) = wrong_number("--max", numbers.max) {
+        return Some(word_sentence(wrong, NO_NUMBER));
     }
     if let Some(wrong) = wrong_number("--expect", numbers.expect) {
         return Some(word_sentence(wrong, NO_NUMBER));

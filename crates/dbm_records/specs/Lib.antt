@@ -5,6 +5,9 @@ pub mod Delete
 pub mod Rename
 pub mod Running
 pub mod Run
+pub mod Incr
+pub mod EachRuns
+pub mod Each
 pub mod Batch
 pub mod PageRequests
 pub mod PageResults

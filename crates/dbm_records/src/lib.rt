@@ -1,11 +1,14 @@
-//! The subcommands of one record: `fetch`, `store`, `delete`, `rename` and `run`, and the words of `batch`. `answer_on_page` serves them from
+//! The subcommands of one record: `fetch`, `store`, `delete`, `rename`, `run` and `incr`, and the words of `batch`. `answer_on_page` serves them from
 //! the page of their key, so that the rest of the files stays unread.
 #![tactic(auto)]
 
 mod batch;
 mod command;
 mod delete;
+mod each;
+mod each_run;
 mod fetch;
+mod incr;
 mod page_request;
 mod page_result;
 mod rename;
@@ -13,11 +16,14 @@ mod renaming;
 mod run;
 mod running;
 mod store;
+mod tally;
 
 pub use batch::{Batch, EACH_CORE, batch_command};
 pub use command::command_in;
 pub use delete::{Delete, delete_command};
+pub use each::{Each, each_command};
 pub use fetch::{Fetch, fetch_command, look_as};
+pub use incr::{Incr, incr_command};
 pub use page_request::{PageRequest, delete_request, fetch_request, run_request, store_request};
 pub use page_result::{PageResult, answer_on_page};
 pub use rename::{Rename, rename_command};

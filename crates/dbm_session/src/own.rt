@@ -15,7 +15,7 @@ insert KEY VALUE     count               save
 program IMAGE        run KEY PROG ARG BLANK NOW
 .list [PREFIX]       .keys [PREFIX]      .stats
 .program FILE        .program @NAME       .help
-The end of the input, Ctrl-D at a terminal, saves and ends the session.
+The end of the input saves and ends the session: at a terminal Ctrl-D, quit or exit.
 ";
 
 /// A line that scripts do not have.

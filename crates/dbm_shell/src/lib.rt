@@ -4,5 +4,6 @@
 mod host_log;
 mod serving;
 mod shell;
+mod terminal_lines;
 
 pub use serving::serve_session;

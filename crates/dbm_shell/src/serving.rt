@@ -1,12 +1,14 @@
 //! A session on the files of its database.
 
 use crate::shell::{Options, Shell};
+use crate::terminal_lines::TerminalLines;
 use dbm_files::{RunFiles, SessionSaves};
 use dbm_messages::ServeFault;
 use dbm_places::{FileBytes, FilesFault, RunPlace};
 use dbm_reports::{Given, ReportFault, notation_by, open};
 use dbm_script::Notation;
 use dbm_session::{Session, SessionEnd, SessionFault, read_every, run_session};
+use dbm_stderr::is_terminal;
 use sdbm_files::Image;
 use std::alloc::Global;
 use std::fs::File;
@@ -71,7 +73,8 @@ fn answer_lines<R: Runtime<File = File> + Clock + AllocGlobal, I: Read>(
     shell: &mut Shell<'_, R>,
 ) -> Result<(), ServeFault> {
     let mut writer = io::writer(rt);
-    let ended = run_session(rt.alloc(), notation, image, reader, &mut writer, shell);
+    let mut lines = TerminalLines::new(reader, is_terminal(rt, 0));
+    let ended = run_session(rt.alloc(), notation, image, &mut lines, &mut writer, shell);
     shell.end_saves();
     match ended {
         Ok(

@@ -15,6 +15,8 @@ use Rattle.dbm_records.specs.Store.{store_in, takes_input}
 use Rattle.dbm_records.specs.Delete.{delete_in}
 use Rattle.dbm_records.specs.Rename.{rename_in}
 use Rattle.dbm_records.specs.Run.{run_in}
+use Rattle.dbm_records.specs.Incr.{incr_in}
+use Rattle.dbm_records.specs.Each.{each_in}
 use Rattle.dbm_databases.specs.List.{list_in}
 use Rattle.dbm_databases.specs.Keys.{keys_in}
 use Rattle.dbm_databases.specs.Count.{count_in}
@@ -23,6 +25,7 @@ use Rattle.dbm_databases.specs.Stats.{stats_in}
 use Rattle.dbm_databases.specs.Script.{script_in}
 use Rattle.dbm_databases.specs.Widen.{widen_in}
 use Rattle.dbm_dump.specs.Causes.{DumpKnown}
+use Rattle.dbm_dump.specs.Compact.{compact_in}
 use Rattle.dbm_dump.specs.Dump.{dump_in}
 use Rattle.dbm_dump.specs.Load.{load_in}
 use Rattle.dbm_programs.specs.Asm.{asm_in}
@@ -65,6 +68,8 @@ service_in n (wish.Store store) given input = reporting (store_in n store given 
 service_in n (wish.Delete delete) given input = reporting (delete_in n delete given)
 service_in n (wish.Rename rename) given input = reporting (rename_in n rename given)
 service_in n (wish.Run run) given input = reporting (run_in n run given)
+service_in n (wish.Incr incr) given input = reporting (incr_in n incr given)
+service_in n (wish.Each each) given input = reporting (each_in n each given)
 service_in n (wish.Batch batch) given input = batch_in n batch given input
 service_in n (wish.List list) given input = reporting (list_in n list given)
 service_in n (wish.Keys keys) given input = reporting (keys_in n keys given)
@@ -73,6 +78,7 @@ service_in n (wish.Check check) given input = reporting (check_in check given)
 service_in n (wish.Stats stats) given input = reporting (stats_in stats given)
 service_in n (wish.Script script) given input = reporting (script_in n script.base script given input)
 service_in n (wish.Widen widen) given input = reporting (widen_in widen given)
+service_in n (wish.Compact compact) given input = reporting (compact_in compact given)
 service_in n (wish.Dump dump) given input = dumping (dump_in dump given)
 service_in n (wish.Load load) given input = dumping (load_in load given input)
 service_in n (wish.Asm asm) given input = reporting (asm_in given)

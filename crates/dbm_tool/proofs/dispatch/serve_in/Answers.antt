@@ -1,4 +1,5 @@
 use Rattle.std.proofs.Common.{refl}
+use Rattle.dbm_dump.specs.Compact.{compact_in}
 use Rattle.dbm_dump.specs.Dump.{dump_in}
 use Rattle.dbm_dump.specs.Load.{load_in}
 use Rattle.dbm_databases.specs.Count.{count_in}
@@ -14,6 +15,8 @@ use Rattle.dbm_programs.specs.Disasm.{disasm_in}
 use Rattle.dbm_programs.specs.Verify.{verify_in}
 use Rattle.dbm_records.specs.Rename.{rename_in}
 use Rattle.dbm_records.specs.Run.{run_in}
+use Rattle.dbm_records.specs.Incr.{incr_in}
+use Rattle.dbm_records.specs.Each.{each_in}
 use Rattle.dbm_databases.specs.Script.{script_in}
 use Rattle.dbm_databases.specs.Widen.{widen_in}
 use Rattle.dbm_tool.specs.Services.{batch_in}
@@ -35,6 +38,12 @@ returns-in-Rename g c = rw (c.in-Rename.is) (reported (rename_in c.args.n.now c.
 pub returns-in-Run : goal.returns-in-Run
 returns-in-Run g c = rw (c.in-Run.is) (reported (run_in c.args.n.now c.in-Run.asked c.args.given.now) _ _ _ _ _ _ c.serve-in-Run.result c.outcome_of-in-Run.result c.outcome_of-in-Run.ensures c.serve-in-Run.ensures.ok c.serve-in-Run.ensures.fault c.serve-in-Run.ensures.database c.serve-in-Run.ensures.unread)
 
+pub returns-in-Incr : goal.returns-in-Incr
+returns-in-Incr g c = rw (c.in-Incr.is) (reported (incr_in c.args.n.now c.in-Incr.incr c.args.given.now) _ _ _ _ _ _ c.serve-in-Incr.result c.outcome_of-in-Incr.result c.outcome_of-in-Incr.ensures c.serve-in-Incr.ensures.ok c.serve-in-Incr.ensures.fault c.serve-in-Incr.ensures.database c.serve-in-Incr.ensures.unread)
+
+pub returns-in-Each : goal.returns-in-Each
+returns-in-Each g c = rw (c.in-Each.is) (reported (each_in c.args.n.now c.in-Each.each c.args.given.now) _ _ _ _ _ _ c.serve-in-Each.result c.outcome_of-in-Each.result c.outcome_of-in-Each.ensures c.serve-in-Each.ensures.ok c.serve-in-Each.ensures.fault c.serve-in-Each.ensures.database c.serve-in-Each.ensures.unread)
+
 pub returns-in-List : goal.returns-in-List
 returns-in-List g c = rw (c.in-List.is) (reported (list_in c.args.n.now c.in-List.list c.args.given.now) _ _ _ _ _ _ c.serve-in-List.result c.outcome_of-in-List.result c.outcome_of-in-List.ensures c.serve-in-List.ensures.ok c.serve-in-List.ensures.fault c.serve-in-List.ensures.database (λ _. refl))
 
@@ -55,6 +64,9 @@ returns-in-Script g c = rw (c.in-Script.is) (reported (script_in c.args.n.now c.
 
 pub returns-in-Widen : goal.returns-in-Widen
 returns-in-Widen g c = rw (c.in-Widen.is) (reported (widen_in c.in-Widen.widen c.args.given.now) _ _ _ _ _ _ c.serve-in-Widen.result c.outcome_of-in-Widen.result c.outcome_of-in-Widen.ensures c.serve-in-Widen.ensures.ok c.serve-in-Widen.ensures.fault c.serve-in-Widen.ensures.database c.serve-in-Widen.ensures.unread)
+
+pub returns-in-Compact : goal.returns-in-Compact
+returns-in-Compact g c = rw (c.in-Compact.is) (reported (compact_in c.in-Compact.compact c.args.given.now) _ _ _ _ _ _ c.serve-in-Compact.result c.outcome_of-in-Compact.result c.outcome_of-in-Compact.ensures c.serve-in-Compact.ensures.ok c.serve-in-Compact.ensures.fault c.serve-in-Compact.ensures.database c.serve-in-Compact.ensures.unread)
 
 pub returns-in-Dump : goal.returns-in-Dump
 returns-in-Dump g c = rw (c.in-Dump.is) (dumped (dump_in c.in-Dump.dump c.args.given.now) _ _ _ _ _ _ c.serve-in-Dump.result c.outcome_of-in-Dump.result c.outcome_of-in-Dump.ensures c.serve-in-Dump.ensures.ok c.serve-in-Dump.ensures.fault c.serve-in-Dump.ensures.database c.serve-in-Dump.ensures.unread)

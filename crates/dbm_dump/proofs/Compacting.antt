@@ -11,6 +11,10 @@ use Rattle.dbm_dump.specs.Compact.{IsUnfit, UnfitAmong}
 use Rattle.dbm_dump.specs.Loading.{StoresAll, StoresOne}
 use Rattle.dbm_dump.proofs.MorePairs.{StoresAll-append}
 
+-- the default past the end of a list of borrowed pairs
+abbrev pub nothing_lent : Bor (List ℕ) × Bor (List ℕ)
+nothing_lent = (record { ref_ptr = (0, 0); now = [] }, record { ref_ptr = (0, 0); now = [] })
+
 -- one more pair is stored
 pub anew_more : (db : Database) (lent : List (Bor (List ℕ) × Bor (List ℕ))) (i : ℕ) (d : Bor (List ℕ) × Bor (List ℕ)) (mid after : Database) → i < length lent
     → StoresAll Insert db (pairs_lent (take i lent)) mid → StoresOne Insert mid (pair_lent (get_or lent i d)) after → StoresAll Insert db (pairs_lent (take (i + 1) lent)) after

@@ -4,3 +4,4 @@ pub mod Values
 pub mod RunFaults
 pub mod Alike
 pub mod Whole
+pub mod EachLemmas

@@ -42,7 +42,7 @@ prefix_in n (Some word) = bytes_of_word n word.now
 pub record AreEachWords (n : Notation Global) (each : Each) (words : EachWords) : Type 0 where
   pub arg : bytes_of_word n each.arg.now ≡ Some words.arg
   pub prefix : prefix_in n each.prefix ≡ Some words.prefix
-  pub now : number_of 18446744073709551615 each.now.now ≡ Some words.now
+  pub now : number_of 18446744073709551615 each.now.now ≡ Some words.time
 
 -- the argument or the prefix is not valid bytes
 abbrev pub HasBadWord : Notation Global → Each → Type 0

@@ -27,7 +27,7 @@ keys_of_each words db = keys_with words.prefix (map.entries (map_of db))
 
 -- a code runs on the record of a key, as session 0; the answer may be any
 abbrev pub RunsCode : List Insn → EachWords → Database → List ℕ → Database → Type 0
-RunsCode code words before key after = (answer : Answer Global) × IsAnswerTo Global before (Run key code words.arg None words.now) answer after
+RunsCode code words before key after = (answer : Answer Global) × IsAnswerTo Global before (Run key code words.arg None words.time) answer after
 
 -- a code runs once for each key, in order
 abbrev pub RunsInTurn : List Insn → EachWords → Database → List (List ℕ) → Database → Type 0

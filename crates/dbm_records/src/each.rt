@@ -1,5 +1,5 @@
 //! `each`: runs one program once on each record.
-ghost use Rattle.std.specs.Prelude.{◌≡◌, IfErr, IfOk, IfSome, IsNone};
+ghost use Rattle.std.specs.Prelude.{◌≡◌, IfErr, IfOk, IfSome, IsNone, false};
 ghost use Rattle.clap.specs.Words.{found_of, rows_of};
 ghost use Rattle.dbm_args.specs.CommandLine.{IsSubcommand};
 ghost use Rattle.dbm_args.specs.Given.{has_words};
@@ -190,7 +190,11 @@ fn each_words(
     let Some(now) = read_number(each.now.as_bytes(), u64::MAX) else {
         return Err(ReportFault::BadNumber);
     };
-    Ok(EachWords { prefix, arg, now })
+    Ok(EachWords {
+        prefix,
+        arg,
+        time: now,
+    })
 }
 
 // The bytes of the prefix; without the option it is empty.

@@ -19,7 +19,7 @@ pub struct EachWords {
     pub prefix: Bytes<Global>,
     pub arg: Bytes<Global>,
     /// The time that is passed to the program.
-    pub now: u64,
+    pub time: u64,
 }
 
 /// Runs the program of an image on each record whose key begins with the prefix, if it is accepted. The report of a dry run has no database.
@@ -165,7 +165,7 @@ fn run_key(
         prog,
         arg: words.arg.try_clone(alloc)?,
         blank: None,
-        now: words.now,
+        now: words.time,
     };
     let Some(command) = command_of_run(registry, ask)? else {
         unreachable!()

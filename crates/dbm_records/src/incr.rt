@@ -202,7 +202,7 @@ struct IncrNumbers {
 
 // Reads the amount and the bounds. Returns `None` if one is not a number.
 fn numbers_of(amount: Option<&str>, min: Option<&str>, max: Option<&str>) -> Option<IncrNumbers>
-    ensures { result ≡ spec.numbers_of amount min max }
+    ensures { result ≡ spec.numbers_of amount.entry min.entry max.entry }
 {
     let Some(amount) = amount_in(amount) else {
         return None;
@@ -218,7 +218,7 @@ fn numbers_of(amount: Option<&str>, min: Option<&str>, max: Option<&str>) -> Opt
 
 // The amount, by default 1, in two's complement.
 fn amount_in(word: Option<&str>) -> Option<u64>
-    ensures { result ≡ spec.amount_in word }
+    ensures { result ≡ spec.amount_in word.entry }
 {
     match word {
         Some(word) => read_signed(word.as_bytes()),
@@ -228,7 +228,7 @@ fn amount_in(word: Option<&str>) -> Option<u64>
 
 // A bound, or its default.
 fn bound_in(word: Option<&str>, least: u64) -> Option<u64>
-    ensures { result ≡ spec.bound_in least word }
+    ensures { result ≡ spec.bound_in least word.entry }
 {
     match word {
         Some(word) => read_number(word.as_bytes(), u64::MAX),

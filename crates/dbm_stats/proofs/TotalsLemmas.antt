@@ -2,7 +2,7 @@
 use Rattle.std.proofs.Common.{◌≡◌, ℕ, ◌+◌, ◌*◌, ◌<◌, ◌≤◌, max, List, [], ◌∷◌, ◌++◌, length, take, get_or, map as map_list, refl, sym, ap, ◌∙◌, subst, arith, length-append}
 use Rattle.std.proofs.lemmas.List.{take_more, take_all, get_or-map, length-map, append-nil}
 use Rattle.std.proofs.lemmas.List.Concat.{flat_map-append}
-use Rattle.std.proofs.lemmas.List.Sums.{fold-append, sum_by-append, sum_by-cons, sum_by-le-sum_by, sum_by-take-le}
+use Rattle.std.proofs.lemmas.List.Sums.{fold-append, sum_by-append, sum_by-le-sum_by, sum_by-take-le}
 use Rattle.std.specs.List.{fold, sum_by, flat_map}
 use Rattle.sdbm_addr.specs.declared.PageSize.{PageSize}
 use Rattle.sdbm_addr.specs.declared.PageSize.TheVariants.{Small, Wide}
@@ -10,7 +10,7 @@ use Rattle.sdbm_addr.specs.Pairs.{Pair, footprint, page_bytes, IsLaid}
 use Rattle.sdbm_addr.specs.Database.{Database}
 use Rattle.sdbm_addr.proofs.PairLemmas.{few_pairs}
 use Rattle.dbm_stats.specs.Totals.{greatest, totals_of, joined_totals, AreBelow}
-use Rattle.dbm_stats.specs.Shapes.{filled, shape_of}
+use Rattle.dbm_stats.specs.Shapes.{shape_of}
 use Rattle.dbm_stats.specs.declared.totals.PairTotals.{PairTotals}
 use Rattle.dbm_stats.specs.declared.totals.PageShape.{PageShape}
 
@@ -98,18 +98,3 @@ pub all_pages : (db : Database) (shapes : List PageShape) (pages : List (ℕ × 
 all_pages db shapes pages i t h are is =
     let long : length shapes ≡ length pages = ap length are ∙ length-map pages (shape_of db) in
     is ∙ ap (λ (xs : List (ℕ × List Pair)). totals_of (flat_map (λ (e : ℕ × List Pair). e.1) xs)) (take_all i pages (omega arith))
-
--- the space of pairs is the sum of their bytes and their offsets
-pub footprint_parts : (pairs : List Pair) → sum_by footprint pairs ≡ 4 * length pairs + (sum_by (λ (e : Pair). length e.0) pairs + sum_by (λ (e : Pair). length e.1) pairs)
-footprint_parts [] = refl
-footprint_parts (e ∷ es) =
-    let rest : sum_by footprint es ≡ 4 * length es + (sum_by (λ (e : Pair). length e.0) es + sum_by (λ (e : Pair). length e.1) es) = footprint_parts es in
-    rw (sum_by-cons footprint e es, sum_by-cons (λ (e : Pair). length e.0) e es, sum_by-cons (λ (e : Pair). length e.1) e es) (omega arith)
-
-pub filled_is : (pairs : List Pair) (t : PairTotals) → t ≡ totals_of pairs → 2 + 4 * t.count + t.key_bytes + t.value_bytes ≡ filled pairs
-filled_is pairs t is =
-    let parts = footprint_parts pairs in
-    let count : t.count ≡ length pairs = ap (λ (x : PairTotals). x.count) is in
-    let keys : t.key_bytes ≡ sum_by (λ (e : Pair). length e.0) pairs = ap (λ (x : PairTotals). x.key_bytes) is in
-    let values : t.value_bytes ≡ sum_by (λ (e : Pair). length e.1) pairs = ap (λ (x : PairTotals). x.value_bytes) is in
-    omega arith

@@ -7,4 +7,4 @@ use Rattle.dbm_dump.proofs.compact.stored_in_order.Given as goal
 
 -- the first pairs are stored
 abbrev pub invariant-loop-pair : goal.invariant-loop-pair
-invariant-loop-pair l = StoresAll Insert (empty_database l.kind l.size) (pairs_lent (take l.pair-index l.pairs)) l.image
+invariant-loop-pair l = StoresAll Insert (empty_database l.fn.kind l.fn.size) (pairs_lent (take l.pair-index l.pairs)) l.image

@@ -12,7 +12,6 @@
  * The names are the keys. If strangers choose them, hash them with a secret first, as limiter.py does. */
 #define _POSIX_C_SOURCE 200809L
 #include <boddurci_files.h>
-#include <limits.h>
 #include <pthread.h>
 #include <signal.h>
 #include <stdio.h>
@@ -23,7 +22,7 @@
 #include <time.h>
 #include <unistd.h>
 
-enum { STACK = 262144, RECORD = 40, OWNER = 16, NAME = 256 };
+enum { STACK = 1 << 20, RECORD = 40, OWNER = 16, NAME = 256 };
 enum { TAKE, RENEW, GIVE, NONE };
 
 /* The argument of examples/c/owned_lease.c. Both the processor and the program have the lowest byte of a number first. */
@@ -114,7 +113,7 @@ static void *serve(void *argument)
     return NULL;
 }
 
-/* Begins a thread for a client, or closes its connection if there can be no more threads. */
+/* Begins a thread for a client, or closes its connection if the thread cannot be created. */
 static void serve_apart(int peer, const pthread_attr_t *detached)
 {
     pthread_t thread;
@@ -128,14 +127,14 @@ static void serve_apart(int peer, const pthread_attr_t *detached)
     close(peer);
 }
 
-/* The thread that accepts clients. If there can be no more connections it tries again a little later. */
+/* The thread that accepts clients. If the process has no more descriptors it tries again a little later. */
 static void *accept_clients(void *unused)
 {
     const struct timespec pause = {0, 10000000};
     pthread_attr_t detached;
     pthread_attr_init(&detached);
     pthread_attr_setdetachstate(&detached, PTHREAD_CREATE_DETACHED);
-    pthread_attr_setstacksize(&detached, STACK < PTHREAD_STACK_MIN ? PTHREAD_STACK_MIN : STACK);
+    pthread_attr_setstacksize(&detached, STACK);
     for (;;) {
         int peer = accept(listener, NULL, NULL);
         if (peer >= 0)
@@ -193,7 +192,7 @@ int main(int count, char **words)
     pthread_sigmask(SIG_BLOCK, &ends, NULL);
     listen_at(words[2]);
     if (pthread_create(&thread, NULL, accept_clients, NULL) != 0)
-        end_by("threads", "there can be none");
+        end_by("a thread", "cannot be created");
     sigwait(&ends, &number);
     unlink(words[2]);
     return 0;

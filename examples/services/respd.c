@@ -4,10 +4,10 @@
  *     ./respd BASE 6380              listens on this port of 127.0.0.1; --wide before BASE is for wide pages
  *     redis-cli -p 6380 incr hits
  *
- * It knows GET, SET (also with NX), SETNX, DEL, EXISTS, INCR, INCRBY, DBSIZE, KEYS PREFIX*, PING, QUIT and RUN, and answers what clients
- * send first (COMMAND, CONFIG GET, CLIENT, HELLO, SELECT 0). One thread serves all clients, in rounds. A round executes the commands that
- * have arrived, saves once, and then sends the answers: so a kill of the service loses nothing that was answered. If a save fails, the
- * service ends and sends no answer of that round. SIGTERM ends it after a round.
+ * It knows GET, SET (also with NX), SETNX, DEL, EXISTS, INCR, INCRBY, DBSIZE, KEYS PREFIX*, PING, ECHO, QUIT and RUN. It answers what
+ * clients send first (COMMAND, CONFIG GET, CLIENT, HELLO, SELECT 0). One thread serves all clients, in rounds. A round executes the
+ * commands that have arrived, saves once, and then sends the answers: so a kill of the service loses nothing that was answered. If a save
+ * fails, the service ends and sends no answer of that round. SIGTERM ends it after a round.
  *
  * Numbers are decimal text, as in Redis, so GET, SET and INCR agree: INCR reads the text, adds, and stores the new text, as one step under
  * the mutex of the base. RUN runs a stock program of docs/PROGRAMS.md, whose records are binary, at the time in seconds. So use a key with
@@ -176,7 +176,6 @@ static void set(struct bytes *out, const struct word *words)
         answer_fault(out, status);
 }
 
-/* DEL and EXISTS. */
 static void count_keys(struct bytes *out, const struct word *words)
 {
     size_t length, is_del = is_text(words[0], "DEL"), found = 0;
@@ -187,7 +186,6 @@ static void count_keys(struct bytes *out, const struct word *words)
     answer(out, ":%zu\r\n", found);
 }
 
-/* INCR and INCRBY. */
 static void incr(struct bytes *out, const struct word *words)
 {
     char text[24];
@@ -265,6 +263,11 @@ static void run(struct bytes *out, const struct word *words)
         answer_fault(out, status);
 }
 
+static void echo(struct bytes *out, const struct word *words)
+{
+    answer_bulk(out, words[1].at, words[1].length);
+}
+
 static void config(struct bytes *out, const struct word *words)
 {
     int is_log = is_text(words[2], "appendonly"), is_save = is_text(words[2], "save");
@@ -279,13 +282,13 @@ static const struct command {
     void (*execute)(struct bytes *out, const struct word *words);
     const char *second, *text;
 } commands[] = {
-    {"GET", 2, 2, get, 0, 0}, {"SET", 3, 4, set, 0, 0}, {"SETNX", 3, 3, set, 0, 0}, {"INCR", 2, 2, incr, 0, 0},
-    {"INCRBY", 3, 3, incr, 0, 0}, {"DEL", 2, WORDS, count_keys, 0, 0}, {"EXISTS", 2, WORDS, count_keys, 0, 0},
-    {"DBSIZE", 1, 1, dbsize, 0, 0}, {"KEYS", 2, 2, keys, 0, 0}, {"RUN", 3, WORDS, run, 0, 0}, {"CONFIG", 3, 3, config, 0, 0},
-    {"PING", 1, 1, 0, 0, "+PONG"}, {"QUIT", 1, WORDS, 0, 0, "+OK"}, {"COMMAND", 1, WORDS, 0, 0, "*0"}, {"CLIENT", 2, WORDS, 0, 0, "+OK"},
-    {"SELECT", 2, 2, 0, "0", "+OK"}, {"SELECT", 2, 2, 0, 0, "-ERR DB index is out of range"},
-    {"HELLO", 2, WORDS, 0, "3", "-NOPROTO unsupported protocol version"},
-    {"HELLO", 1, WORDS, 0, 0, "*4\r\n$6\r\nserver\r\n$8\r\nboddurci\r\n$5\r\nproto\r\n:2"}, {0, 0, WORDS, 0, 0, "-ERR unknown command"}};
+    {"GET", 2, 2, get, 0, 0}, {"SET", 3, 4, set, 0, 0}, {"SETNX", 3, 3, set, 0, 0}, {"INCR", 2, 2, incr, 0, 0}, {"INCRBY", 3, 3, incr, 0, 0},
+    {"DEL", 2, WORDS, count_keys, 0, 0}, {"EXISTS", 2, WORDS, count_keys, 0, 0}, {"DBSIZE", 1, 1, dbsize, 0, 0}, {"KEYS", 2, 2, keys, 0, 0},
+    {"RUN", 3, WORDS, run, 0, 0}, {"ECHO", 2, 2, echo, 0, 0}, {"CONFIG", 3, 3, config, 0, 0}, {"PING", 1, 1, 0, 0, "+PONG"},
+    {"QUIT", 1, WORDS, 0, 0, "+OK"}, {"COMMAND", 1, WORDS, 0, 0, "*0"}, {"CLIENT", 2, WORDS, 0, 0, "+OK"}, {"SELECT", 2, 2, 0, "0", "+OK"},
+    {"SELECT", 2, 2, 0, 0, "-ERR DB index is out of range"}, {"HELLO", 2, WORDS, 0, "3", "-NOPROTO the protocol is RESP2"},
+    {"HELLO", 1, WORDS, 0, 0, "*4\r\n$6\r\nserver\r\n$8\r\nboddurci\r\n$5\r\nproto\r\n:2"},
+    {0, 0, WORDS, 0, 0, "-ERR unknown command"}};
 
 static void execute(struct bytes *out, const struct word *words, size_t count)
 {
@@ -300,7 +303,7 @@ static void execute(struct bytes *out, const struct word *words, size_t count)
         answer(out, "%s\r\n", it->text);
 }
 
-/* ---- the protocol */
+/* ---- the protocol and the clients */
 
 /* Received bytes, and the fault in them if there is one. */
 struct request {
@@ -388,8 +391,6 @@ static void serve(struct client *client)
     client->waits = client->out.length >= MOST && done < request.end;
     drop(&client->in, (size_t)(done - client->in.at));
 }
-
-/* ---- the clients */
 
 static void receive(struct client *client)
 {

@@ -282,13 +282,13 @@ static const struct command {
     void (*execute)(struct bytes *out, const struct word *words);
     const char *second, *text;
 } commands[] = {
-    {"GET", 2, 2, get, 0, 0}, {"SET", 3, 4, set, 0, 0}, {"SETNX", 3, 3, set, 0, 0}, {"INCR", 2, 2, incr, 0, 0}, {"INCRBY", 3, 3, incr, 0, 0},
-    {"DEL", 2, WORDS, count_keys, 0, 0}, {"EXISTS", 2, WORDS, count_keys, 0, 0}, {"DBSIZE", 1, 1, dbsize, 0, 0}, {"KEYS", 2, 2, keys, 0, 0},
-    {"RUN", 3, WORDS, run, 0, 0}, {"ECHO", 2, 2, echo, 0, 0}, {"CONFIG", 3, 3, config, 0, 0}, {"PING", 1, 1, 0, 0, "+PONG"},
-    {"QUIT", 1, WORDS, 0, 0, "+OK"}, {"COMMAND", 1, WORDS, 0, 0, "*0"}, {"CLIENT", 2, WORDS, 0, 0, "+OK"}, {"SELECT", 2, 2, 0, "0", "+OK"},
-    {"SELECT", 2, 2, 0, 0, "-ERR DB index is out of range"}, {"HELLO", 2, WORDS, 0, "3", "-NOPROTO the protocol is RESP2"},
-    {"HELLO", 1, WORDS, 0, 0, "*4\r\n$6\r\nserver\r\n$8\r\nboddurci\r\n$5\r\nproto\r\n:2"},
-    {0, 0, WORDS, 0, 0, "-ERR unknown command"}};
+    {"GET", 2, 2, get, 0, 0}, {"SET", 3, 4, set, 0, 0}, {"SETNX", 3, 3, set, 0, 0}, {"INCR", 2, 2, incr, 0, 0},
+    {"INCRBY", 3, 3, incr, 0, 0}, {"DEL", 2, WORDS, count_keys, 0, 0}, {"EXISTS", 2, WORDS, count_keys, 0, 0},
+    {"DBSIZE", 1, 1, dbsize, 0, 0}, {"KEYS", 2, 2, keys, 0, 0}, {"RUN", 3, WORDS, run, 0, 0}, {"ECHO", 2, 2, echo, 0, 0},
+    {"CONFIG", 3, 3, config, 0, 0}, {"PING", 1, 1, 0, 0, "+PONG"}, {"QUIT", 1, WORDS, 0, 0, "+OK"}, {"COMMAND", 1, WORDS, 0, 0, "*0"},
+    {"CLIENT", 2, WORDS, 0, 0, "+OK"}, {"SELECT", 2, 2, 0, "0", "+OK"}, {"SELECT", 2, 2, 0, 0, "-ERR DB index is out of range"},
+    {"HELLO", 2, WORDS, 0, "3", "-NOPROTO the protocol is RESP2"},
+    {"HELLO", 1, WORDS, 0, 0, "*4\r\n$6\r\nserver\r\n$5\r\nrespd\r\n$5\r\nproto\r\n:2"}, {0, 0, WORDS, 0, 0, "-ERR unknown command"}};
 
 static void execute(struct bytes *out, const struct word *words, size_t count)
 {

@@ -217,7 +217,7 @@ static void dbsize(struct bytes *out, const struct word *words)
 static void keys(struct bytes *out, const struct word *words)
 {
     struct bytes found = {NULL, 0, 0};
-    boddurci_cursor cursor = BODDURCI_START;
+    boddurci_cursor cursor;
     size_t star = 0, count = 0, key_length, length;
     while (star < words[1].length && memchr("*?[\\", words[1].at[star], 4) == NULL)
         star++;
@@ -225,7 +225,7 @@ static void keys(struct bytes *out, const struct word *words)
         answer(out, "-ERR KEYS takes a prefix and a star, as in KEYS page:*\r\n");
         return;
     }
-    while (boddurci_next(db, &cursor, key, sizeof key, &key_length, value, sizeof value, &length) == BODDURCI_DONE)
+    for (boddurci_first(db, &cursor); boddurci_next(db, &cursor, key, sizeof key, &key_length, value, sizeof value, &length) == 0;)
         if (key_length >= star && memcmp(key, words[1].at, star) == 0) {
             answer_bulk(&found, key, key_length);
             count++;

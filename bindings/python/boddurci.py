@@ -1,5 +1,5 @@
-"""Boddurci for Python: a key-value store with a proved core, in the two files of an sdbm database, with small verified programs on its
-records.
+"""Boddurci for Python: a key-value store with a verified core and tested bindings, in the two files of an sdbm database, with small
+verified programs on its records.
 
     import boddurci
     with boddurci.open("visits", "c") as db:
@@ -16,9 +16,10 @@ The methods `counter`, `lease`, `fenced_lease`, `semaphore` and `rate_limit` of 
 write its files, and a crash during them leaves the database before or after. One process at a time has it open for writing: `open` waits
 for that process, 5 seconds by default, and then raises Locked. An `open` for reading does not wait for it, and reads its last save. If a
 program that ignores the locks, such as Perl's SDBM_File, has changed the files meanwhile, `sync` and `close` raise ChangedError and write
-nothing. A database that is not closed is saved and closed when its object is destroyed, or at the latest when the interpreter exits; if
-that fails, a RuntimeWarning names it. Threads may share a database. A signal handler that interrupts a call may not use the database, but
-may raise. In a child of the process that opened it every call except `close` is an error, and nothing is saved.
+nothing. A `with` block that ends by an exception closes its database without a save: it drops the changes since the last `sync`, and leaves
+the files as they are. A database that is not closed is saved and closed when its object is destroyed, or at the latest when the interpreter
+exits; if that fails, a RuntimeWarning names it. Threads may share a database. A signal handler that interrupts a call may not use the
+database, but may raise. In a child of the process that opened it every call except `close` is an error, and nothing is saved.
 
 Several processes change one database with `open(.., shared=True)`: each call is one durable step, and forked children may use the object.
 
@@ -28,7 +29,8 @@ BODDURCI_LIBRARY in `python -I` and `python -E`, and if the effective user or gr
 the extension `_boddurci` is built (`pip install bindings/python`), fetch, store, delete and run use it: several times as fast, with the
 same results.
 
-The store behind the calls is proved. This module, the files, the locks and the order of a save are tested and not proved.
+Verified core, tested bindings: the store behind the calls is proved, and so is the order of the calls that write a save (docs/PROOFS.md).
+This module, and the code in C that opens, locks and writes the files, are tested and not proved.
 """
 
 import atexit
@@ -571,6 +573,9 @@ class _Database(MutableMapping):
     def close(self):
         """Saves both files, unless the database was opened for reading, and releases the locks. If the save fails the database stays open.
         In a child of the process that opened it nothing is written, and the locks stay."""
+        self._close(saves=True)
+
+    def _close(self, saves):
         if not self._held:
             return
         if self._process != os.getpid():
@@ -579,7 +584,7 @@ class _Database(MutableMapping):
             return
         with self._saving, self._lock:
             try:
-                if self._base is not None and self._keeps:
+                if self._base is not None and self._keeps and saves:
                     self.sync()
             except RuntimeWarning:
                 self._release()
@@ -607,8 +612,10 @@ class _Database(MutableMapping):
     def __enter__(self):
         return self
 
-    def __exit__(self, *_):
-        self.close()
+    def __exit__(self, kind, *_):
+        """Saves and closes the database. After an exception, also KeyboardInterrupt or SystemExit, it closes without a save: the changes
+        since the last `sync` are dropped, since they may be half of those that the block was to make."""
+        self._close(saves=kind is None)
 
     def __del__(self):
         self._finish()

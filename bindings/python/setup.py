@@ -1,6 +1,9 @@
-"""Builds the extension of boddurci.py; pyproject.toml has the rest. If it cannot be compiled it is left out, and the module uses ctypes."""
+"""Builds the extension of boddurci.py; pyproject.toml has the rest. If it cannot be compiled it is left out, and the module uses ctypes. A
+missing header or a missing package wheel ends the build with a sentence."""
 
+import importlib.util
 import pathlib
+import sys
 
 from setuptools import Extension, setup
 
@@ -8,5 +11,16 @@ INCLUDE = pathlib.Path(__file__).resolve().parent.parent.parent / "include"
 EXTENSION = Extension(
     "_boddurci", ["_boddurci.c"], include_dirs=[str(INCLUDE)], extra_compile_args=["-std=c11"], py_limited_api=True, optional=True
 )
+
+
+def makes_wheels():
+    """Returns whether setuptools can make a wheel: by itself from version 70.1 on, and by the package wheel before."""
+    return any(importlib.util.find_spec(name) for name in ("wheel", "setuptools.command.bdist_wheel"))
+
+
+if not (INCLUDE / "boddurci.h").exists():
+    sys.exit(f"boddurci: {INCLUDE / 'boddurci.h'} is missing: install from a whole copy of the repository, by pip 21.3 or later")
+if {"dist_info", "bdist_wheel"} & set(sys.argv) and not makes_wheels():
+    sys.exit("boddurci: the Python package wheel is missing: install it, or leave out --no-build-isolation")
 
 setup(ext_modules=[EXTENSION], options={"bdist_wheel": {"py_limited_api": "cp38"}})

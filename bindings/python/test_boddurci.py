@@ -82,6 +82,54 @@ class Mapping(InFolder):
         boddurci._call.give(None)
         boddurci._call.close_files(None)
 
+    def test_exception_in_a_block(self):
+        """A block that ends by an exception drops the changes since the last save, and gives the locks back."""
+        with boddurci.open(self.base, "c") as db:
+            db[b"kept"] = b"1"
+        for kind in (ValueError, KeyboardInterrupt, SystemExit, boddurci.error):
+            with self.assertRaises(kind):
+                with boddurci.open(self.base, "w", wait=False) as db:
+                    db[b"synced"] = kind.__name__
+                    db.sync()
+                    db[b"kept"] = b"2"
+                    del db[b"synced"]
+                    db[b"more"] = b""
+                    raise kind("in a block")
+            with self.assertRaisesRegex(boddurci.error, "closed"):
+                db[b"kept"]
+            with boddurci.open(self.base, wait=False) as db:
+                self.assertEqual(sorted(db.items()), [(b"kept", b"1"), (b"synced", kind.__name__.encode())])
+        with self.assertRaises(ValueError), boddurci.open(self.base, "n") as db:
+            db[b"a"] = b""
+            raise ValueError
+        with self.assertRaises(ValueError), boddurci.open(self.base) as db:
+            self.assertEqual(len(db), 0)
+            raise ValueError
+        with self.assertRaises(ValueError), boddurci.open(self.base, "w") as db:
+            db[b"a"] = b"closed by the block itself"
+            db.close()
+            raise ValueError
+        with boddurci.open(self.base) as db:
+            self.assertEqual(db.items(), [(b"a", b"closed by the block itself")])
+
+    def test_exception_in_a_process(self):
+        """The same, where the exception ends the interpreter: nothing saves the dropped changes later."""
+        text = """if True:
+            import boddurci, sys
+            with boddurci.open(sys.argv[1], "c") as db:
+                db[b"a"] = b"1"
+                db.sync()
+                db[b"a"] = b"2"
+                {}
+            """
+        env = {**os.environ, "PYTHONPATH": os.pathsep.join(sys.path)}
+        for ends, status in (("sys.exit(3)", 3), ("raise ValueError", 1), ("import os, signal; os.kill(os.getpid(), signal.SIGINT)", -signal.SIGINT)):
+            ran = subprocess.run([sys.executable, "-c", text.format(ends), self.base], env=env, capture_output=True, text=True)
+            self.assertEqual(ran.returncode, status, ran)
+            self.assertNotIn("Warning", ran.stderr)
+            with boddurci.open(self.base, wait=False) as db:
+                self.assertEqual(db.items(), [(b"a", b"1")])
+
     def test_pairs(self):
         with boddurci.open(self.base, "c") as db:
             db[b"ab"] = b"xyz"
@@ -775,6 +823,23 @@ class Children(InFolder):
         with boddurci.open(self.base, wait=False) as db:
             self.assertEqual(db[b"a"], b"2")
 
+    def test_exception_in_a_block(self):
+        """An exception in a child closes its object, and leaves the database to the parent."""
+
+        def fails(db):
+            try:
+                with db:
+                    raise ValueError
+            except ValueError:
+                return "ValueError"
+
+        with boddurci.open(self.base, "c") as db:
+            db[b"a"] = b"1"
+            self.assertEqual(self.in_child(lambda: fails(db)), "ValueError")
+            self.assertEqual(db[b"a"], b"1")
+        with boddurci.open(self.base, wait=False) as db:
+            self.assertEqual(db[b"a"], b"1")
+
     def test_ends(self):
         """The end of a child does not overwrite a later save of its parent."""
         script = """
@@ -1292,6 +1357,13 @@ class Shared(InFolder):
         self.assertEqual((len(other), list(other)), (0, []))
         self.assertRaisesRegex(boddurci.error, "too many bytes", db.__setitem__, b"a", bytes(2000))
         db.flush(), db.sync()
+
+    def test_exception_in_a_block(self):
+        """Each change is durable by itself, so an exception drops none."""
+        with self.assertRaises(ValueError), self.shared() as db:
+            db[b"a"] = b"1"
+            raise ValueError
+        self.assertEqual(self.shared("r")[b"a"], b"1")
 
     def test_programs(self):
         db = self.shared()

@@ -2,13 +2,18 @@
 # Converts counters that a Perl program has stored as decimal numbers in an SDBM file to records of 8 bytes for dbm. Perl still
 # reads them by SDBM_File, and unpacks them, while dbm writes.
 #
-#     counters.pl take OLD NEW          converts all counters of OLD into NEW, in one save for each 50,000
+#     counters.pl take OLD NEW          adds all counters of OLD to those of NEW, which are made if they are missing
 #     counters.pl count BASE KEY..      adds 1 to each of these, all in one save, and prints their numbers
 #     counters.pl show BASE             prints all counters that Perl reads
+#
+# Others may count in NEW while it takes: each addition is one step, and no count is lost. A save has some 8 MB of additions and a mark, the
+# key `taken from PATH`. So repeat a take that was interrupted: it continues after its last save, and adds no counter twice. Nobody may
+# count in OLD any more.
 #
 # DBM names the program, or dbm is on the PATH.
 use strict;
 use warnings;
+use Cwd qw(abs_path);
 use Fcntl qw(:flock O_RDONLY);
 use SDBM_File;
 
@@ -70,27 +75,59 @@ sub read_pairs {
     untie %pairs;
 }
 
+# Returns a stock program as a line of a script.
+sub program_of {
+    my ($status, $image) = run_of("asm", "\@$_[0]");
+    die "counters.pl: dbm ended with $status\n" if $status;
+    chomp $image;
+    return "program $image";
+}
+
+# Returns the lock of a take. dbm inherits it, so a take that is killed keeps it until its dbm has ended.
+sub lock_of {
+    my ($path) = @_;
+    local $^F = 1000;
+    open my $lock, "<", $path or die "counters.pl: $path: $!\n";
+    flock $lock, LOCK_EX or die "counters.pl: $path: $!\n";
+    return $lock;
+}
+
 sub take {
     my ($old, $new) = @_;
-    my (@lines, $count);
+    my $path = abs_path("$old.pag") // die "counters.pl: $old.pag: $!\n";
+    my $lock = lock_of($path);
+    my $mark = unpack "H*", "taken from $path";
+    my ($found) = -e "$new.pag" ? answers($new, "fetch $mark") : "missing";
+    my $done = $found =~ /^found ([0-9a-f]{16})/ ? unpack("Q<", pack("H*", $1)) : 0;
+    my (@lines, $seen, $count, $wrong);
     each_pair($old, sub {
         my ($key, $value) = @_;
         die "counters.pl: $key has $value, which is no counter\n" if $value !~ /^[0-9]{1,19}$/;
-        push @lines, "insert " . (unpack("H*", $key) || ".") . " " . unpack("H*", pack("Q<", $value));
+        return if ++$seen <= $done;
+        push @lines, "run " . (unpack("H*", $key) || ".") . " 0 " . unpack("H*", pack("Q<Q<", $value, ~0)) . " 8 0";
     });
-    while (my @some = splice @lines, 0, 50_000) {
-        $count += grep { $_ eq "stored" } answers($new, @some);
+    my $program = program_of("bounded_add");
+    while (@lines) {
+        my @some;
+        for (my $size = 0; @lines && $size < 8_000_000; $size += length $some[-1]) {
+            push @some, shift @lines;
+        }
+        $done += @some;
+        my (undef, @said) = answers($new, $program, @some, "replace $mark " . unpack("H*", pack("Q<", $done)));
+        for my $at (grep { $said[$_] !~ /^ran 1 / } 0 .. $#some) {
+            warn "counters.pl: $some[$at]: $said[$at]: not added\n";
+            $wrong++;
+        }
+        $count += @some;
     }
+    die "counters.pl: $wrong counters were not added\n" if $wrong;
     print "taken over: ", $count // 0, "\n";
 }
 
 sub count {
     my ($base, @keys) = @_;
-    my ($status, $image) = run_of("asm", '@counter');
-    die "counters.pl: dbm ended with $status\n" if $status;
-    chomp $image;
     my @lines = map { my $key = unpack("H*", $_) || "."; ("run $key 0 . 8 0", "fetch $key") } @keys;
-    my (undef, @said) = answers($base, "program $image", @lines);
+    my (undef, @said) = answers($base, program_of("counter"), @lines);
     for my $key (@keys) {
         my ($ran, $found) = splice @said, 0, 2;
         die "counters.pl: $key: $ran\n" if $ran !~ /^ran 1 / || $found !~ /^found ([0-9a-f]{16})/;
@@ -104,7 +141,7 @@ if (($what // "") eq "take" && @words == 2) {
 } elsif (($what // "") eq "count" && @words >= 2) {
     count(@words);
 } elsif (($what // "") eq "show" && @words == 1) {
-    each_pair($words[0], sub { print "$_[0] ", unpack("Q<", $_[1]), "\n" });
+    each_pair($words[0], sub { print "$_[0] ", unpack("Q<", $_[1]), "\n" if $_[0] !~ m{^taken from /} });
 } else {
     die "usage: counters.pl take OLD NEW, count BASE KEY.., or show BASE\n";
 }

@@ -4,9 +4,10 @@
  *     cc -O2 -I ../../out/boddurci leased.c ../../out/boddurci/libboddurci.a -lpthread -o leased
  *     ./leased BASE SOCKET ../c/owned_lease.bin
  *
- * Four threads answer lines on a Unix socket, `take NAME OWNER MILLISECONDS`, `renew NAME OWNER MILLISECONDS` and `give NAME OWNER`, by
- * `yes NUMBER` or `no`. Words have no spaces, names up to 256 bytes and owners up to 16. A `yes` is sent once its lease is saved, so it
- * survives a kill of the service: start the service again. SIGTERM ends it.
+ * It answers lines on a Unix socket, `take NAME OWNER MILLISECONDS`, `renew NAME OWNER MILLISECONDS` and `give NAME OWNER`, by `yes NUMBER`
+ * or `no`. Words have no spaces, names up to 256 bytes and owners up to 16. A `yes` is sent once its lease is saved, so it survives a kill
+ * of the service: start the service again. SIGTERM ends it. Each client has a thread of its own, so clients that stay connected keep nobody
+ * out, and threads that save at the same time share a save.
  *
  * The names are the keys. If strangers choose them, hash them with a secret first, as limiter.py does. */
 #define _POSIX_C_SOURCE 200809L
@@ -21,7 +22,7 @@
 #include <time.h>
 #include <unistd.h>
 
-enum { THREADS = 4, RECORD = 40, OWNER = 16, NAME = 256 };
+enum { STACK = 1 << 20, RECORD = 40, OWNER = 16, NAME = 256 };
 enum { TAKE, RENEW, GIVE, NONE };
 
 /* The argument of examples/c/owned_lease.c. Both the processor and the program have the lowest byte of a number first. */
@@ -94,19 +95,52 @@ static void answer(const char *line, FILE *peer)
     fflush(peer);
 }
 
-/* A thread. It answers one connection after another, each up to a line that is too long or does not end. */
-static void *serve(void *unused)
+/* The thread of a client. It answers lines up to one that is too long or does not end. */
+static void *serve(void *argument)
 {
     char line[512];
+    int peer = *(int *)argument;
+    FILE *in = fdopen(peer, "r"), *out = in == NULL ? NULL : fdopen(dup(peer), "w");
+    free(argument);
+    while (out != NULL && fgets(line, sizeof line, in) != NULL && strchr(line, '\n') != NULL)
+        answer(line, out);
+    if (out != NULL)
+        fclose(out);
+    if (in != NULL)
+        fclose(in);
+    else
+        close(peer);
+    return NULL;
+}
+
+/* Begins a thread for a client, or closes its connection if the thread cannot be created. */
+static void serve_apart(int peer, const pthread_attr_t *detached)
+{
+    pthread_t thread;
+    int *argument = malloc(sizeof *argument);
+    if (argument != NULL) {
+        *argument = peer;
+        if (pthread_create(&thread, detached, serve, argument) == 0)
+            return;
+    }
+    free(argument);
+    close(peer);
+}
+
+/* The thread that accepts clients. If the process has no more descriptors it tries again a little later. */
+static void *accept_clients(void *unused)
+{
+    const struct timespec pause = {0, 10000000};
+    pthread_attr_t detached;
+    pthread_attr_init(&detached);
+    pthread_attr_setdetachstate(&detached, PTHREAD_CREATE_DETACHED);
+    pthread_attr_setstacksize(&detached, STACK);
     for (;;) {
         int peer = accept(listener, NULL, NULL);
-        FILE *in = peer < 0 ? NULL : fdopen(peer, "r"), *out = in == NULL ? NULL : fdopen(dup(peer), "w");
-        while (out != NULL && fgets(line, sizeof line, in) != NULL && strchr(line, '\n') != NULL)
-            answer(line, out);
-        if (out != NULL)
-            fclose(out);
-        if (in != NULL)
-            fclose(in);
+        if (peer >= 0)
+            serve_apart(peer, &detached);
+        else
+            nanosleep(&pause, NULL);
     }
     return unused;
 }
@@ -139,7 +173,7 @@ static void listen_at(const char *name)
     strcpy(address.sun_path, name);
     unlink(name);
     listener = socket(AF_UNIX, SOCK_STREAM, 0);
-    if (listener < 0 || bind(listener, (struct sockaddr *)&address, sizeof address) != 0 || listen(listener, 16) != 0)
+    if (listener < 0 || bind(listener, (struct sockaddr *)&address, sizeof address) != 0 || listen(listener, 100) != 0)
         end_by(name, "no socket can be had");
 }
 
@@ -157,9 +191,8 @@ int main(int count, char **words)
     sigaddset(&ends, SIGINT);
     pthread_sigmask(SIG_BLOCK, &ends, NULL);
     listen_at(words[2]);
-    for (int at = 0; at < THREADS; at++)
-        if (pthread_create(&thread, NULL, serve, NULL) != 0)
-            end_by("usage", "no thread can be had");
+    if (pthread_create(&thread, NULL, accept_clients, NULL) != 0)
+        end_by("a thread", "cannot be created");
     sigwait(&ends, &number);
     unlink(words[2]);
     return 0;

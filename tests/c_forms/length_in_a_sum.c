@@ -9,7 +9,7 @@ uint64_t program(void *record, uint64_t record_length, const void *argument, uin
 {
     struct header *header = record;
     (void)argument;
-    if (record_length + argument_length < sizeof *header)
+    if (record_length + argument_length < 40)
         return KEEP;
     header->count += 1; // here
     return SAVE;

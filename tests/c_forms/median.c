@@ -1,4 +1,4 @@
-/* accepted or PointerRange */
+/* accepted or PointerRange by clang 14 */
 #include "boddurci_record.h"
 
 /* The last five numbers; the word is the one in the middle. */

@@ -5,7 +5,7 @@ uint64_t program(void *record, uint64_t record_length, const void *argument, uin
 {
     uint64_t *count = record;
     (void)argument, (void)argument_length;
-    if (!count || record_length < 8) // here
+    if (!record || record_length < 8) // here
         return KEEP;
     *count += 1;
     return SAVE;

@@ -8,12 +8,14 @@ struct ring {
 
 uint64_t program(void *record, uint64_t record_length, const void *argument, uint64_t argument_length)
 {
-    struct ring *ring = record;
+    struct ring *r = record;
     const uint64_t *number = argument;
-    if (record_length < sizeof *ring || argument_length < 8 || ring->next >= 8)
+    if (record_length < sizeof *r || argument_length < 8)
         return KEEP;
-    boddurci_reply(ring->next);
-    ring->numbers[ring->next] = *number; // here
-    ring->next = (ring->next + 1) % 8;
+    if (r->next >= 8)
+        return KEEP;
+    boddurci_reply(r->next);
+    r->numbers[r->next] = *number; // here
+    r->next = (r->next + 1) % 8;
     return SAVE;
 }

@@ -7,15 +7,15 @@ struct ring {
 
 uint64_t program(void *record, uint64_t record_length, const void *argument, uint64_t argument_length)
 {
-    struct ring *ring = record;
+    struct ring *r = record;
     const uint64_t *number = argument;
-    if (record_length < sizeof *ring || argument_length < 8)
+    if (record_length < sizeof *r || argument_length < 8)
         return KEEP;
-    uint64_t next = ring->next;
+    uint64_t next = r->next;
     if (next >= 8)
         return KEEP;
     boddurci_reply(next);
-    ring->numbers[next] = *number;
-    ring->next = (next + 1) % 8;
+    r->numbers[next] = *number;
+    r->next = (next + 1) % 8;
     return SAVE;
 }

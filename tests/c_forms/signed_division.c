@@ -1,4 +1,4 @@
-/* accepted or signed division */
+/* accepted or signed division by clang 14 or signed division by clang 16 */
 #include "boddurci_record.h"
 
 uint64_t program(void *record, uint64_t record_length, const void *argument, uint64_t argument_length)
@@ -7,6 +7,7 @@ uint64_t program(void *record, uint64_t record_length, const void *argument, uin
     const int64_t *by = argument;
     if (record_length < 8 || argument_length < 8)
         return KEEP;
-    *number /= *by; // here
+    int64_t a = *number, b = *by;
+    *number = a / b; // here
     return SAVE;
 }

@@ -10,8 +10,7 @@ pub returns : goal.returns
 returns c =
     let found = ran_program c.args.registry.now.programs c.in_ok-try_clone.field-0 c.args.prog c.in_ok-try_clone-2.field-0 None c.args.words.now.time _ (sym c.in-Some.is ∙ c.in_ok-command.ensures) in
     let is : c.in-Some.command ≡ Run c.args.key.now found.0.code c.args.words.now.arg None c.args.words.now.time
-    = found.1.1 ∙ (λ i. Run (c.in_ok-try_clone.ensures i) found.0.code (c.in_ok-try_clone-2.ensures i) None c.args.words.now.time) in
-    (
+    = found.1.1 ∙ (λ i. Run (c.in_ok-try_clone.ensures i) found.0.code (c.in_ok-try_clone-2.ensures i) None c.args.words.now.time) in (
       found.0,
       (
         found.1.0,

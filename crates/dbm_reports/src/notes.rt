@@ -1,9 +1,9 @@
-//! What a report says beside its text.
+//! The notes of a report.
 ghost use Rattle.std.specs.Prelude.{◌≡◌, false};
 
 use dbm_script::BadLines;
 
-/// What a report says beside its text, for the notes on standard error. Whoever makes the report knows it; no clause depends on it.
+/// The notes of a report, for standard error. They are not part of its text. No clause depends on them.
 #[derive(Clone, Copy, Debug, PartialEq, Eq)]
 pub struct Notes {
     /// The lines of a script that are not commands.

@@ -2,7 +2,8 @@
 
 use std::io::{self, Read};
 
-/// Standard input of a session. At a terminal a line `quit` or `exit` ends it, as Ctrl-D does: a terminal gives one line to each read.
+/// Standard input of a session. At a terminal a line `quit` or `exit` ends it. A terminal gives at most one line to each read; a line that
+/// Ctrl-D interrupts comes in two reads, so the end of a longer line may end the session too.
 #[derive(Drop)]
 pub struct TerminalLines<'a, R: Read> {
     reader: &'a mut R,

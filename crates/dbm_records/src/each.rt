@@ -139,7 +139,7 @@ pub fn each_command<'a>(alloc: Global) -> Result<Command<'a>, AllocError>
     let notes =
         "Prints N runs, and how many of them ended with which code: 1 saved the record, 2 deleted the pair, and any\n\
          other changed nothing. All runs are one save.\n\n\
-         Example: dbm each leases @lease u64:0,u64:0 now --text\n\
+         Example: dbm each leases @lease u64:0,u64:0 now --prefix lease: --text\n\
          deletes the leases that have ended.";
     subcommand(alloc, "each", about, notes, args)
 }

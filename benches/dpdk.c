@@ -1,18 +1,17 @@
 /* Runs programs by DPDK's interpreter. Each line of standard input is ROUNDS RECORD ARGUMENT IMAGE, the last three in hex, with "." for no
- * bytes; the answer is the nanoseconds of a run. Each run begins with that record, like `MACHINE image` of crates/test_machine.
+ * bytes. The answer is the nanoseconds of a run. Each run begins with that record, like `MACHINE image` of crates/test_machine.
  *
  * It calls the interpreter without DPDK's loader, which refuses valid programs of ours. The interpreter sets only R1, so three instructions
- * in front set R2 to R4, and the five helpers are functions of the host. The layout of a loaded program is that of DPDK 22.11.
+ * before the program set R2 to R4, and the five helpers are functions of the host. The layout of a loaded program is that of DPDK 22.11.
  *
- * build: cc -O2 dpdk.c -o dpdk $(pkg-config --cflags --libs libdpdk)      (Debian: libdpdk-dev, pkg-config)
- */
+ * build: cc -O2 dpdk.c -o dpdk $(pkg-config --cflags --libs libdpdk)      (Debian: libdpdk-dev, pkg-config) */
 #include <rte_bpf.h>
 #include <stdio.h>
 #include <stdlib.h>
 #include <string.h>
 #include <time.h>
 
-/* The beginning of the loader's result. The interpreter reads only these: the instructions and the helpers. */
+/* The first fields of the loader's result. The interpreter reads only these: the instructions and the helpers. */
 struct loaded {
     struct rte_bpf_prm parameters;
     char more[256];
@@ -57,7 +56,7 @@ static unsigned char record[8192], bytes[8192], argument[1024], image[4096 * 8];
 static struct ebpf_insn code[4096 + 4];
 static char line[160000];
 
-/* Returns the number of bytes of a word in hex. */
+/* Decodes a word in hex, and returns the number of its bytes. */
 static size_t read_hex(const char *word, unsigned char *to)
 {
     size_t count = word && *word != '.' ? strlen(word) / 2 : 0;

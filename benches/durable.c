@@ -1,7 +1,10 @@
-/* Times durable answers: threads increment counters, and each increment is on the disk before its thread begins the next one.
+/* Measures durable answers: threads increment counters, and each increment is on the disk before its thread begins the next one.
+ *
  * cc -O2 -DHAVE_GDBM .. benches/durable.c -lgdbm .. -pthread -o durable, with one -DHAVE_ for the store (benches/run does it)
- * usage: durable PATH THREADS SECONDS   makes a store of COUNTERS counters at PATH, and prints the increments per second. It then closes
- * the store and opens it again: the status is 5 unless the counters add up to the number of increments. */
+ * usage: durable PATH THREADS SECONDS
+ *
+ * It makes a store of COUNTERS counters at PATH, and prints the increments per second. Then it closes the store and opens it again. The
+ * status is 5 unless the counters add up to the number of increments. */
 #define _GNU_SOURCE
 #include "pairs.h"
 #include <fcntl.h>
@@ -13,7 +16,7 @@
 
 enum { COUNTERS = 10000, MOST_THREADS = 64 };
 
-/* Each store has four functions, which return 0 on success. `begins` makes it, with all counters 0, and opens it for the threads.
+/* Each store has four functions, which return 0 on success. `begins` makes the store, with all counters 0, and opens it for the threads.
  * `increments` is one durable increment by a thread. `closes` closes it. `sums` opens it again, adds the counters up, and closes it. */
 #ifdef HAVE_BODDURCI
 #include "boddurci_files.h"
@@ -280,7 +283,8 @@ static int sums(const char *path, uint64_t *sum)
 }
 #endif
 
-/* The threads share one connection under a mutex. With a connection each they are slower: a thread sleeps while the file is locked. */
+/* The threads share one connection under a mutex. With separate connections they are slower, since a thread sleeps while the file is
+ * locked. */
 #ifdef HAVE_SQLITE
 #include <sqlite3.h>
 

@@ -1,5 +1,6 @@
-/* Measures the growth of a database: time per store and fetch, length of .pag and memory per pair, for N pairs of 16-byte keys and 8-byte
- * values.
+/* Measures the growth of a database, for N pairs of 16-byte keys and 8-byte values: the time per store and fetch, the length of .pag and
+ * the memory per pair.
+ *
  * cc -O2 -I out/boddurci benches/growth.c out/boddurci/libboddurci.a -pthread -o growth
  * usage: growth N [wide]     prints: N nanoseconds_a_store nanoseconds_a_fetch bytes_of_pag_a_pair bytes_of_memory_a_pair */
 #include "boddurci.h"
@@ -16,7 +17,7 @@ static double now(void)
     return (double)t.tv_sec + (double)t.tv_nsec * 1e-9;
 }
 
-/* The bytes of memory that the process has in use. */
+/* Returns the bytes of memory that the process uses. */
 static double memory(void)
 {
     long all, used = 0;

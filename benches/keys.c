@@ -1,4 +1,4 @@
-/* Prints the nanoseconds that it takes to make a key as bindings/c/bench.c and peers.c do.
+/* Prints the nanoseconds to make a key as bindings/c/bench.c and peers.c do.
  * usage: keys N */
 #include <stdio.h>
 #include <stdlib.h>

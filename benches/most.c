@@ -1,4 +1,4 @@
-/* Runs a command, and prints the milliseconds that it took and its greatest memory, in KiB. It is small itself, since a child begins with
+/* Runs a command, and prints the milliseconds that it took and its greatest memory in KiB. This program is small, since a child begins with
  * the memory of its parent.
  * usage: most COMMAND WORD ..      the status is that of the command */
 #include <spawn.h>

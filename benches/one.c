@@ -1,5 +1,6 @@
-/* One store or one fetch by a process, like a command of a shell, on other stores that a user might choose. A store is on the disk when the
- * process ends.
+/* Stores or fetches one pair in a process, like a command of a shell, with other stores that a user might choose. A stored pair is on the
+ * disk when the process ends.
+ *
  * cc -O2 -DHAVE_GDBM .. benches/one.c -lgdbm .. -o one, with one -DHAVE_ for the installed store (benches/run does it)
  * usage: one FILE fill N       stores N pairs of 16-byte keys and 100-byte values
  *        one FILE store I      stores pair I again

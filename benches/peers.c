@@ -1,5 +1,6 @@
-/* The work of bindings/c/bench.c on other stores that a user might choose: N stores, N fetches and N increments (fetch, add, store) of
- * 16-byte keys and 8-byte values, in files of a folder. Nothing is synced.
+/* Does the work of bindings/c/bench.c with other stores that a user might choose: N stores, N fetches and N increments (fetch, add, store)
+ * of 16-byte keys and 8-byte values, in files of a folder. It syncs nothing.
+ *
  * cc -O2 -DHAVE_GDBM .. benches/peers.c -lgdbm .. -o peers, with one -DHAVE_ for each installed store (benches/run does it)
  * usage: peers STORE FOLDER N     prints: STORE stores fetches increments, each per second */
 #include <stdint.h>
@@ -12,7 +13,7 @@
 
 enum { KEY_BYTES = 16, VALUE_BYTES = 8 };
 
-/* A store: functions that open it, and store and fetch one pair. tick is called after each write. */
+/* A store: functions that open it, and store and fetch one pair. `tick` is called after each write. */
 typedef struct {
     const char *name;
     int (*open)(const char *path);
@@ -213,7 +214,7 @@ static void name(char *key, unsigned i)
     snprintf(key, 17, "key%013u", (unsigned)(i * 2654435761u));
 }
 
-/* Does the work on a store. Returns 0, or 2 to 4 by the part that failed. */
+/* Does the work with a store. Returns 0, or 2 to 4 for the part that failed. */
 static int measure(const store *s, unsigned n)
 {
     char key[32];

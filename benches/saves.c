@@ -1,7 +1,8 @@
-/* Times saves of a store that stays open in a process: without a change, with one change, and with a hundred. Each save is on the disk at
- * its end.
+/* Measures saves of a store that stays open in a process: without a change, with one change, and with a hundred. Each save is on the disk
+ * when it ends.
+ *
  * cc -O2 -DHAVE_GDBM .. benches/saves.c -lgdbm .. -o saves, with one -DHAVE_ for the installed store (benches/run does it)
- * usage: saves FILE N ROUNDS   of a store of pairs 0 to N - 1 of benches/pairs.h; prints three medians in microseconds */
+ * usage: saves FILE N ROUNDS   prints three medians in microseconds, for a store of pairs 0 to N - 1 of benches/pairs.h */
 #include "pairs.h"
 #include <stdio.h>
 #include <stdlib.h>
@@ -9,7 +10,8 @@
 
 enum { MOST_ROUNDS = 101 };
 
-/* Each store has functions that open it, store one pair again, and save all stores since the last save; 0 is success. */
+/* Each store has functions that open it, store one pair again, and save all pairs that were stored since the last save. They return 0 on
+ * success. */
 #ifdef HAVE_BODDURCI
 #include "boddurci_files.h"
 
@@ -123,7 +125,7 @@ static int by_size(const void *one, const void *other)
     return (a > b) - (a < b);
 }
 
-/* Returns the median time of a save after `changes` changes, of other pairs in each round. */
+/* Returns the median time of a save after `changes` changes. Each round changes other pairs. */
 static double median(unsigned changes, unsigned n, unsigned rounds)
 {
     double times[MOST_ROUNDS];

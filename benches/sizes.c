@@ -1,8 +1,10 @@
-/* Times calls of a shared base of a given size.
+/* Measures calls of a shared base of a given size.
+ *
  * cc -O2 -I out/boddurci benches/sizes.c out/boddurci/libboddurci.a -pthread -o sizes (benches/run does it)
- * usage: sizes PATH PAIRS CALLS   makes a base of PAIRS counters at PATH, and prints six numbers: the bytes of .pag and of .dir, and the
- * median microseconds of CALLS openings, first fetches after an opening, later fetches, and durable increments. The status is 5 if a value
- * is wrong. */
+ * usage: sizes PATH PAIRS CALLS
+ *
+ * It makes a base of PAIRS counters at PATH, and prints six numbers: the bytes of .pag and of .dir, and the median microseconds of CALLS
+ * openings, first fetches after an opening, later fetches, and durable increments. The status is 5 if a value is wrong. */
 #define _GNU_SOURCE
 #include "boddurci_files.h"
 #include "pairs.h"
@@ -39,7 +41,7 @@ static int fills(const char *path, unsigned pairs)
     return bad;
 }
 
-/* Fetches a counter, and stores the time in microseconds. */
+/* Fetches a counter, and sets *took to the time in microseconds. */
 static int fetches(boddurci_shared *shared, unsigned i, double *took)
 {
     uint64_t count;
@@ -61,7 +63,7 @@ static int increments(boddurci_shared *shared, uint32_t program, unsigned i, dou
     return status != BODDURCI_DONE || end != 1;
 }
 
-/* One of the calls of each kind, on random counters. */
+/* Makes one call of each kind, on random counters. */
 static int calls(const char *path, unsigned pairs, unsigned call)
 {
     uint32_t program;

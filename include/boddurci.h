@@ -1,5 +1,5 @@
-/* Boddurci for C: the proved core of a key-value store, which is a database in memory. Its two files are those of an sdbm database, and
- * small verified programs run on its records. boddurci_files.h has files, locks and saves.
+/* Boddurci for C: the proved core of a key-value store. It holds a database in memory, takes and returns the bytes of its two files in the
+ * format of sdbm, and runs small verified programs on its records. boddurci_files.h adds files, locks and saves.
  *
  *     #include <boddurci.h>
  *     #include <stdio.h>
@@ -24,32 +24,32 @@
  *
  * The library is built for x86-64 with SSE4.1 (x86-64-v2).
  *
- * A handle is one database in memory with its programs. The library keeps no global state, takes no lock, starts no thread, and
- * reads and writes no file. The caller reads both files before boddurci_open, and writes them after boddurci_files.
+ * A handle is one database in memory with its programs. The library keeps no global state, takes no lock, starts no thread, and reads and
+ * writes no file. The caller reads both files before boddurci_open, and writes them after boddurci_files.
  *
  * Handles. Initialize a handle with BODDURCI_CLOSED. Never copy, compare or write its contents. Only one call at a time may use it, from
- * any thread: to share a handle, protect it by a mutex. Two handles are independent. Neither a signal handler nor the forked child of a
- * process with threads may call the library.
+ * any thread: to share a handle, protect it by a mutex. Two handles are independent. Do not call the library in a signal handler, nor in
+ * the forked child of a process that has threads.
  *
- * NULL. A handle, a reading and a ticket may be NULL. If the handle or the reading is NULL each call returns IS_CLOSED, also boddurci_open,
- * and if the ticket is NULL it returns NO_TICKET. boddurci_is_open returns 0, and a call that returns nothing does nothing.
+ * NULL. A handle, a reading and a ticket may be NULL. If the handle or the reading is NULL, each call returns IS_CLOSED, including
+ * boddurci_open. If the ticket is NULL, the call returns NO_TICKET. boddurci_is_open returns 0, and a call without a result does nothing.
  *
- * Long programs. boddurci_run needs your mutex as long as its program runs: mostly less than a microsecond, some 60 for the longest.
- * If that is too long, run by a ticket, in three calls: boddurci_ask under the mutex, boddurci_work without it, boddurci_finish under
- * it. Together they do the same as boddurci_run, as one step at the time of boddurci_finish.
+ * Long programs. boddurci_run needs your mutex for as long as its program runs: usually less than a microsecond, and some 60 for the
+ * longest program. If that is too long, run by a ticket, in three calls: boddurci_ask under the mutex, boddurci_work without it,
+ * boddurci_finish under it. Together they do the same as boddurci_run, in one step at the time of boddurci_finish.
  *
- * Bytes. A key, a value, an argument and an image are each a pointer and a length. No other pointer may be NULL, even if its
- * length is 0: pass BODDURCI_NO_BYTES for no bytes. Arguments that a call only reads may overlap. Memory that it writes (rooms, lengths,
- * numbers, the handle) must not overlap any other argument.
+ * Bytes. A key, a value, an argument and an image are each a pointer and a length. No other pointer may be NULL, even if its length is 0:
+ * pass BODDURCI_NO_BYTES for no bytes. Arguments that a call only reads may overlap. Memory that it writes (buffers, lengths, numbers, the
+ * handle) must not overlap any other argument.
  *
- * Rooms. A room is a buffer for a result. The call sets *length to the number of bytes of the result in any case, and writes them only if
- * all fit; otherwise the room is unchanged. A text does not end in a zero. If there is no memory for the text of a fault, the call returns
- * NO_MEMORY instead of the fault, and the length of the text is 0.
+ * Results. The caller passes a buffer for a result, with its size as the argument `.._room`. The call always sets `*.._length` to the
+ * length of the result, but writes the result only if it fits; otherwise the buffer is unchanged. A text does not end in a zero byte. If
+ * there is no memory for the text of a fault, the call returns NO_MEMORY instead of the fault, and the length of the text is 0.
  *
- * Refusals. Each call returns a status. After BODDURCI_CHANGED and every higher status the handle, the ticket and all results are
- * unchanged, unless the call says otherwise.
+ * Statuses. Each call returns a status. The comment on a call names the statuses that it may return besides DONE, without BODDURCI_. After
+ * CHANGED and every greater status the handle, the ticket and all results are unchanged, unless the comment says otherwise.
  *
- * Memory comes from malloc. Each call that allocates may return BODDURCI_NO_MEMORY. */
+ * Memory comes from malloc. Each call that allocates may return NO_MEMORY. */
 #ifndef BODDURCI_H
 #define BODDURCI_H
 #include <stddef.h>
@@ -62,24 +62,24 @@ typedef struct boddurci {
     void *at;
 } boddurci;
 
-/* A run between boddurci_ask and boddurci_finish. The rules for handles above hold for tickets too. */
+/* A run between boddurci_ask and boddurci_finish. The rules for handles above apply to tickets too. */
 typedef struct boddurci_ticket {
     void *at;
 } boddurci_ticket;
 
-/* A .pag that is read in pieces. The rules for handles hold, except that it stays in the thread that began it. */
+/* A .pag that is read in pieces. The rules for handles apply, but only the thread that began a reading may use it. */
 typedef struct boddurci_reading {
     void *at;
 } boddurci_reading;
 
-/* The position of a walk over all pairs. */
+/* The position in an iteration over all pairs. */
 typedef struct boddurci_cursor {
     uint32_t page;
     uint32_t end;
     size_t pair;
 } boddurci_cursor;
 
-/* The version of this header, and that of the library. They are the same if both were built together. */
+/* The version of this header, and that of the library. They are equal if both were built together. */
 #define BODDURCI_VERSION "2.0.0"
 const char *boddurci_version(void);
 
@@ -92,25 +92,25 @@ const char *boddurci_version(void);
 enum boddurci_status {
     BODDURCI_DONE = 0,           /* success: found, stored, deleted, counted, run, numbered, opened, written, asked or worked */
     BODDURCI_MISSING = 1,        /* the key does not exist */
-    BODDURCI_EXISTS = 2,         /* the key exists already, so nothing was inserted */
-    BODDURCI_CROWDED = 3,        /* there is no room for the pair, however often its page is split; nothing changed */
-    BODDURCI_SHORT_ROOM = 4,     /* a room is too short; the lengths are set */
-    BODDURCI_REFUSED = 5,        /* the image is not an accepted program, or there are 4,096 already; the text says why */
+    BODDURCI_EXISTS = 2,         /* the key exists already; nothing was inserted */
+    BODDURCI_CROWDED = 3,        /* the pair does not fit, however often its page is split; nothing changed */
+    BODDURCI_SHORT_ROOM = 4,     /* a buffer is too short; the lengths are set */
+    BODDURCI_REFUSED = 5,        /* the image is not an accepted program, or there are 4,096 programs; the text says why */
     BODDURCI_BAD_TEXT = 6,       /* the text is not a program; the line and the text of the fault are set */
     BODDURCI_BAD_FILES = 7,      /* the bytes are not a database; the text says why; the handle stays closed */
-    BODDURCI_CHANGED = 8,        /* the page of the key has changed since boddurci_ask: ask again. Of a save in files: another program
-                                    has changed them; the text says how */
+    BODDURCI_CHANGED = 8,        /* the page of the key has changed since boddurci_ask: ask again. From boddurci_save: another program has
+                                    changed the files; the text says how */
     BODDURCI_STALE = 9,          /* the plan lacks a page that may have changed: call boddurci_changed, read those pages, and plan again */
     BODDURCI_IS_CLOSED = 16,     /* the handle is closed, or NULL */
-    BODDURCI_IS_OPEN = 17,       /* the handle is open already */
+    BODDURCI_IS_OPEN = 17,       /* the handle is already open */
     BODDURCI_PAIR_TOO_LARGE = 18,/* key and value, or key and blank, have more than BODDURCI_PAIR_MOST(wide) bytes together */
     BODDURCI_ARG_TOO_LONG = 19,  /* the argument has more than BODDURCI_ARG_MOST bytes */
-    BODDURCI_NO_PROGRAM = 20,    /* no program has the number */
+    BODDURCI_NO_PROGRAM = 20,    /* no program has this number */
     BODDURCI_NO_MEMORY = 21,     /* out of memory */
-    BODDURCI_FILE_TOO_LONG = 22, /* .pag would exceed 1 GiB, or the limit of boddurci_limit, so nothing changed; of a plan: a file has
+    BODDURCI_FILE_TOO_LONG = 22, /* .pag would exceed 1 GiB, or the limit of boddurci_limit; nothing changed. From boddurci_plan: a file has
                                     4 GiB or more */
-    BODDURCI_NO_TICKET = 23,     /* the ticket has no run, or one that has not been worked; or the ticket is NULL */
-    BODDURCI_NO_STOCK = 24       /* no stock program has the name */
+    BODDURCI_NO_TICKET = 23,     /* the ticket has no run, or its run has not been worked; or the ticket is NULL */
+    BODDURCI_NO_STOCK = 24       /* no stock program has this name */
 };
 
 #define BODDURCI_PAIR_MOST(wide) ((wide) ? 8008 : 1008)
@@ -123,7 +123,7 @@ enum boddurci_status {
 #define BODDURCI_STOCKS \
     "counter, bounded_add, bounded_counter, compare_and_set, sequence, lease, fenced_lease, rate_limit, semaphore, token_bucket"
 
-/* The text of a status of this header. boddurci_files_text of boddurci_files.h knows those of files too. */
+/* Returns the text of a status of this header. boddurci_files_text of boddurci_files.h knows the statuses of both headers. */
 static inline const char *boddurci_text(uint32_t status)
 {
     switch (status) {
@@ -150,20 +150,21 @@ static inline const char *boddurci_text(uint32_t status)
     }
 }
 
-/* Opens a closed handle on the database in the bytes of both files; no bytes are an empty database. Pages have 8,192 bytes if wide is not
- * 0, and 1,024 otherwise. Keys hash by unsigned bytes if unsigned_keys is not 0, and by signed bytes, as on x86-64, otherwise. The files do
- * not say which. IS_OPEN, NO_MEMORY; BAD_FILES with a text, for example "Page(3, Offsets)". After NO_MEMORY too the text may be set. */
+/* Opens a closed handle on the database in the bytes of both files. If there are no bytes, the database is empty. Pages have 8,192 bytes if
+ * `wide` is not 0, and 1,024 otherwise. Keys are hashed as unsigned bytes if `unsigned_keys` is not 0, and as signed bytes otherwise, as on
+ * x86-64. The files contain neither setting. IS_OPEN, NO_MEMORY (the text may be set), BAD_FILES with a text, for example "Page(3,
+ * Offsets)". */
 uint32_t boddurci_open(boddurci *db, const uint8_t *dir, size_t dir_length, const uint8_t *pag, size_t pag_length, uint32_t wide,
                        uint32_t unsigned_keys, uint8_t *text, size_t text_room, size_t *text_length);
 
 /* Sets *looks_small to 1 if files that are to be opened with wide pages look like a database with small ones, and to 0 otherwise. If it is
- * 0, the files are not a database with small pages, unless all its bytes are zeros. Small pages can read as wide ones by chance, and a
- * change would destroy them. It needs no handle. boddurci_open does not call it; boddurci_open_files does. NO_MEMORY. */
+ * 0, they are not a database with small pages, unless all bytes are zeros. Small pages can be valid wide ones by chance, and a change would
+ * destroy them. Needs no handle. boddurci_open_files makes this check, and boddurci_open does not. NO_MEMORY. */
 uint32_t boddurci_looks_small(const uint8_t *dir, size_t dir_length, const uint8_t *pag, size_t pag_length, uint32_t unsigned_keys,
                               uint32_t *looks_small);
 
-/* The same without all bytes of .pag in memory: pass them in pieces, then open the reading. It keeps only pages, so it takes as much memory
- * as the open database, and none for a piece of zeros.
+/* The same without all bytes of .pag in memory: pass them in pieces, then open the reading. The reading keeps only pages, so it takes as
+ * much memory as the open database, and none for a piece of zeros.
  *
  *     boddurci_reading reading = BODDURCI_UNREAD;
  *     uint32_t status = BODDURCI_DONE;
@@ -173,14 +174,14 @@ uint32_t boddurci_looks_small(const uint8_t *dir, size_t dir_length, const uint8
  *         status = boddurci_open_reading(&db, &reading, dir, dir_length, 0, 0, text, sizeof text, &text_length);
  *     boddurci_end_reading(&reading);
  *
- * boddurci_read reads the next piece. Each piece except the last has whole pages: 262,144 bytes are a good length. `wide` of the first
- * piece sets the page size; that of later pieces is ignored. BAD_FILES if the pieces before this one end inside a page, and FILE_TOO_LONG
- * for 2^63 bytes or more: the reading is unchanged then. After NO_MEMORY the reading is unread.
+ * boddurci_read reads the next piece. Each piece except the last must consist of whole pages; 262,144 bytes are a good length. `wide` of
+ * the first piece sets the page size, and that of later pieces is ignored. BAD_FILES if the earlier pieces end inside a page, FILE_TOO_LONG
+ * for 2^63 bytes or more: the reading is then unchanged. After NO_MEMORY the reading is unread.
  *
  * boddurci_reading_looks_small is boddurci_looks_small for the bytes that were read. NO_MEMORY.
  *
- * boddurci_open_reading is boddurci_open for the bytes that were read, with the same statuses; an unread reading is an empty .pag.
- * The reading is unread afterwards, and unchanged after any refusal. If the pieces had the other page size, it copies all bytes.
+ * boddurci_open_reading is boddurci_open for the bytes that were read, with the same statuses. An unread reading is an empty .pag. After
+ * DONE the reading is unread; after any other status it is unchanged. If the pieces had the other page size, the call copies all bytes.
  *
  * boddurci_end_reading frees the reading, which may be unread. */
 uint32_t boddurci_read(boddurci_reading *reading, uint32_t wide, const uint8_t *piece, size_t piece_length);
@@ -193,56 +194,73 @@ void boddurci_end_reading(boddurci_reading *reading);
 /* Returns 1 if the handle is open, and 0 otherwise. */
 uint32_t boddurci_is_open(boddurci *db);
 
-/* Closes the handle, which may be closed already, and frees its memory. It saves nothing. */
+/* Closes the handle, which may be closed, and frees its memory. Saves nothing. */
 void boddurci_close(boddurci *db);
 
-/* Sets the greatest length of .pag in bytes that commands may cause, as long as the handle is open. The default is 1 GiB, which is also the
- * most. A command that needs a page above the limit returns FILE_TOO_LONG; existing pages stay. A user who chooses keys can make .pag as
- * long as the limit at little cost: a page far out leaves holes before it, and every later opening takes time for the whole length.
- * IS_CLOSED. */
+/* Sets the greatest length of .pag in bytes that a command may cause while the handle is open. The default, 1 GiB, is also the maximum. A
+ * command that needs a page above the limit returns FILE_TOO_LONG; existing pages stay. Set a limit if strangers choose your keys: at
+ * little cost they can make .pag as long as the limit, since a page far out leaves holes before it, and every later opening takes time for
+ * the whole length. IS_CLOSED. */
 uint32_t boddurci_limit(boddurci *db, size_t bytes);
 
-/* Fetches the value of a key, which may have any length. MISSING, which leaves *value_length unchanged; SHORT_ROOM, IS_CLOSED. It allocates
- * no memory. */
+/* Fetches the value of a key, which may have any length. Allocates no memory. MISSING, which leaves *value_length unchanged; SHORT_ROOM,
+ * IS_CLOSED. */
 uint32_t boddurci_fetch(boddurci *db, const uint8_t *key, size_t key_length, uint8_t *value, size_t value_room, size_t *value_length);
 
-/* Sets the value of a key. If the key has a value already it is replaced, or kept (EXISTS) if replace is 0. CROWDED, FILE_TOO_LONG,
+/* Sets the value of a key. If the key exists, replaces its value, or returns EXISTS if `replace` is 0. CROWDED, FILE_TOO_LONG,
  * PAIR_TOO_LARGE, IS_CLOSED, NO_MEMORY. */
 uint32_t boddurci_store(boddurci *db, const uint8_t *key, size_t key_length, const uint8_t *value, size_t value_length,
                         uint32_t replace);
 
-/* Deletes a key with its value. MISSING, IS_CLOSED, NO_MEMORY. */
+/* Deletes a key and its value. MISSING, IS_CLOSED, NO_MEMORY. */
 uint32_t boddurci_delete(boddurci *db, const uint8_t *key, size_t key_length);
 
 /* Counts the pairs, in a pass over all pages. IS_CLOSED. */
 uint32_t boddurci_count(boddurci *db, size_t *count);
 
-/* Assembles a text to the image of its program (docs/ASSEMBLER.md). It needs no handle. SHORT_ROOM, NO_MEMORY; BAD_TEXT with the line,
- * counted from 1, and a text, for example "line 3: Operand". If the source is not UTF-8 the line is 0. After NO_MEMORY too the line and the
- * text may be set. */
+/* Assembles the text of a program into its image (docs/ASSEMBLER.md). Needs no handle. SHORT_ROOM, NO_MEMORY (the line and the text may be
+ * set), BAD_TEXT with the line, counted from 1, and a text, for example "line 3: Operand". The line is 0 if the source is not UTF-8. */
 uint32_t boddurci_assemble(const uint8_t *source, size_t source_length, uint8_t *image, size_t image_room, size_t *image_length,
                            size_t *line, uint8_t *text, size_t text_room, size_t *text_length);
 
-/* Verifies the image of a program, 8 bytes a unit, and gives it a number, from 0, which is valid until the handle is closed. The same
- * image has the same number. IS_CLOSED, NO_MEMORY; REFUSED with a text, for example "Verify(OutOfRecord(3))", and the offending unit, here
- * 3, or BODDURCI_NOWHERE. After NO_MEMORY the unit is BODDURCI_NOWHERE, and the text may be set. */
+/* Verifies the image of a program, 8 bytes a unit, and gives it a number, from 0, which is valid until the handle is closed. The same image
+ * always gets the same number. IS_CLOSED, NO_MEMORY (the unit is BODDURCI_NOWHERE, and the text may be set), REFUSED with a text, for
+ * example "Verify(OutOfRecord(3))", and the offending unit, here 3, or BODDURCI_NOWHERE. */
 uint32_t boddurci_submit(boddurci *db, const uint8_t *image, size_t image_length, uint32_t *number, size_t *unit, uint8_t *text,
                          size_t text_room, size_t *text_length);
 
-/* Submits a stock program by its name, for example "counter": one of BODDURCI_STOCKS. It sets *number as boddurci_submit does for the
- * image, so a program that was submitted before keeps its number. docs/PROGRAMS.md says what each does, and that is proved. NO_STOCK,
+/* Submits a stock program by its name, one of BODDURCI_STOCKS, for example "counter". Sets *number as boddurci_submit does for the image,
+ * so a program that was submitted before keeps its number. docs/PROGRAMS.md says what each program does, which is proved. NO_STOCK,
  * IS_CLOSED and NO_MEMORY leave *number unchanged. REFUSED if there are 4,096 programs. boddurci_submit_stock takes a name that does not
- * end in a zero. */
+ * end in a zero byte. */
 uint32_t boddurci_stock(boddurci *db, const char *name, uint32_t *number);
 uint32_t boddurci_submit_stock(boddurci *db, const uint8_t *name, size_t name_length, uint32_t *number);
 
-/* Runs program `number` on the record of a key, as one step. If the key does not exist and has_blank is not 0, it runs on a record of
- * `blank` zeros. The program can read the time `now` and the argument. *end is the number that it returns: 1 saves the record, 2 deletes
- * the pair, any other changes nothing. *word is its reply word. After MISSING and CROWDED both are 0; after any other refusal they are
- * unchanged. MISSING if there is neither the key nor a blank; CROWDED, FILE_TOO_LONG; NO_PROGRAM, then PAIR_TOO_LARGE, then ARG_TOO_LONG;
- * IS_CLOSED, NO_MEMORY. */
+/* Runs program `number` on the record of a key, as one step. If the key does not exist and `has_blank` is not 0, runs it on a record of
+ * `blank` zeros. The program can read the time `now` and the argument. *end is the program's result: 1 saves the record, 2 deletes the
+ * pair, and any other number changes nothing. *word is its reply word. After MISSING and CROWDED both are 0; after any other status except
+ * DONE they are unchanged. MISSING if the key does not exist and `has_blank` is 0, CROWDED, FILE_TOO_LONG, IS_CLOSED, NO_MEMORY. If several
+ * of NO_PROGRAM, PAIR_TOO_LARGE and ARG_TOO_LONG apply, it returns the first of them. */
 uint32_t boddurci_run(boddurci *db, uint32_t number, const uint8_t *key, size_t key_length, const uint8_t *arg, size_t arg_length,
                       uint32_t has_blank, size_t blank, uint64_t now, uint64_t *end, uint64_t *word);
+
+/* Adds an amount to the number in the first 8 bytes of a record, the lowest byte first, as one step. If the key does not exist, the number
+ * is 0. Runs the stock program bounded_counter. *end is 1 if the amount was added, and 0 if the number would be below `least` or above
+ * `greatest`: then nothing changes. *number is the number after the call. The statuses are those of boddurci_stock and boddurci_run. */
+static inline uint32_t boddurci_add(boddurci *db, const uint8_t *key, size_t key_length, int64_t amount, uint64_t least,
+                                    uint64_t greatest, uint64_t *end, uint64_t *number)
+{
+    const uint64_t values[3] = {(uint64_t)amount, least, greatest};
+    uint8_t argument[sizeof values];
+    uint32_t program, status;
+
+    for (size_t i = 0; i < sizeof argument; i++)
+        argument[i] = (uint8_t)(values[i / 8] >> (8 * (i % 8)));
+    status = boddurci_stock(db, "bounded_counter", &program);
+    if (status != BODDURCI_DONE)
+        return status;
+    return boddurci_run(db, program, key, key_length, argument, sizeof argument, 1, 8, 0, end, number);
+}
 
 /* The same run by a ticket. Initialize the ticket with BODDURCI_FREE:
  *
@@ -260,15 +278,15 @@ uint32_t boddurci_run(boddurci *db, uint32_t number, const uint8_t *key, size_t 
  *     } while (status == BODDURCI_CHANGED);
  *     boddurci_abandon(&ticket);
  *
- * boddurci_ask stores the run and the present page of its key in the ticket, and drops an earlier run in it. It refuses as boddurci_run
- * does, and leaves the ticket unchanged then. It runs nothing: MISSING, CROWDED and FILE_TOO_LONG come from boddurci_finish.
+ * boddurci_ask puts the run and the present page of its key into the ticket, and drops an earlier run in it. It runs nothing, so MISSING,
+ * CROWDED and FILE_TOO_LONG come from boddurci_finish. It returns the other statuses of boddurci_run, and then leaves the ticket unchanged.
  *
- * boddurci_work runs the program on that page. It needs no handle, so another thread may use the handle meanwhile.
- * NO_TICKET if the ticket has no run; NO_MEMORY.
+ * boddurci_work runs the program on that page. It needs no handle, so another thread may use the handle meanwhile. NO_TICKET if the ticket
+ * has no run, NO_MEMORY.
  *
  * boddurci_finish does the same as boddurci_run, with the same results, if the page has not changed since boddurci_ask. The ticket is free
- * then. CHANGED if any pair of the page has changed, or the page was split: a page of 1,024 bytes has some 25 pairs of 24 bytes. IS_CLOSED,
- * NO_TICKET; FILE_TOO_LONG and NO_MEMORY, after which it may be called again.
+ * afterwards. CHANGED if any pair of the page has changed, or the page was split; a page of 1,024 bytes has some 25 pairs of 24 bytes.
+ * IS_CLOSED, NO_TICKET. After FILE_TOO_LONG and NO_MEMORY it may be called again.
  *
  * boddurci_abandon drops the run of a ticket, which may be free. */
 uint32_t boddurci_ask(boddurci *db, boddurci_ticket *ticket, uint32_t number, const uint8_t *key, size_t key_length, const uint8_t *arg,
@@ -277,41 +295,43 @@ uint32_t boddurci_work(boddurci_ticket *ticket);
 uint32_t boddurci_finish(boddurci *db, boddurci_ticket *ticket, uint64_t *end, uint64_t *word);
 void boddurci_abandon(boddurci_ticket *ticket);
 
-/* A walk over all pairs. The order is stable as long as nothing is stored, deleted or run; after a change begin again. The caller owns the
- * cursor, and there may be any number of them. boddurci_first sets a cursor before the first pair: IS_CLOSED. boddurci_next returns the
- * next pair and moves the cursor after it. MISSING if no pair is left; SHORT_ROOM if key or value does not fit, which does not move the
- * cursor; IS_CLOSED. */
+/* Iterates over all pairs. The order is stable until a store, a delete or a run; after a change begin again. The caller owns the cursor,
+ * and there may be any number of cursors. boddurci_first sets a cursor before the first pair: IS_CLOSED. boddurci_next returns the next
+ * pair and moves the cursor after it: MISSING if no pair is left, SHORT_ROOM if the key or the value does not fit, which does not move the
+ * cursor, IS_CLOSED. */
 uint32_t boddurci_first(boddurci *db, boddurci_cursor *cursor);
 uint32_t boddurci_next(boddurci *db, boddurci_cursor *cursor, uint8_t *key, size_t key_room, size_t *key_length, uint8_t *value,
                        size_t value_room, size_t *value_length);
 
-/* Returns the bytes of both files. SHORT_ROOM if one of them does not fit, and then neither is written: call it with rooms of length 0
- * first. IS_CLOSED, NO_MEMORY. */
+/* Returns the bytes of both files. SHORT_ROOM if either does not fit, and then it writes neither: call it first with buffers of length 0.
+ * IS_CLOSED, NO_MEMORY. */
 uint32_t boddurci_files(boddurci *db, uint8_t *dir, size_t dir_room, size_t *dir_length, uint8_t *pag, size_t pag_room,
                         size_t *pag_length);
 
 /* Lists the pages of .pag that may have changed since the handle was opened, or since its last plan: their numbers, from 0, in any order,
- * and how many there are. An empty list says that nothing has changed. A page whose bytes differ from those that the library would write,
- * for example by garbage among its free bytes, is listed from the opening on. SHORT_ROOM, IS_CLOSED. It allocates no memory. */
+ * and their count. If the list is empty, nothing has changed. A page whose bytes differ from those that the library would write, for
+ * example by garbage in its free bytes, is listed from the opening on. Allocates no memory. SHORT_ROOM, IS_CLOSED. */
 uint32_t boddurci_changed(boddurci *db, uint32_t *numbers, size_t room, size_t *count);
 
-/* Plans a save, which makes the files equal to the database. It needs the bytes of .dir, the length of .pag in bytes, and the bytes of the
- * pages with these numbers, one page after the other, with zeros past the end of the file. The numbers must include all pages that
- * boddurci_changed lists: any other page is assumed to be in the file unchanged since it was last written or opened. If the files may have
- * changed, for example by another program, pass all pages of the file and of the database.
+/* Plans a save: the changes that make the files equal to the database. Pass the bytes of .dir, the length of .pag in bytes, and the bytes
+ * of the pages with these numbers, one page after the other, with zeros past the end of the file. The numbers must include all pages that
+ * boddurci_changed lists. The plan assumes that every other page in the file is unchanged since it was last written or opened. If that may
+ * be wrong, for example since another program may have changed the files, pass all pages of the file and of the database.
  *
- * The plan has a change for each block of 1,024 bytes of .dir, and then of the pages, that differs: the part that differs, extended to
- * multiples of 128 bytes. It is empty if nothing differs. After DONE no page counts as changed: if you do not carry out the plan, pass the
- * numbers to boddurci_mark. STALE if a page that may have changed is not among the numbers, or if pages_length is not that of count pages;
- * SHORT_ROOM; FILE_TOO_LONG also for more than 2^22 numbers; IS_CLOSED, NO_MEMORY. After each of these the handle is unchanged.
+ * The plan has a change for each differing block of 1,024 bytes, first of .dir, then of the pages: the part that differs, extended to
+ * multiples of 128 bytes. The plan is empty if nothing differs. After DONE no page counts as changed: if you do not carry out the plan,
+ * pass the numbers to boddurci_mark. STALE if a page that may have changed is not among the numbers, or if `pages_length` is not the length
+ * of `count` pages; SHORT_ROOM; FILE_TOO_LONG also for more than 2^22 numbers; IS_CLOSED, NO_MEMORY. After each of these the handle is
+ * unchanged.
  *
  * A byte 1 and the plan are a redo file, which dbm and boddurci_files.h recover. The plan is 8 bytes "sdbmred2"; the new lengths of .pag
  * and of .dir, and their present lengths; the number of changes; and for each change its file (a byte, 0 for .pag and 1 for .dir), its
- * offset, its length, its bytes, and the present bytes there, with zeros past the end of the file. Numbers have 4 bytes, lowest first. */
+ * offset, its length, its bytes, and the present bytes there, with zeros past the end of the file. Numbers have 4 bytes, the lowest
+ * first. */
 uint32_t boddurci_plan(boddurci *db, const uint8_t *dir, size_t dir_length, size_t pag_length, const uint32_t *numbers, size_t count,
                        const uint8_t *pages, size_t pages_length, uint8_t *plan, size_t plan_room, size_t *plan_length);
 
-/* Marks pages as changed, for a plan that was not carried out. It takes a byte of memory for each number up to the largest, so pass only
+/* Marks pages as changed, for a plan that was not carried out. Takes a byte of memory for each number up to the largest, so pass only
  * numbers from boddurci_changed. IS_CLOSED, NO_MEMORY. */
 uint32_t boddurci_mark(boddurci *db, const uint32_t *numbers, size_t count);
 

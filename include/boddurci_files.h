@@ -1,4 +1,4 @@
-/* A database in its files, BASE.dir and BASE.pag, for services in C: over boddurci.h, by POSIX calls.
+/* A database in its files BASE.dir and BASE.pag, for services in C: files, locks and saves over boddurci.h, by POSIX calls.
  *
  *     boddurci_fault fault;
  *     boddurci_base *base = boddurci_open_files("visits", 0, &fault);
@@ -15,40 +15,43 @@
  * Threads share a base: boddurci_take waits for its mutex, boddurci_give releases it, and boddurci_save takes it by itself. Threads that
  * save at the same time share saves.
  *
- * A save appends a record to the log in BASE.redo and syncs that file once, which makes the save durable. Then it writes BASE.pag and
- * BASE.dir without a sync. BASE.redo belongs to these two files and stays next to them. Its first byte, the mark, is 1 while BASE.redo has
- * saves that may not be on the disk in both files; closing the base syncs the files and clears the mark. After a kill or the loss of power
- * the next opening of the base recovers it. A program that does not know the log, such as Perl's SDBM_File, sees each save at once, but
- * after the loss of power it may see old or mixed pages until this library or dbm has opened the base for writing once.
+ * The log. A save appends a record to the log in BASE.redo and syncs that file once, which makes the save durable. Then it writes BASE.pag
+ * and BASE.dir without a sync. BASE.redo belongs to these two files and stays next to them. Its first byte, the mark, is 1 while BASE.redo
+ * has saves that may not be on the disk in both files. Closing the base syncs both files and clears the mark. After a kill or the loss of
+ * power the next opening of the base recovers it. A program that does not know the log, such as Perl's SDBM_File, sees each save at once.
+ * But after the loss of power it may see old or mixed pages, until this library or dbm has opened the base for writing once.
  *
- * One process at a time has a base open for writing, with this library or the program dbm: it holds a flock on BASE.writer. Other processes
- * wait for it as long as they request, and then get LOCKED; the text names the process if the system reports it. Several processes may change
- * one database by shared bases (boddurci_open_shared, at the end of this header), which hold the locks only during a call.
+ * Writers. One process at a time has a base open for writing, by this library or by the program dbm. It holds a flock on BASE.writer. Other
+ * processes wait for it as long as they request, and then get LOCKED; the text names the process if the system reports it. Several
+ * processes may change one database by shared bases (boddurci_open_shared, at the end of this header), which hold the locks only during a
+ * call.
  *
- * An opening with BODDURCI_READ_ONLY does not wait for that process, and reads its last save. Readers and writers share the files by a
- * flock on BASE.lock: a writer holds it while it opens the base, for each save and to close, a reader while it reads. So a save waits for
- * active readers, but calls in memory do not. A writer keeps BASE.lock if it has no whole save that readers could read: after a save that
- * could not be written, until the next one succeeds; before the first save of a new database; and if it cannot mark BASE.redo when it opens
- * the base (no room, no permission), until it can. The mark stops versions of this library that do not know the log.
+ * Readers. An opening with BODDURCI_READ_ONLY does not wait for the writer, and reads its last save. Readers and writers share the files by
+ * a flock on BASE.lock: a writer holds it while it opens the base, during each save and while it closes the base, and a reader while it
+ * reads. So a save waits for active readers, but calls in memory do not. A writer keeps BASE.lock while there is no complete save for
+ * readers: after a save that could not be written, until the next one succeeds; before the first save of a new database; and if it cannot
+ * mark BASE.redo when it opens the base (no room, no permission), until it can. Versions of this library that do not know the log do not
+ * write while the mark is set.
  *
- * A program that knows neither lock, such as Perl, does not wait. If it has written, the next save is BODDURCI_CHANGED and overwrites
- * nothing, unless the save insists. If both data files are symbolic links to those of another base, the locks are those of that base.
+ * Other programs. A program that knows neither lock, such as Perl, does not wait. If it has written, the next save returns CHANGED and
+ * overwrites nothing, unless the save insists.
  *
- * boddurci_open_files resolves the names once, and keeps the folder open. So neither a chdir nor a changed link in the path leads a save
- * into other files. If BASE.lock, .writer, .pag or .dir is no longer the file that was opened, a save is BODDURCI_MOVED.
+ * Names. If both data files are symbolic links to those of another base, the locks are those of that base. boddurci_open_files resolves the
+ * names once, and keeps the folder open. So neither a chdir nor a changed link in the path leads a save into other files. If BASE.lock,
+ * .writer, .pag or .dir is no longer the file that was opened, a save returns MOVED.
  *
- * BASE.redo, BASE.lock and BASE.writer must be files with one name, owned by you, by root or by the owner of BASE.pag, and writable only
- * for users who may write BASE.pag; otherwise the result is BODDURCI_UNSAFE. (A reader ignores a BASE.writer that is not such a file.) A
- * lock may also belong to a user who may write BASE.pag, by its group or because all may. After UNSAFE look who has made the file, and
- * remove it if you do not trust that user. If a redo file belongs to a user you trust, let that user's next command recover it, or give it
- * to the owner of BASE.pag: the data files may hold half of its saves. Closing a base removes a redo file that could not get the owner, the
+ * Owners. BASE.redo, BASE.lock and BASE.writer must be files with one name, owned by you, by root or by the owner of BASE.pag, and writable
+ * only by users who may write BASE.pag. Otherwise the call returns UNSAFE. (A reader ignores a BASE.writer that is not such a file.) A lock
+ * may also belong to a user who may write BASE.pag, by its group or because all may. After UNSAFE find out who made the file, and remove it
+ * if you do not trust that user. If a redo file belongs to a user you trust, let that user's next command recover it, or give it to the
+ * owner of BASE.pag: the data files may contain half of its saves. Closing a base removes a redo file that could not get the owner, the
  * group and the permissions of BASE.pag, so only a killed process leaves one.
  *
- * A base belongs to the process that has opened it. In a child that this process forks, boddurci_save is BODDURCI_FORKED, boddurci_take
- * returns NULL, boddurci_give does nothing, and boddurci_close_files only frees memory: the locks stay with the parent.
+ * Forks. A base belongs to the process that opened it. In a child that this process forks, boddurci_save returns FORKED, boddurci_take
+ * returns NULL, boddurci_give does nothing, and boddurci_close_files only frees memory: the parent keeps the locks.
  *
- * A fault may be NULL, if the caller does not need it. A base or a name may be NULL: a save is then BODDURCI_IS_CLOSED, boddurci_take
- * returns NULL, boddurci_give and boddurci_close_files do nothing, and an opening is BODDURCI_BAD_NAME.
+ * NULL. Pass NULL as the fault if you do not need it. If the base is NULL, a save returns IS_CLOSED, boddurci_take returns NULL, and
+ * boddurci_give and boddurci_close_files do nothing. If the name is NULL, an opening fails with BAD_NAME.
  *
  * None of this is proved; tests/c_library, tests/c_crashes and tests/hostile_library test it. */
 #ifndef BODDURCI_FILES_H
@@ -67,12 +70,12 @@ extern "C" {
 typedef struct boddurci_base boddurci_base;
 
 enum boddurci_flags {
-    BODDURCI_WIDE = 1,          /* pages of 8,192 bytes; the files do not say */
-    BODDURCI_UNSIGNED_KEYS = 2, /* keys hash by unsigned bytes; the files do not say */
-    BODDURCI_READ_ONLY = 4,     /* hold no lock after the opening, and make no save */
-    BODDURCI_NO_WAIT = 8,       /* do not wait for a lock, not even for the given time; a reader may then meet a save */
-    BODDURCI_MUST_EXIST = 16,   /* if BASE.pag is missing, fail instead of beginning with an empty database */
-    BODDURCI_EMPTY = 32,        /* begin with an empty database, and ignore the contents of the files */
+    BODDURCI_WIDE = 1,          /* pages of 8,192 bytes; the files do not say which */
+    BODDURCI_UNSIGNED_KEYS = 2, /* keys are hashed as unsigned bytes; the files do not say how */
+    BODDURCI_READ_ONLY = 4,     /* hold no lock after the opening, and allow no save */
+    BODDURCI_NO_WAIT = 8,       /* do not wait for a lock, not even for the given time; a reader may then fail because of a save */
+    BODDURCI_MUST_EXIST = 16,   /* if BASE.pag is missing, fail instead of starting with an empty database */
+    BODDURCI_EMPTY = 32,        /* start with an empty database, and ignore the contents of the files */
     BODDURCI_ANY_SIZE = 64      /* with WIDE: open the files even if they look like those of small pages */
 };
 
@@ -86,99 +89,99 @@ enum boddurci_files_status {
     BODDURCI_FILE_FAILED = 32, /* a system call failed, and fault.system is its errno; or links lead to two bases, and it is 0 */
     BODDURCI_LOCKED = 33,      /* another process has the database open for writing, or a reader or writer uses its files */
     BODDURCI_BAD_REDO = 34,    /* BASE.redo is marked, and does not belong to these files: no save has left it, an older copy of them was
-                                  put back, or another program wrote them. Or a record in the middle of its log is damaged, as the text
-                                  says then. To use the files unchanged, move it away */
+                                  put back, or another program wrote them. Or a record in the middle of its log is damaged; the text says
+                                  so. To use the data files unchanged, move BASE.redo away */
     BODDURCI_NO_SAVE = 35,     /* the base was opened for reading only */
-    BODDURCI_TOO_LONG = 36,    /* a file is longer than dbm takes: 1 GiB of .pag, 256 MiB of .dir */
+    BODDURCI_TOO_LONG = 36,    /* a file is longer than allowed: 1 GiB for .pag, 256 MiB for .dir */
     BODDURCI_UNSAFE = 37,      /* BASE.redo, .lock or .writer may belong to a user who may not write the base; the text says why. Control
                                   characters, invalid UTF-8 and bidirectional controls in the name are escaped */
     BODDURCI_MOVED = 38,       /* BASE.lock, .writer, .pag, .dir or .redo is no longer the file that was opened, or links lead elsewhere */
-    BODDURCI_FORKED = 39,      /* a parent of this process has opened the base */
+    BODDURCI_FORKED = 39,      /* a parent of this process opened the base */
     BODDURCI_BAD_NAME = 40,    /* the name is NULL or empty, . or .., or ends in one of these after a / */
     BODDURCI_INTERRUPTED = 41, /* a signal was handled during the wait for a lock */
-    BODDURCI_OPEN_HERE = 42,   /* this thread has the base open already: it would wait for itself */
+    BODDURCI_OPEN_HERE = 42,   /* this thread already has the base open: it would wait for itself */
     BODDURCI_OTHER_SIZE = 43   /* with WIDE: .pag looks like a file of small pages, which a change would destroy. Open it without WIDE, or
-                                  make its pages wide with `dbm widen`; if they are wide nevertheless, add ANY_SIZE */
+                                  make its pages wide with `dbm widen`. If they are wide nevertheless, add ANY_SIZE */
 };
 
-/* A failure: its status, the errno of the system call that failed or 0, and a text that ends in a zero. A save that is DONE may also report
- * a failed system call. */
+/* A failure: its status, the errno of the system call that failed or 0, and a text that ends in a zero byte. A save that is DONE may also
+ * report a failed system call. */
 typedef struct boddurci_fault {
     uint32_t status;
     int system;
     char text[200];
 } boddurci_fault;
 
-/* The text of a status of either header. */
+/* Returns the text of a status of either header. */
 const char *boddurci_files_text(uint32_t status);
 
-/* Opens the database in BASE.dir and BASE.pag, each of which may be missing. Returns NULL and sets *fault if that fails: nothing has
- * changed then, except that the files may be recovered and locks may exist. FILE_FAILED, LOCKED (by NO_WAIT only), BAD_REDO, TOO_LONG,
+/* Opens the database in BASE.dir and BASE.pag. Either file may be missing. On failure returns NULL and sets *fault. Nothing has changed
+ * then, except that the files may be recovered and lock files may exist. FILE_FAILED, LOCKED (only with NO_WAIT), BAD_REDO, TOO_LONG,
  * UNSAFE, MOVED, BAD_NAME, OPEN_HERE, OTHER_SIZE, and BAD_FILES and NO_MEMORY of boddurci.h.
  *
- * If BASE.redo is marked the files are recovered first, no matter who saved, also from the redo file of a version without the log. A
- * read-only opening writes nothing: it syncs BASE.redo and reads what its saves would have left. While another process has the base open
- * for writing it reads only the data files. An opening for writing marks BASE.redo, which takes some syncs. It waits for the locks without
- * a limit, also after a signal. A user who may not write an existing .pag makes no lock.
+ * If BASE.redo is marked, the call first recovers the files, even if another user or a version without the log has saved. A read-only
+ * opening writes nothing: it syncs BASE.redo, and reads the files as the saves in it would have left them. While another process has the
+ * base open for writing, it reads only the data files. An opening for writing marks BASE.redo, which takes some syncs. It waits for the
+ * locks without a limit, even after a signal. A user who may not write an existing .pag makes no lock files.
  *
- * Memory: that of the open database, the data of .dir and one piece of .pag, and the bytes of each page whose free bytes differ from those
+ * Memory: that of the open database, the data of .dir, one piece of .pag, and the bytes of each page whose free bytes differ from those
  * that the library writes. An opening that recovers also needs the data of .pag and BASE.redo. Holes take no memory. */
 boddurci_base *boddurci_open_files(const char *base, uint32_t flags, boddurci_fault *fault);
 
-/* Like boddurci_open_files, but waits for the locks at most `milliseconds`, and is then LOCKED. 0 tries once, and -1 waits without a limit.
- * INTERRUPTED if a signal was handled meanwhile: call it again to continue. */
+/* Like boddurci_open_files, but waits for the locks at most `milliseconds`, and then fails with LOCKED. 0 tries once, and -1 waits without
+ * a limit. INTERRUPTED if a signal was handled meanwhile: call it again to continue. */
 boddurci_base *boddurci_open_files_within(const char *base, uint32_t flags, int64_t milliseconds, boddurci_fault *fault);
 
-/* Waits for the mutex and borrows the handle until boddurci_give. Never close the handle, and never pass it to boddurci_plan: after that
- * the changes would count as saved. Returns NULL if base is NULL, and in a child of the process that has opened the base. Each call with
- * that NULL returns IS_CLOSED, and boddurci_give does nothing. */
+/* boddurci_take waits for the mutex, and returns the handle, which is yours until boddurci_give. Never close it, and never pass it to
+ * boddurci_plan: the changes would then count as saved. boddurci_take returns NULL if `base` is NULL, and in a child of the process that
+ * opened the base. Calls with that NULL return IS_CLOSED, and boddurci_give does nothing. */
 boddurci *boddurci_take(boddurci_base *base);
 void boddurci_give(boddurci_base *base);
 
-/* Saves: makes the files equal to the database in memory. boddurci_save is boddurci_save_with without flags. The save appends the changes
- * to the log in BASE.redo, syncs it, and then writes them in place, so the files keep their owner, permissions and links. A new .dir gets
- * those of .pag. If nothing changed the save writes and makes nothing. IS_CLOSED if base is NULL; FORKED, NO_SAVE, MOVED, UNSAFE, BAD_REDO,
- * TOO_LONG, FILE_FAILED, and CHANGED, FILE_TOO_LONG and NO_MEMORY of boddurci.h.
+/* Saves: makes the files equal to the database in memory. boddurci_save is boddurci_save_with without flags. A save appends the changes to
+ * the log in BASE.redo, syncs it, and then writes them in place, so the files keep their owner, permissions and links. A new .dir gets
+ * those of .pag. If nothing has changed, a save writes and makes nothing. IS_CLOSED if `base` is NULL; FORKED, NO_SAVE, MOVED, UNSAFE,
+ * BAD_REDO, TOO_LONG, FILE_FAILED, and CHANGED, FILE_TOO_LONG and NO_MEMORY of boddurci.h.
  *
- * Crashes. After a crash at any time the next opening reads the database before the save or after it, and after it once the save has
- * returned. After a fault it reads the database before the save; but if the text says that BASE.redo cannot be written it may read either,
- * and the next save or opening finds out. A fault leaves the base open and unchanged, so you can save again.
+ * Crashes. After a crash at any time the next opening reads the database from before the save or from after it, and from after it once the
+ * save has returned. After a fault it reads the database from before the save. If the text says that BASE.redo cannot be written, it may
+ * read either one, and the next save or opening finds out. A fault leaves the base open and unchanged, so you can save again.
  *
  * Costs. A save is one sync and a few writes. The opening has opened the log, with room for 1 MiB, or 64 KiB if the disk or the process has
  * no more. A log that saves fill within a second gets 4 MiB, if there is room. A save takes some more syncs if it finds the log full and
- * empties it, if .pag or .dir gets shorter, or if it is the first of a new database. It reads .dir and the pages that may have changed: the
- * cost depends on the changes, not on the size of the base. But if a time of a file differs from the one that this base has left or read, or
- * if the base began with BODDURCI_EMPTY, it reads and compares both files whole. A page on which a program ran counts as one that may have
- * changed, even if the program saved nothing. The save holds the mutex while it compares
- * pages, and not while it reads and writes them. (If other threads change more pages than it can follow, three times in succession, it
- * reads once under the mutex.) Changes that other threads make meanwhile are in the next save.
+ * empties it, if .pag or .dir gets shorter, or if it is the first of a new database. It reads .dir and the pages that may have changed, so
+ * its cost depends on the changes, not on the size of the base. But it reads and compares both files whole if a time of a file is not the
+ * one that this base left or read, or if the base was opened with EMPTY. A page may have changed if a program ran on it, even if the
+ * program saved nothing. The save holds the mutex while it compares pages, and not while it reads and writes them. (If other threads change
+ * more pages than it can follow, three times in succession, it reads once under the mutex.) Changes that other threads make meanwhile are
+ * in the next save.
  *
- * CHANGED: another program has changed a data file since this base read or saved it. Neither file is written, and the base does not change.
- * The text says what was found: another length, a file that was made, a later write, or a page with other bytes. Each later save is CHANGED
- * too, until boddurci_save_with overwrites the files by BODDURCI_INSIST. To keep the data of the other program, close the base and open it
- * again. Nothing is merged. A new file without bytes is no change, nor are another owner, mode or link, nor a new time alone (touch) if
- * this base has changed no page. A write during the sync of a save makes the next save CHANGED. A write within the same tick of the clock
- * (some milliseconds) as a save of this base may not be seen. On a file system that takes its times from elsewhere, such as NFS, SMB and
- * FUSE, saves compare pages and not times, so a write on a page that this base has changed too is not seen.
+ * CHANGED: another program has changed a data file since this base read or saved it. The save writes neither file, and the base does not
+ * change. The text says what was found: another length, a file that was made, a later write, or a page with other bytes. Each later save
+ * returns CHANGED too, until boddurci_save_with overwrites the files by INSIST. To keep the data of the other program, close the base and
+ * open it again. Nothing is merged. A new empty file, another owner, mode or link does not count as a change, nor does a new time alone
+ * (touch) if this base has changed no page. A write during the sync of a save makes the next save return CHANGED. A save may not see a
+ * write within the same tick of the clock (some milliseconds) as a save of this base. On a file system that takes its times from elsewhere,
+ * such as NFS, SMB and FUSE, saves compare pages and not times, so they do not see a write on a page that this base has changed too.
  *
- * Threads may save at the same time, each after its own changes. A call returns the outcome of a save that began after the call, so its
- * changes are in that save. A save waits for readers that have BASE.lock. Calls that come during a save wait until it has ended. Then one
+ * Threads may save at the same time, each after its own changes. A call returns the result of a save that began after the call, so its
+ * changes are in that save. A save waits for readers that hold BASE.lock. Calls that come during a save wait until it has ended. Then one
  * of them saves for all that wait, and all of them return the status and the fault of that save: after a fault each may save again. No
- * thread is served twice while another one waits. A single thread waits for nobody. A cancellation takes effect only after the call.
- * While saves take less than half a millisecond, a waiting thread polls for the end and yields the processor, for twice as long as the last
- * save took; then it sleeps. Under SCHED_FIFO a thread yields only to threads of its own priority.
+ * thread is served twice while another one waits. A single thread never waits for other threads. A cancellation takes effect only after the
+ * call. While saves take less than half a millisecond, a waiting thread polls for the end and yields the processor, for twice as long as
+ * the last save took; then it sleeps. Under SCHED_FIFO a thread yields only to threads of the same priority.
  *
- * Full disks. Both files get the blocks that they need before the save counts, if the file system can allocate them. So a full disk is
- * FILE_FAILED with nothing changed. So is a save that would make one of the three files longer than the process may (RLIMIT_FSIZE), and it
- * raises no SIGXFSZ. If a file cannot be written nevertheless, the save is DONE, fault->system is not 0, and the text says which file: the
- * save is durable in BASE.redo, and the next save or opening for writing brings it into both files. Until then a program that does not know
- * BASE.redo, such as Perl's SDBM_File, may see half of it. */
+ * Full disks. Before a save is committed, both files get the blocks that they need, if the file system can allocate them. So a save on a
+ * full disk returns FILE_FAILED, and nothing has changed. So does a save that would make one of the three files longer than the process may
+ * (RLIMIT_FSIZE); it raises no SIGXFSZ. If a file cannot be written nevertheless, the save is DONE, fault->system is not 0, and the text
+ * says which file. The save is then durable in BASE.redo, and the next save or opening for writing writes it to both files. Until then a
+ * program that does not know BASE.redo, such as Perl's SDBM_File, may see half of it. */
 uint32_t boddurci_save(boddurci_base *base, boddurci_fault *fault) BODDURCI_IS_LOOKED_AT;
 uint32_t boddurci_save_with(boddurci_base *base, uint32_t flags, boddurci_fault *fault) BODDURCI_IS_LOOKED_AT;
 
-/* Syncs both data files, closes the log, and releases the locks and the memory. It saves nothing. If a sync fails the next opening recovers
- * the base. base may be NULL. No thread may use the base meanwhile, or later. In a child of the process that has opened the base it only
- * frees memory. */
+/* Syncs both data files, closes the log, and releases the locks and the memory. Saves nothing. If a sync fails, the next opening recovers
+ * the base. `base` may be NULL. No thread may use the base meanwhile, or later. In a child of the process that opened the base, the call
+ * only frees memory. */
 void boddurci_close_files(boddurci_base *base);
 
 /* ---- shared bases: several processes change one database
@@ -195,56 +198,58 @@ void boddurci_close_files(boddurci_base *base);
  *     boddurci_close_shared(shared);
  *
  * A shared base holds no lock and no pages between its calls. Each boddurci_shared_fetch, _store, _delete and _run is one atomic step among
- * all processes and threads that use the base, commands of dbm included: it takes the locks, reads the page of its key, makes the change,
- * and saves it. A change that returns DONE is durable. Nobody has to save, and there is no CHANGED.
+ * all processes and threads that use the base, including commands of dbm. It takes the locks, reads the page of its key, makes the change,
+ * and saves it. A change that returns DONE is durable. No separate save is needed, and no call returns CHANGED.
  *
- * A call takes BASE.lock and BASE.writer as an opening for writing does, and a fetch only BASE.lock, shared. It waits at most 5 seconds for
- * them, or as long as boddurci_shared_wait sets, and is then LOCKED with nothing changed; the text names the process if the system reports
- * it. It continues to wait after a signal. While a process has the base open by boddurci_open_files, or by a session of dbm, each change is
- * LOCKED, and a fetch reads the last save of that process.
+ * Locks. A change takes BASE.lock and BASE.writer as an opening for writing does; a fetch takes only BASE.lock, shared. It waits for them
+ * at most 5 seconds, or as long as boddurci_shared_wait sets, and then returns LOCKED, with nothing changed; the text names the process if
+ * the system reports it. The wait continues after a signal. While a process has the base open by boddurci_open_files, or by a session of
+ * dbm, each change returns LOCKED, and a fetch reads the last save of that process.
  *
- * A call reads .dir whole and a few pages of .pag, also if .pag is long. It also checks .dir, which takes some 14 microseconds
- * for each KiB: with 900,000 pairs .dir has 60 KiB. A change appends its record to the log in BASE.redo and syncs it under the locks, so it
- * costs one sync. The log stays open between the calls of all processes, with its mark; a note in its header tells the next call where it
- * ends. These calls take longer, and as much memory as opening the base:
+ * Costs. A call reads all of .dir, and only a few pages of .pag, even of a long one. It also checks .dir, which takes some 14 microseconds
+ * for each KiB; with 900,000 pairs .dir has 60 KiB. A change appends its record to the log in BASE.redo and syncs it under the locks, so it
+ * costs one sync. The log stays open between the calls of all processes, with its mark. A note in its header tells the next call its end.
+ * These calls take longer, and as much memory as opening the base:
  *
- * - a change for which one page is not enough, or after which the last page of .pag would be empty, opens the whole base; so does any call on
- *   files that this library has not written, or that have a .dir of more than 256 KiB;
- * - the first call after a process was killed in the middle of a call, or after the system was started again, recovers the log, and a
- *   change after a command of dbm, a service or Perl begins a new log, with some syncs;
- * - a change by a user who may write .pag and does not own it, if BASE.redo is missing, makes and removes it: this user cannot give it to
- *   the owner of .pag, and other users would not accept it.
+ * - a change for which one page is not enough, or after which the last page of .pag would be empty: it opens the whole base. So does any
+ *   call on files that this library has not written, or that have a .dir of more than 256 KiB;
+ * - the first call after a process was killed during a call, or after the system was started: it recovers the log. A change after a command
+ *   of dbm, a service or Perl begins a new log, with some syncs;
+ * - a change by a user who may write .pag and does not own it, if BASE.redo is missing: it makes BASE.redo and removes it again. This user
+ *   cannot give it to the owner of .pag, and other users would not accept it.
  *
- * Otherwise a handle takes less than 1 MiB and its programs.
+ * Otherwise a handle takes less than 1 MiB and the memory of its programs.
  *
- * Threads may share a handle: it has a mutex, and a call waits for that too at most as long as for a lock. In a child of a process that has
- * opened the handle, it opens its files again by itself, so a server may open it before it forks. If another thread was in the middle of a
- * call on it during the fork, or if the child was not made by fork of the C library, each call in the child is FORKED.
+ * Threads may share a handle. It has a mutex, for which a call waits at most as long as for a lock. In a child of the process that opened
+ * the handle, the handle opens its files again by itself, so a server may open it before it forks. If another thread was in a call on it
+ * during the fork, or if the child was not made by fork of the C library, each call in the child returns FORKED.
  *
- * A program that does not know the locks, such as Perl's SDBM_File, may write between two calls, and the next call reads what it has
- * written. It must not write during a call: that is not noticed, or only after the commit. Nor is a write of the same length within the same
- * tick of the clock as the last call (some milliseconds, on systems without fine-grained times).
+ * Other programs. A program that does not know the locks, such as Perl's SDBM_File, may write between two calls, and the next call reads
+ * what it wrote. It must not write during a call: that is not noticed, or only after the commit. Nor is a write of the same length within
+ * the same tick of the clock as the last call (some milliseconds, on systems without fine-grained times).
  *
- * `now` of a run is read before the wait for the locks, so it may be some time ago. */
+ * Time. `now` of a run is set before the wait for the locks, so it may be some time ago. */
 typedef struct boddurci_shared boddurci_shared;
 
-/* Opens a shared base. The flags are WIDE, UNSIGNED_KEYS, MUST_EXIST, ANY_SIZE and NO_WAIT, with which each call tries a lock only once;
- * others are ignored. It reads no file, except that with WIDE and without ANY_SIZE it reads the database once as a reader does, to find out
- * whether its pages look small. Returns NULL and sets *fault if that fails, or if the name is bad or the folder is missing. */
+/* Opens a shared base. The flags are WIDE, UNSIGNED_KEYS, MUST_EXIST, ANY_SIZE, and NO_WAIT, with which each call tries a lock only once.
+ * Other flags are ignored. With MUST_EXIST the call checks that the database exists. With WIDE and without ANY_SIZE it reads the database
+ * once as a reader does, to find out whether its pages look small. Otherwise it reads no file. Returns NULL and sets *fault if that fails,
+ * or if the name is invalid or the folder is missing. */
 boddurci_shared *boddurci_open_shared(const char *base, uint32_t flags, boddurci_fault *fault);
 
-/* Closes the handle, and frees its memory. shared may be NULL. No thread may use it meanwhile, or later. The log stays open for other
- * processes, also after the last handle: a process that changes one pair would otherwise take several syncs instead of one. Opening the base
- * for writing by boddurci_open_files closes it. */
+/* Closes the handle and frees its memory. `shared` may be NULL. No thread may use it meanwhile, or later. The log stays open for other
+ * processes, even after the last handle, since a process that changes one pair would otherwise need several syncs instead of one. Opening
+ * the base for writing by boddurci_open_files closes the log. */
 void boddurci_close_shared(boddurci_shared *shared);
 
-/* Sets how long each later call waits for the locks: 0 tries once, and -1 waits without a limit. IS_CLOSED if shared is NULL. */
+/* Sets how many milliseconds each later call waits for the locks: 0 tries once, and -1 waits without a limit. IS_CLOSED if `shared` is
+ * NULL. */
 uint32_t boddurci_shared_wait(boddurci_shared *shared, int64_t milliseconds);
 
-/* The calls of boddurci.h, each as one durable step. They have the results and the statuses of those; and FORKED, LOCKED, MOVED, UNSAFE,
- * BAD_REDO, TOO_LONG, FILE_FAILED, OTHER_SIZE, OPEN_HERE and BAD_FILES as above. After any status except DONE the database and all results
- * are unchanged, except as boddurci.h says of SHORT_ROOM, MISSING and CROWDED. If BASE.redo cannot be written, as the text says then, the
- * change may be saved or not. DONE with fault->system set reports a system call that failed after the commit, as boddurci_save does. */
+/* The calls of boddurci.h, each as one durable step, with their results and statuses; and FORKED, LOCKED, MOVED, UNSAFE, BAD_REDO,
+ * TOO_LONG, FILE_FAILED, OTHER_SIZE, OPEN_HERE and BAD_FILES as above. After any status except DONE the database and all results are
+ * unchanged, except as boddurci.h says of SHORT_ROOM, MISSING and CROWDED. If the text says that BASE.redo cannot be written, the change
+ * may be saved or not. DONE with fault->system not 0 reports a system call that failed after the commit, as boddurci_save does. */
 uint32_t boddurci_shared_fetch(boddurci_shared *shared, const uint8_t *key, size_t key_length, uint8_t *value, size_t value_room,
                                size_t *value_length, boddurci_fault *fault);
 uint32_t boddurci_shared_store(boddurci_shared *shared, const uint8_t *key, size_t key_length, const uint8_t *value, size_t value_length,

@@ -1,5 +1,5 @@
-/* Data files that another program changes while a base is open, from C: the changes for which a save of boddurci_files.h is refused, and
- * saves that insist. tests/c_library builds and runs it. The argument is a folder. */
+/* Tests, from C, of data files that another program changes while a base is open: the changes for which boddurci_files.h refuses a save,
+ * and saves that insist. tests/c_library builds and runs it. The argument is a folder. */
 #define _GNU_SOURCE
 #include "boddurci_files.h"
 #include <fcntl.h>
@@ -13,7 +13,7 @@
 #include <sys/syscall.h>
 #include <unistd.h>
 
-enum { PAIRS = 1000, TICK = 20000 /* microseconds, longer than a tick of the clock */ };
+enum { PAIRS = 1000, TICK = 20000 /* in microseconds, longer than a tick of the clock */ };
 
 static unsigned long looked;
 static boddurci_fault fault;
@@ -56,7 +56,7 @@ static boddurci_base *opened(const char *name, uint32_t flags)
     return base;
 }
 
-/* Whether a redo file has its mark: its saves are not synced in the data files yet. */
+/* Returns whether a redo file has its mark: its saves may not be synced in the data files. */
 static int is_marked(const char *name)
 {
     FILE *file = fopen(name, "rb");
@@ -84,7 +84,7 @@ static void move_locks(const char *name, int is_back)
     }
 }
 
-/* Returns the number of pairs that a reader finds without a lock. */
+/* Returns the number of pairs that a reader finds without waiting for a lock. */
 static size_t found_beside(const char *name, const char *lock)
 {
     EXPECT(rename(lock, "away") == 0);
@@ -95,7 +95,7 @@ static size_t found_beside(const char *name, const char *lock)
     return count;
 }
 
-/* Whether a file and its times are unchanged. */
+/* Returns whether a file and its times are unchanged. */
 static int is_untouched(const char *name, const struct stat *before)
 {
     struct stat is;
@@ -104,7 +104,7 @@ static int is_untouched(const char *name, const struct stat *before)
            is.st_mtim.tv_nsec == before->st_mtim.tv_nsec && is.st_ctim.tv_sec == before->st_ctim.tv_sec && is.st_ctim.tv_nsec == before->st_ctim.tv_nsec;
 }
 
-/* Changes the files while a base has them open, without the locks, and in another tick of the clock than the save of the base. */
+/* Changes the files while a base has them open, without taking the locks, and in another clock tick than the last save of the base. */
 static void change_beside(const char *name)
 {
     EXPECT(usleep(TICK) == 0);
@@ -129,7 +129,7 @@ static size_t value_of(boddurci_base *base, const char *key)
     return length;
 }
 
-/* Whether a save is refused with this text, since another program has changed the files, and writes no file. */
+/* Returns whether a save is refused with this text, since another program has changed the files, and writes no file. */
 static int is_refused(boddurci_base *base, const char *name, const char *text)
 {
     char path[32];
@@ -154,8 +154,8 @@ static int insists(boddurci_base *base)
     return boddurci_save_with(base, BODDURCI_INSIST, &fault) == BODDURCI_DONE && fault.status == BODDURCI_DONE && fault.system == 0;
 }
 
-/* Files that another program has written are refused, even if the base has changed nothing. A save that insists replaces them by those of
- * the base as a whole, even if the base began empty. */
+/* A save is refused if another program has written the files, even if the base has changed nothing. A save that insists replaces all files
+ * by those of the base, even if the base was opened with EMPTY. */
 static void test_written_beside(void)
 {
     boddurci_base *base = opened("visits", 0);
@@ -191,7 +191,7 @@ static void test_written_beside(void)
     boddurci_close_files(base);
 }
 
-/* Reads or writes one byte of a file, as another program does. */
+/* `put_byte` writes one byte of a file, as another program does, and `byte_at` reads one. */
 static void put_byte(const char *name, off_t at, char byte)
 {
     int file = open(name, O_WRONLY);
@@ -206,7 +206,7 @@ static char byte_at(const char *name, off_t at)
     return byte;
 }
 
-/* Another program writes a byte on each kind of page, with its time set back and not: the changes that are found, and the data that
+/* Another program writes a byte on each kind of page, with or without setting its time back: which changes are found, and which data
  * stays. */
 static void test_bytes_beside(void)
 {
@@ -237,7 +237,7 @@ static void test_bytes_beside(void)
     boddurci_close_files(base);
 }
 
-/* Replaces the function of the C library, for the library too: another program writes this file meanwhile. */
+/* Replaces the function of the C library, for the library too. If it is not NULL, another program writes this file during a sync. */
 static const char *written_in_sync;
 static int omits_syncs;
 
@@ -273,7 +273,7 @@ static void test_during(void)
     boddurci_close_files(base);
 }
 
-/* Replaces the function of the C library, for the library too: it counts the looks at files. */
+/* Replaces the function of the C library, for the library too, and counts its calls. */
 static unsigned looks;
 
 int statx(int folder, const char *restrict name, int how, unsigned mask, struct statx *restrict found)
@@ -282,8 +282,8 @@ int statx(int folder, const char *restrict name, int how, unsigned mask, struct 
     return (int)syscall(SYS_statx, folder, name, how, mask, found);
 }
 
-/* Saves until a save looks at few files, since it is within the tick of the one before: it looks at the folder by another call, and twice at
- * each data file. */
+/* Saves until a save makes few calls of statx, since it is in the same clock tick as the save before it. That save reads the time of the
+ * folder by another call, and looks twice at each data file. */
 static void save_quickly(boddurci_base *base)
 {
     unsigned least = 100;
@@ -296,7 +296,7 @@ static void save_quickly(boddurci_base *base)
     EXPECT(least <= 4);
 }
 
-/* A file that loses its name right after a quick save is missed by the next one, also if the name leads to another file then. Other names in
+/* If a file loses its name right after a quick save, the next save notices it, also if the name then leads to another file. Other names in
  * the folder do not matter. */
 static void test_names(void)
 {
@@ -326,7 +326,7 @@ static void test_names(void)
     boddurci_close_files(base);
 }
 
-/* A new mode, link or time, and a new empty file are not changes. A new file with bytes is a change. */
+/* A new mode, link or time is not a change, nor is a new empty file. A new file with bytes is a change. */
 static void test_not_changed(void)
 {
     boddurci_base *base = opened("same", 0);
@@ -362,7 +362,7 @@ static void test_not_changed(void)
     }
 }
 
-/* A save that insists and fails has overwritten nothing: the next one has to insist again. */
+/* A save that insists and fails has overwritten nothing, so the next one must insist again. */
 static void test_insisting_in_vain(void)
 {
     struct rlimit all, few;
@@ -387,7 +387,7 @@ struct saver {
     boddurci_fault fault;
 };
 
-/* Stores and saves, with pauses of some ticks: our own writes never look like those of another program, in any tick. */
+/* Stores and saves, with pauses of some ticks: a save never takes its own base's writes for those of another program, in any tick. */
 static void *save_often(void *given)
 {
     struct saver *saver = given;
@@ -404,7 +404,7 @@ static void *save_often(void *given)
     return NULL;
 }
 
-/* Threads save a base for some ticks, and it is opened again and again: no save is refused. */
+/* Threads save a base for some ticks while it is opened again and again. No save is refused. */
 static void test_own(void)
 {
     pthread_t threads[SAVERS];
@@ -436,7 +436,7 @@ static void *save_once(void *given)
     return NULL;
 }
 
-/* Threads save files that another program has changed: all are refused until one insists, and none after that. */
+/* Threads save files that another program has changed. All saves are refused until one insists, and none after that. */
 static void test_together(void)
 {
     pthread_t threads[SAVERS];

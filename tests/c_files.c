@@ -1,5 +1,5 @@
-/* Databases in files, from C: every call and every status of boddurci_files.h. The argument is a folder. tests/c_library builds and runs
- * it. It leaves the database `visits`, of 1,000 pairs. */
+/* Tests databases in files, from C: every call and every status of boddurci_files.h. The argument is a folder. tests/c_library builds and
+ * runs it. It leaves the database `visits`, of 1,000 pairs. */
 #define _POSIX_C_SOURCE 200809L
 #define _DEFAULT_SOURCE
 #include "boddurci_files.h"
@@ -33,7 +33,7 @@ static boddurci_fault fault;
         }                                                                                                                          \
     } while (0)
 
-/* Whether an opening fails with this status. */
+/* Returns whether an opening fails with this status. */
 static int fails(const char *name, uint32_t flags, uint32_t status)
 {
     return boddurci_open_files(name, flags, &fault) == NULL && fault.status == status && fault.text[0] != 0;
@@ -55,7 +55,7 @@ static void *open_there(void *what)
     return NULL;
 }
 
-/* Whether another thread that does not wait finds the lock taken. */
+/* Returns whether another thread that does not wait finds the lock taken. */
 static int is_locked(const char *name, uint32_t more)
 {
     pthread_t thread;
@@ -71,7 +71,7 @@ static void *open_and_end(void *name)
     return opened(name, 0);
 }
 
-/* A base that an ended thread has opened does not count for a new thread, even if the system reuses the number of the thread. */
+/* A base that was opened by a thread which has ended does not count for a new thread, even if the system reuses the thread's number. */
 static void test_ended_thread(void)
 {
     pthread_t thread;
@@ -117,7 +117,7 @@ static int is_there(const char *name)
     return lstat(name, &found) == 0;
 }
 
-/* Whether a redo file has its mark: its saves are not synced in the data files yet. */
+/* Returns whether a redo file has its mark: its saves may not be synced in the data files. */
 static int is_marked(const char *name)
 {
     FILE *file = fopen(name, "rb");
@@ -133,7 +133,7 @@ static void delete_one(boddurci_base *base, const char *key)
     boddurci_give(base);
 }
 
-/* Returns the number of pairs that a reader finds without a lock. */
+/* Returns the number of pairs that a reader finds without waiting for a lock. */
 static size_t found_beside(const char *name, const char *lock)
 {
     EXPECT(rename(lock, "away") == 0);
@@ -156,14 +156,14 @@ static void test_new(void)
     EXPECT(boddurci_save(base, &fault) == BODDURCI_DONE && is_there("visits.pag") && is_marked("visits.redo"));
     EXPECT(fails("visits", 0, BODDURCI_OPEN_HERE) && fails("visits", BODDURCI_NO_WAIT, BODDURCI_OPEN_HERE));
     EXPECT(is_locked("visits", 0) && !is_locked("visits", BODDURCI_READ_ONLY));
-    /* Unsaved data is missing. */
+    /* Unsaved data is lost. */
     store_one(base, PAIRS);
     boddurci_close_files(base);
     EXPECT(is_there("visits.redo") && !is_marked("visits.redo"));
     boddurci_close_files(NULL);
 }
 
-/* A reader holds no lock, and keeps the data that it read; a save does not replace the files by new ones. */
+/* A reader holds no lock, and keeps the data that it read. A save does not replace the files by new ones. */
 static void test_reader(void)
 {
     struct stat before, after;
@@ -199,7 +199,7 @@ static void test_failing(void)
     boddurci_close_files(base);
 }
 
-/* Without a change nothing is written, and an empty database makes no files. */
+/* Without a change nothing is written. An empty database makes no files. */
 static void test_unchanged(void)
 {
     static const struct timespec long_ago[2] = {{1000, 0}, {1000, 0}};
@@ -213,7 +213,7 @@ static void test_unchanged(void)
     boddurci_close_files(base);
 }
 
-/* Whether a file is unchanged, and its time too. */
+/* Returns whether a file and its time are unchanged. */
 static int is_untouched(const char *name, const struct stat *before)
 {
     struct stat is;
@@ -222,7 +222,7 @@ static int is_untouched(const char *name, const struct stat *before)
            is.st_mtim.tv_nsec == before->st_mtim.tv_nsec && is.st_ctim.tv_sec == before->st_ctim.tv_sec && is.st_ctim.tv_nsec == before->st_ctim.tv_nsec;
 }
 
-/* Zeros after the ends of files, as another program may leave them, go with the first save. */
+/* The first save removes zeros after the ends of the files, as another program may leave them. */
 static void test_ends(void)
 {
     struct stat before[2], found;
@@ -237,7 +237,7 @@ static void test_ends(void)
     EXPECT(stat("visits.dir", &found) == 0 && found.st_size == before[1].st_size);
 }
 
-/* A save without a change touches nothing, neither after a save, nor after a store of an existing pair. */
+/* A save without a change touches no file, neither after another save nor after a store of an existing pair. */
 static void test_untouched(void)
 {
     struct stat pages, directory, redo, folder;
@@ -266,7 +266,7 @@ static size_t value_of(boddurci_base *base, const char *key)
     return length;
 }
 
-/* The linker puts this in front of boddurci_mark: no pointer argument of the library may be NULL. */
+/* The linker puts this before boddurci_mark, to check that no pointer argument of the library is NULL. */
 uint32_t __real_boddurci_mark(boddurci *db, const uint32_t *numbers, size_t count);
 uint32_t __wrap_boddurci_mark(boddurci *db, const uint32_t *numbers, size_t count);
 
@@ -279,7 +279,7 @@ uint32_t __wrap_boddurci_mark(boddurci *db, const uint32_t *numbers, size_t coun
     return __real_boddurci_mark(db, numbers, count);
 }
 
-/* Replaces the function of the C library, for the library too: after a number of calls it limits files to 1,024 bytes. */
+/* Replaces the function of the C library, for the library too. After a number of calls it limits files to 1,024 bytes. */
 static int syncs_until_limit;
 
 static void set_limit(rlim_t most)
@@ -305,8 +305,8 @@ static boddurci_base *with_many(const char *name, int from)
     return base;
 }
 
-/* Saves in a child that SIGXFSZ would kill. Its limit on files falls at one of its syncs, or before the save if that is 0. Returns the
- * status of the save, or -1 if a signal killed the child. The signal mask must stay. */
+/* Saves in a child that SIGXFSZ would kill. The limit on the length of files is set at the sync with this number, or before the save if it
+ * is 0. Returns the status of the save, or -1 if a signal killed the child. The signal mask must not change. */
 static int save_in_child(const char *name, int sync, int was_held)
 {
     int status;
@@ -333,8 +333,8 @@ static int save_in_child(const char *name, int sync, int was_held)
     return WIFEXITED(status) ? WEXITSTATUS(status) : -1;
 }
 
-/* A limit on the length of files falls at any time of a save: the result is a fault with nothing changed, or the save is durable in the
- * redo file, and no process is killed. If an interrupted save cannot be recovered under the limit the opening fails. */
+/* A limit on the length of files is set at any time during a save. Then the save fails with nothing changed, or it is durable in the redo
+ * file, and no process is killed. If an interrupted save cannot be recovered under the limit, the opening fails. */
 static void test_limited(void)
 {
     int seen[3] = {0, 0, 0};
@@ -358,7 +358,7 @@ static void test_limited(void)
         EXPECT(unlink("limited.pag") == 0 && (unlink("limited.dir") == 0 || errno == ENOENT));
     }
     EXPECT(seen[0] != 0 && seen[1] != 0 && seen[2] != 0);
-    /* No page has changed, and the first save fails nevertheless: there is nothing to mark. */
+    /* No page has changed, but the first save fails: there is no page to mark. */
     boddurci_base *base = with_many("limited", 0);
     EXPECT(boddurci_save(base, &fault) == BODDURCI_DONE);
     boddurci_close_files(base);
@@ -372,7 +372,7 @@ static void test_limited(void)
     boddurci_close_files(base);
 }
 
-/* Changes that a save has planned and could not write are in the next one. */
+/* Changes that a save has planned and could not write are in the next save. */
 static void test_written_later(void)
 {
     struct rlimit all, few;
@@ -418,7 +418,7 @@ static void *store_many(void *given)
     return NULL;
 }
 
-/* Threads store while another saves: the last save has everything. */
+/* Threads store while another thread saves. The last save has all their changes. */
 static void test_meanwhile(void)
 {
     pthread_t threads[WRITERS];
@@ -439,7 +439,7 @@ static void test_meanwhile(void)
     boddurci_close_files(base);
 }
 
-/* A link stays one, and the file to which it leads is written. */
+/* A save writes the file that a link leads to, and the link stays. */
 static void test_links(void)
 {
     struct stat found;
@@ -455,7 +455,8 @@ static void test_links(void)
     EXPECT(unlink("visits.pag") == 0 && rename("pages", "visits.pag") == 0);
 }
 
-/* Links to the files of another base lead to its lock. Links to two bases, or to missing files, are refused. */
+/* A base whose files are links to those of another base uses the locks of that base. Links to two bases, or to missing files, are
+ * refused. */
 static void test_other_base(void)
 {
     EXPECT(symlink("visits.pag", "linked.pag") == 0);
@@ -483,7 +484,7 @@ static void test_bytes(void)
     boddurci_close_files(base);
 }
 
-/* A database of any number of small pages is not opened with wide ones, and does not change. A wide database is opened. */
+/* A database of small pages, of any number, is not opened with wide pages, and does not change. A wide database is opened. */
 static void test_other_size(void)
 {
     char key[16];
@@ -532,7 +533,8 @@ static void test_names(void)
     EXPECT(strcmp(boddurci_version(), BODDURCI_VERSION) == 0);
 }
 
-/* Whether both openings refuse the base with a redo file or lock that has this text, and change nothing. */
+/* Returns whether an opening for reading and one for writing refuse the base with this text, because of a redo file or lock, and change
+ * nothing. */
 static int is_unsafe(const char *name, const char *text)
 {
     EXPECT(fails(name, BODDURCI_READ_ONLY, BODDURCI_UNSAFE) && strcmp(fault.text, text) == 0);
@@ -577,7 +579,7 @@ static void test_permissions(void)
     EXPECT(boddurci_save(base, &fault) == BODDURCI_DONE && stat("beside.dir", &found) == 0 && (found.st_mode & 07777) == 0620);
     EXPECT(stat("beside.redo", &found) == 0 && (found.st_mode & 07777) == 0620);
     boddurci_close_files(base);
-    /* An existing redo file gets the permissions of .pag when it is opened; if it has different ones at the end it is removed. */
+    /* An existing redo file gets the permissions of .pag when it is opened. It is removed at the end if it has other permissions. */
     EXPECT(chmod("beside.pag", 0660) == 0);
     base = opened("beside", 0);
     store_one(base, PAIRS);
@@ -587,7 +589,7 @@ static void test_permissions(void)
     EXPECT(!is_there("beside.redo"));
 }
 
-/* A file that is not the one that was opened is not changed, and the base stays usable. */
+/* A save does not change a file that is not the one that was opened, and the base stays usable. */
 static void test_moved(void)
 {
     static const char *const names[] = {"moved.lock", "moved.pag", "moved.writer"};
@@ -604,7 +606,7 @@ static void test_moved(void)
     }
 }
 
-/* While a base has a removed file open, no new file gets its inode: none of 100 new files does. */
+/* While a base has a removed file open, none of 100 new files gets its inode. */
 static void test_made_anew(void)
 {
     struct stat was, is;
@@ -624,7 +626,7 @@ static void test_made_anew(void)
     boddurci_close_files(base);
 }
 
-/* Neither a chdir nor a renamed folder misleads a save. */
+/* Neither a chdir nor a renamed folder leads a save into other files. */
 static void test_folder(void)
 {
     EXPECT(mkdir("one", 0777) == 0 && mkdir("two", 0777) == 0 && symlink("one", "link") == 0);
@@ -646,13 +648,13 @@ static void test_folder(void)
     boddurci_close_files(base);
 }
 
-/* Uses the base of the parent in a child. Returns 0 if everything is refused. */
+/* Uses the base of the parent in a child. Returns 0 if every call is refused. */
 static int in_child(boddurci_base *base)
 {
     int is_refused = boddurci_save(base, &fault) == BODDURCI_FORKED && boddurci_take(base) == NULL;
     boddurci_give(base);
     boddurci_close_files(base);
-    /* The child does not have its parent's lock, but it has the locks that it takes. */
+    /* The child does not hold its parent's locks, but it holds those that it takes itself. */
     alarm(60);
     for (int i = 0; i < 3 && is_refused; i++) {
         boddurci_base *first = opened("first", 0), *second = opened("second", 0);
@@ -676,7 +678,7 @@ static void test_forked(void)
     EXPECT(child > 0 && waitpid(child, &status, 0) == child && WIFEXITED(status) && WEXITSTATUS(status) == 0);
     EXPECT(is_marked("forked.redo"));
 #ifdef SYS_clone
-    /* A fork past the C library, which calls no handlers. */
+    /* A fork without the C library, which runs no fork handlers. */
     child = (pid_t)syscall(SYS_clone, SIGCHLD, 0, 0, 0, 0);
     if (child == 0) {
         int is_refused = boddurci_take(base) == NULL && boddurci_save(base, NULL) == BODDURCI_FORKED;
@@ -686,7 +688,7 @@ static void test_forked(void)
     EXPECT(child > 0 && waitpid(child, &status, 0) == child && WIFEXITED(status) && WEXITSTATUS(status) == 0);
 #endif
     EXPECT(is_locked("forked", 0) && boddurci_save(base, &fault) == BODDURCI_DONE);
-    /* A child that continues to run does not keep the lock. */
+    /* A child that continues to run does not keep the locks. */
     child = fork();
     if (child == 0) {
         pause();
@@ -710,7 +712,7 @@ static double seconds(void)
     return (double)now.tv_sec + (double)now.tv_nsec * 1e-9;
 }
 
-/* A wait that ends by its limit, and one that a signal ends. */
+/* Waits that end at their limit, and one that a signal ends. */
 static void test_within(void)
 {
     struct sigaction action;
@@ -721,7 +723,7 @@ static void test_within(void)
     double start = seconds();
     EXPECT(boddurci_open_files_within("visits", 0, 100, &fault) == NULL && fault.status == BODDURCI_LOCKED);
     EXPECT(seconds() - start > 0.09 && boddurci_open_files_within("visits", 0, 0, &fault) == NULL && fault.status == BODDURCI_LOCKED);
-    /* A signal before the wait has no effect, so there is one every second. */
+    /* A signal before the wait has no effect, so a signal comes every second. */
     const struct itimerval each = {{1, 0}, {1, 0}}, never = {{0, 0}, {0, 0}};
     EXPECT(sigaction(SIGALRM, &action, NULL) == 0 && setitimer(ITIMER_REAL, &each, NULL) == 0);
     for (int milliseconds = -1; milliseconds < 60000; milliseconds += 60000)

@@ -1,9 +1,10 @@
-/* Threads that save one base at the same time. The first argument is a folder. The tests are the number of saves for their calls, the data
- * on the disk when a call returns, faults, order, pages that change meanwhile, signals, cancelled threads and a fork. tests/c_library builds
- * and runs it. A second argument is the number of changes of each of 64 threads; then the number of their saves is printed. Two threads have
- * to share saves if that is more than 2.
+/* Tests threads that save one base at the same time: the number of saves for their calls, the data on the disk when a call returns, faults,
+ * order, pages that change meanwhile, signals, cancelled threads and a fork. The first argument is a folder. A second argument is the
+ * number of changes of each of 64 threads; then it prints the number of their saves. If it is greater than 2, two threads must share saves.
+ * tests/c_library builds and runs it.
  *
- * This program replaces the flushes. Each takes a millisecond, and copies its file: the copies are the files after a loss of power. */
+ * This program replaces fdatasync. Each call takes a millisecond and copies its file. The copies are the files that a loss of power would
+ * leave. */
 #define _GNU_SOURCE
 #include "boddurci_files.h"
 #include <errno.h>
@@ -39,7 +40,7 @@ static void rest(void)
     nanosleep(&millisecond, NULL);
 }
 
-/* Waits for a condition. If it never holds, an alarm ends the program. */
+/* Waits for a condition. If it never becomes true, an alarm ends the program. */
 #define AWAIT(what)                                                                                                                \
     do                                                                                                                             \
         rest();                                                                                                                    \
@@ -59,8 +60,8 @@ static struct kept disk[3] = {{.ending = ".pag"}, {.ending = ".dir"}, {.ending =
 static pthread_mutex_t disk_mutex = PTHREAD_MUTEX_INITIALIZER, writing = PTHREAD_MUTEX_INITIALIZER;
 static atomic_ulong flushes;
 
-/* The save of the first thread, or those of the rest, stop at the next flush until they may continue. The flush of the rest with this
- * number fails. */
+/* The saves of the first thread, or those of the other threads, stop at the next flush until they may continue. `fails_at` is the number of
+ * the flush of the other threads that fails. */
 static _Thread_local int is_first;
 static atomic_int stops_first, stops_others, is_stopped, fails_at;
 
@@ -74,7 +75,7 @@ static void keep(int file, struct kept *kept)
         kept->used--;
 }
 
-/* Replaces the function of the C library, for the library too. No two threads write the files at the same time. */
+/* Replaces the function of the C library, for the library too. No two threads may write the files at the same time. */
 int fdatasync(int file)
 {
     char link[64], name[4096];
@@ -109,8 +110,8 @@ int fsync(int file)
     return fdatasync(file);
 }
 
-/* Replaces the function of the C library by which a save reads without waiting for the disk. If requested it fails, as if the bytes were on
- * the disk only. */
+/* Replaces the function of the C library that reads without waiting for the disk. If `is_uncached` is set it fails, as if the bytes were
+ * only on the disk. */
 static int cached, is_uncached;
 
 ssize_t preadv2(int file, const struct iovec *pieces, int count, off_t at, int flags)
@@ -124,9 +125,9 @@ ssize_t preadv2(int file, const struct iovec *pieces, int count, off_t at, int f
 
 /* ---- threads that wait */
 
-/* The linker puts these in front of sem_wait and sem_post. A waiting call is in the list for the next save. If requested, a thread that is
- * not the first stops before its second post: the first post is for the next save, and the later ones are for the calls that its save
- * serves. */
+/* The linker puts these before sem_wait and sem_post. A call that waits in sem_wait is in the list for the next save. On request, a thread
+ * that is not the first stops before its second post. Its first post is for the next save, and the later ones are for the calls that its
+ * own save serves. */
 int __real_sem_wait(sem_t *turn);
 int __wrap_sem_wait(sem_t *turn);
 int __real_sem_post(sem_t *turn);
@@ -154,12 +155,12 @@ int __wrap_sem_post(sem_t *turn)
 
 /* ---- savers */
 
-/* A thread that stores its changes one after another, with a save after each. */
+/* A thread that stores its changes one after the other, and saves after each. */
 struct saver {
     pthread_t thread;
     boddurci_base *base;
     int number, is_first, changes;
-    atomic_int done; /* how many saves have returned */
+    atomic_int done; /* the number of saves that have returned */
     uint32_t status;
     boddurci_fault fault;
 };
@@ -183,7 +184,7 @@ static int value_of(boddurci_base *base, int number)
     return status == BODDURCI_DONE ? atoi((const char *)text) : -1;
 }
 
-/* Opens the files that a loss of power would leave now, as copies for this thread. */
+/* Opens copies of the files that a loss of power would leave now, for this thread. */
 static boddurci_base *left(int number)
 {
     char name[64];
@@ -211,7 +212,7 @@ static int left_value(int number)
     return value;
 }
 
-/* The first thread waits with its second call until the save of the rest has begun. A thread could only be cancelled in a save. */
+/* The first thread delays its second call until the save of the other threads has begun. A thread can only be cancelled in a save. */
 static void *save_each(void *given)
 {
     struct saver *saver = given;
@@ -247,7 +248,7 @@ static void join(struct saver *saver)
     EXPECT(pthread_join(saver->thread, &result) == 0 && result == NULL);
 }
 
-/* Starts the first saver, whose save stops at a flush, and then the rest, which wait until it has ended. */
+/* Starts the first saver, whose save stops at a flush, and then the other savers, whose calls wait for that save. */
 static void start_behind(struct saver *savers, boddurci_base *base, int changes)
 {
     stops_first = 1;
@@ -269,7 +270,7 @@ static boddurci_base *opened(const char *name)
     return base;
 }
 
-/* Returns the number of flushes of a save by one thread, after the names of the files were flushed. It waits for nothing. */
+/* Returns the number of flushes of a save by one thread, after the names of the files were flushed. That save waits for no other call. */
 static unsigned long flushes_alone(boddurci_base *base)
 {
     unsigned long before;
@@ -281,7 +282,7 @@ static unsigned long flushes_alone(boddurci_base *base)
     return flushes - before;
 }
 
-/* 64 threads: their calls take far fewer saves, and the change of each is on the disk once its call has returned. */
+/* The calls of 64 threads take far fewer saves, and the change of each call is on the disk when the call returns. */
 static void test_many(int changes)
 {
     static struct saver savers[THREADS];
@@ -305,7 +306,7 @@ static void test_many(int changes)
     boddurci_close_files(base);
 }
 
-/* Saves again and again, and does nothing else. */
+/* Saves repeatedly, and does nothing else. */
 enum { PAIR = 100 };
 
 static void *save_only(void *given)
@@ -318,7 +319,7 @@ static void *save_only(void *given)
     return NULL;
 }
 
-/* Two threads that save again and again share most saves: one that has its turn waits for the thread that was just served. Otherwise they
+/* Two threads that save repeatedly share most saves: a thread that has the turn waits for the one that was just served. Otherwise they
  * would take turns, as they may under a sanitizer, which makes threads slow. */
 static void test_pair(int is_quick)
 {
@@ -338,8 +339,8 @@ static void test_pair(int is_quick)
     boddurci_close_files(base);
 }
 
-/* Only the calls that wait for a save whose flush fails get its fault. The disk has none of their changes then, and the next save has
- * them. */
+/* If the flush of a save fails, only the calls that wait for this save get the fault. The disk then has none of their changes, and the next
+ * save has them. */
 static void fail_once(struct saver *savers, boddurci_base *base, int value)
 {
     start_behind(savers, base, 1);
@@ -372,7 +373,7 @@ static void test_failing(void)
     boddurci_close_files(base);
 }
 
-/* The first thread, once served, calls again: the current save serves all that have waited, but not this call. */
+/* The first thread calls again once it is served. The current save serves all calls that have waited, but not this one. */
 static void call_again(struct saver *savers, boddurci_base *base)
 {
     start_behind(savers, base, 2);
@@ -383,7 +384,7 @@ static void call_again(struct saver *savers, boddurci_base *base)
         EXPECT(savers[i].done == 0);
 }
 
-/* No thread is served twice while another one waits: the next save of the first thread comes after the rest are served. */
+/* No thread is served twice while another one waits: the next save of the first thread comes after the other threads are served. */
 static void test_order(void)
 {
     struct saver savers[FEW + 1];
@@ -401,7 +402,8 @@ static void test_order(void)
     boddurci_close_files(base);
 }
 
-/* The same if the thread that saved for the rest is slow to serve them: the first thread saves meanwhile, and returns after them. */
+/* The order is the same if the thread that saved for the other threads is slow to serve them: the first thread saves meanwhile, and returns
+ * after them. */
 static void test_slow(void)
 {
     struct saver savers[FEW + 1];
@@ -424,8 +426,7 @@ static void test_slow(void)
     boddurci_close_files(base);
 }
 
-/* The linker puts this in front of pread. If requested each of the next calls first changes two keys, as other threads may while a save
- * reads. */
+/* The linker puts this before pread. On request each of the next calls first changes two keys, as other threads may while a save reads. */
 ssize_t __real_pread(int file, void *room, size_t size, off_t at);
 ssize_t __wrap_pread(int file, void *room, size_t size, off_t at);
 
@@ -449,8 +450,8 @@ ssize_t __wrap_pread(int file, void *room, size_t size, off_t at)
     return __real_pread(file, room, size, at);
 }
 
-/* A save has the pages that other threads change while it reads, whether it has to wait for the disk or not. Its record, which is the only
- * one in the log, belongs to the files before. */
+/* A save contains the pages that other threads change while it reads, whether it waits for the disk or not. The only record in the log is
+ * that of this save, and fits the files from before it. */
 static void test_moving(void)
 {
     moving = opened("moving");
@@ -482,7 +483,7 @@ static void hear(int number)
     heard++;
 }
 
-/* A signal does not end a wait, and a cancelled thread finishes its call first. A child has no part in the saves of its parent. */
+/* A signal does not end a wait. A cancelled thread finishes its call first. A child takes no part in the saves of its parent. */
 static void test_disturbed(void)
 {
     struct saver savers[FEW + 1];
@@ -500,7 +501,7 @@ static void test_disturbed(void)
     if (child == 0) {
         int is_refused = boddurci_save(base, &savers[0].fault) == BODDURCI_FORKED && boddurci_take(base) == NULL;
         boddurci_close_files(base);
-        _exit(is_refused ? kill(getpid(), SIGKILL) : 1); /* no check for leaks: the child lacks the stacks of its parent's threads */
+        _exit(is_refused ? kill(getpid(), SIGKILL) : 1); /* without a check for leaks: the child lacks the stacks of its parent's threads */
     }
     EXPECT(child > 0 && waitpid(child, &status, 0) == child && WIFSIGNALED(status));
     AWAIT(heard == FEW && waiting == FEW);

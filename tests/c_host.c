@@ -1,6 +1,6 @@
-/* Runs a program in C on the host, for tests/c_programs, which names its file as SOURCE. A line of standard input has the record, the
- * argument, the time, and whether the key exists; bytes are in hex, or . for no bytes. An answer has the code, the word and the record. The
- * record and the argument are separate blocks of exactly their lengths, so that a sanitizer finds an access past them. */
+/* Runs a program in C on the host, for tests/c_programs, which passes its file as SOURCE. A line of standard input has the record, the
+ * argument, the time, and whether the key exists. Bytes are in hex, and . is no bytes. An answer has the code, the word and the record. The
+ * record and the argument are separate blocks of exactly their lengths, so that a sanitizer finds an access past their ends. */
 #include SOURCE
 #include <inttypes.h>
 #include <stdio.h>

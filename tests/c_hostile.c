@@ -1,10 +1,10 @@
-/* Bases whose names lead elsewhere before they are saved, and children of a process, for tests/hostile_library. Each call first stores the
- * pair `a` `1` in BASE, and at the end prints the result of the save.
+/* Bases whose names lead elsewhere before they are saved, and children of a process, for tests/hostile_library. Each command first stores
+ * the pair `a` `1` in BASE, and at the end prints the result of the save.
  *
  *     c_hostile chdir BASE FOLDER       goes to another folder before it saves
  *     c_hostile swap BASE LINK TARGET   makes a link lead elsewhere before it saves
  *     c_hostile replace BASE FROM TO    gives a file another name before it saves
- *     c_hostile fork BASE               has a child that saves, and closes the base, after a later save of its parent */
+ *     c_hostile fork BASE               forks a child that saves and closes the base after a later save of its parent */
 #define _POSIX_C_SOURCE 200809L
 #include "boddurci_files.h"
 #include <stdio.h>
@@ -34,7 +34,7 @@ static int save(boddurci_base *base)
     return status == BODDURCI_DONE ? 0 : 2;
 }
 
-/* The child. It runs after its parent has closed its end of the pipe. */
+/* Runs in the child, after its parent has closed its end of the pipe. */
 static int in_child(boddurci_base *base, int pipe_end)
 {
     char byte;
@@ -56,7 +56,7 @@ static int forks(boddurci_base *base)
     return waitpid(child, &status, 0) == child && WIFEXITED(status) ? WEXITSTATUS(status) : 3;
 }
 
-/* The action between the store and the save. */
+/* Makes the change between the store and the save. */
 static int meddle(char **words, int count)
 {
     if (count == 4 && strcmp(words[1], "chdir") == 0)

@@ -1,7 +1,7 @@
-/* Times saves of one changed pair, or a hundred: of a base whose .pag has 1 MiB, and of one with a sparse 1 GiB. tests/c_library builds and
- * runs it. The argument is a folder. It prints milliseconds. The status is 1 if one change, or a hundred, takes on the larger base more
- * than twenty times as long as on the smaller one plus 5 milliseconds, if a save without a change takes a millisecond, or if an opening of
- * the larger base takes more than 64 MiB: holes must take no memory. */
+/* Measures saves of one changed pair and of a hundred, in a base whose .pag has 1 MiB and in one with a sparse 1 GiB. tests/c_library
+ * builds and runs it. The argument is a folder. It prints milliseconds. The status is 1 if one change, or a hundred, takes on the larger
+ * base more than twenty times as long as on the smaller one, plus 5 milliseconds; if a save without a change takes a millisecond; or if an
+ * opening of the larger base takes more than 64 MiB, since holes must take no memory. */
 #define _POSIX_C_SOURCE 200809L
 #include "boddurci_files.h"
 #include <stdio.h>
@@ -32,7 +32,7 @@ static double now(void)
     return (double)t.tv_sec * 1e3 + (double)t.tv_nsec * 1e-6;
 }
 
-/* The hash of sdbm. */
+/* Returns the hash of sdbm. */
 static uint32_t hash(const char *key)
 {
     uint32_t n = 0;
@@ -41,7 +41,7 @@ static uint32_t hash(const char *key)
     return n;
 }
 
-/* Makes the first key, from a number on, whose hash ends in these bits. */
+/* Makes the first key, with a number of at least `from`, whose hash ends in these bits. */
 static void find_key(char *key, unsigned from, uint32_t mask, uint32_t bits)
 {
     do
@@ -63,8 +63,8 @@ static double save(boddurci_base *base)
     return now() - from;
 }
 
-/* Makes a base whose last page has a number of this many one bits. It uses pairs that do not fit on one page: a store splits ten times at
- * most. */
+/* Makes a base whose last page number consists of `depth` one bits. It uses pairs that do not fit on one page, since a store splits at most
+ * ten times. */
 static boddurci_base *made(const char *name, unsigned depth)
 {
     static uint8_t value[600];
@@ -113,7 +113,7 @@ static double middle(boddurci_base *base, unsigned changes)
     return times[ROUNDS / 2];
 }
 
-/* Returns the time of an opening in a new process, and its greatest memory in KiB. */
+/* Returns the time of an opening in a new process, and sets *memory to its greatest memory in KiB. */
 static double open_alone(const char *name, long *memory)
 {
     int ends[2], status;

@@ -1,12 +1,12 @@
-/* Calls of the library from C: every call and every status (calls), threads under a mutex (threads SECONDS), and each allocation failing in
- * turn (growths). tests/c_library builds and runs it. The last line has the number of checks. */
+/* Tests calls of the library from C: every call and every status (calls), threads under a mutex (threads SECONDS), and each allocation
+ * failing in turn (growths). tests/c_library builds and runs it. The last line has the number of checks. */
 #include "c_library.h"
 #include <pthread.h>
 #include <time.h>
 
 unsigned long looked;
 
-/* ---- memory: the linker puts these in front of malloc and realloc */
+/* ---- memory: the linker puts these before malloc and realloc */
 
 void *__real_malloc(size_t size);
 void *__real_realloc(void *at, size_t size);
@@ -14,7 +14,7 @@ void *__wrap_malloc(size_t size);
 void *__wrap_realloc(void *at, size_t size);
 
 static unsigned long growths, refused;
-static size_t largest; /* allocation since it was set to 0 */
+static size_t largest; /* the largest allocation since it was set to 0 */
 
 static int refuses(size_t size)
 {
@@ -116,7 +116,7 @@ static void fill_told(void)
     memcpy(&told, &before, sizeof told);
 }
 
-/* Expects that a call is refused with this status, and has written nothing. */
+/* Expects that a call is refused with this status and has written nothing. */
 #define REFUSES(expected, call)                                                                                                    \
     do {                                                                                                                           \
         fill_told();                                                                                                               \
@@ -154,7 +154,7 @@ static void test_closed(void)
     EXPECT(!boddurci_is_open(&db));
 }
 
-/* Refusals of an open handle. */
+/* Calls that an open handle refuses. */
 static void test_unwritten(void)
 {
     static uint8_t arg[BODDURCI_ARG_MOST + 1];
@@ -207,7 +207,7 @@ static void test_pairs(uint32_t wide, uint32_t unsigned_keys)
 
 static void submit_counter(boddurci *db);
 
-/* Keys with the same hash (3 bytes that the hash cancels) fill a page that no split divides. */
+/* Keys of zero bytes all have the same hash, so they fill a page that no split divides. */
 static void test_crowded(void)
 {
     boddurci db = BODDURCI_CLOSED;
@@ -217,7 +217,7 @@ static void test_crowded(void)
     uint32_t number, status = BODDURCI_DONE;
     open_empty(&db, 0, 0);
     EXPECT(boddurci_submit(&db, counter, counter_length, &number, &count, room, sizeof room, &length) == BODDURCI_DONE);
-    /* A key and the key followed by 0x00 are different, and leading zeros do not change a hash. */
+    /* Keys of 1 to 8 zero bytes are different keys, but leading zeros do not change a hash. */
     uint8_t zeros[8] = {0};
     size_t stored = 0;
     for (size_t i = 1; i <= sizeof zeros && status == BODDURCI_DONE; i++) {
@@ -230,7 +230,7 @@ static void test_crowded(void)
     boddurci_close(&db);
 }
 
-/* Four keys whose hashes agree in their 9, 19 and 20 lowest bits: the last one would need a page past the end of the longest .pag. */
+/* Four keys whose hashes agree in their lowest 9, 19 and 20 bits. The last would need a page past the end of the longest .pag. */
 static const char *const keys[] = {"far180463", "far413", "far192442", "far4056234"};
 #define KEY(i) (const uint8_t *)keys[i], strlen(keys[i])
 
@@ -255,7 +255,7 @@ static void test_too_long(void)
     EXPECT(boddurci_finish(&db, &ticket, &end, &word) == BODDURCI_FILE_TOO_LONG);
     EXPECT(boddurci_count(&db, &count) == BODDURCI_DONE && count == 3);
     EXPECT(boddurci_fetch(&db, KEY(3), room, sizeof room, &length) == BODDURCI_MISSING);
-    /* An existing pair may change, also under a ticket, and a small pair fits next to it. */
+    /* An existing pair may change, also by a ticket, and a small pair fits next to it. */
     EXPECT(boddurci_store(&db, KEY(0), value, 899, 1) == BODDURCI_DONE);
     EXPECT(boddurci_store(&db, KEY(3), value, 90, 1) == BODDURCI_DONE);
     EXPECT(boddurci_delete(&db, KEY(3)) == BODDURCI_DONE);
@@ -271,7 +271,7 @@ static void test_too_long(void)
     boddurci_close(&db);
 }
 
-/* A lower limit: a store, a run and a ticket that would exceed it are refused with nothing changed, and pages above it stay. */
+/* Under a lower limit a store, a run and a ticket that would exceed it are refused with nothing changed. Pages above the limit stay. */
 static void test_limit(void)
 {
     boddurci db = BODDURCI_CLOSED;
@@ -294,11 +294,11 @@ static void test_limit(void)
     free_files(after);
     EXPECT(boddurci_limit(&db, 1024 * 1024) == BODDURCI_DONE);
     EXPECT(boddurci_finish(&db, &ticket, &end, &word) == BODDURCI_DONE && boddurci_store(&db, KEY(2), value, sizeof value, 1) == BODDURCI_FILE_TOO_LONG);
-    /* The limit falls below the present length. */
+    /* The limit is now below the present length. */
     EXPECT(boddurci_limit(&db, 0) == BODDURCI_DONE && boddurci_store(&db, KEY(1), value, 899, 1) == BODDURCI_DONE);
     EXPECT(boddurci_store(&db, KEY(2), value, sizeof value, 1) == BODDURCI_FILE_TOO_LONG && boddurci_delete(&db, KEY(1)) == BODDURCI_DONE);
     EXPECT(boddurci_count(&db, &count) == BODDURCI_DONE && count == 1);
-    /* 1 GiB is the most. */
+    /* 1 GiB is the maximum. */
     EXPECT(boddurci_limit(&db, SIZE_MAX) == BODDURCI_DONE && boddurci_store(&db, KEY(1), value, sizeof value, 1) == BODDURCI_DONE);
     EXPECT(boddurci_store(&db, KEY(2), value, sizeof value, 1) == BODDURCI_DONE);
     EXPECT(boddurci_store(&db, KEY(3), value, sizeof value, 1) == BODDURCI_FILE_TOO_LONG);
@@ -306,7 +306,7 @@ static void test_limit(void)
     boddurci_close(&db);
 }
 
-/* A directory with a path of 26 splits, to a missing page past the longest .pag: a refused store or run takes no memory for it. */
+/* A directory with a path of 26 splits to a missing page past the longest .pag. A refused store or run takes no memory for that page. */
 static void test_deep(void)
 {
     enum { DEPTH = 26, BYTES_OF_DIRECTORY = 1 << (DEPTH - 2) };
@@ -362,7 +362,7 @@ static void test_programs(void)
     boddurci_close(&db);
 }
 
-/* A program for the reply word, the time and the argument: it replies the time plus the number in the argument, and saves nothing. */
+/* A program for the reply word, the time and the argument. It replies the time plus the number in the argument, and saves nothing. */
 static void test_arguments(void)
 {
     static const char source[] = "jlt r4, 8, none\nldxdw r6, [r3]\ncall 2\nadd r0, r6\nmov r1, r0\ncall 1\nnone:\nmov r0, 7\nexit\n";
@@ -435,7 +435,7 @@ static void test_tickets(void)
     boddurci_close(&db);
 }
 
-/* Other calls meanwhile on the page, on the handle, and elsewhere. */
+/* Other calls come meanwhile: on the page, on the handle, and on other pages. */
 static void test_meanwhile(void)
 {
     boddurci db = BODDURCI_CLOSED, wide = BODDURCI_CLOSED, twin = BODDURCI_CLOSED;
@@ -454,7 +454,7 @@ static void test_meanwhile(void)
     EXPECT(ask(&db, &ticket, "hits", 1) == BODDURCI_DONE && boddurci_work(&ticket) == BODDURCI_DONE);
     EXPECT(boddurci_store(&db, BYTES("beside"), BYTES("it"), 1) == BODDURCI_DONE);
     EXPECT(boddurci_finish(&db, &ticket, &end, &word) == BODDURCI_CHANGED);
-    /* Two other handles: one with different pages, and one with the same. */
+    /* Two other handles: one whose page differs, and one whose page is the same. */
     EXPECT(ask(&db, &ticket, "new", 1) == BODDURCI_DONE && boddurci_work(&ticket) == BODDURCI_DONE);
     open_empty(&wide, 1, 0);
     EXPECT(boddurci_finish(&wide, &ticket, &end, &word) == BODDURCI_CHANGED);
@@ -476,8 +476,8 @@ static void test_meanwhile(void)
     boddurci_abandon(&second);
 }
 
-/* Many concurrent tickets, and the same runs on another handle: the results and the files are the same. Tickets are worked and finished in
- * another order than they were asked. */
+/* Many concurrent tickets have the same results and files as the same runs on another handle. Tickets are worked and finished in another
+ * order than they were asked. */
 static void test_many_tickets(void)
 {
     enum { OPEN = 40, ROUNDS = 60 };
@@ -520,7 +520,7 @@ static void test_many_tickets(void)
     boddurci_close(&model);
 }
 
-/* ---- walks, files and texts */
+/* ---- iteration, files and texts */
 
 static void test_turns(void)
 {
@@ -616,7 +616,7 @@ static void run_under(const char *key)
     pthread_mutex_unlock(&mutex);
 }
 
-/* The same by a ticket: the program runs outside the mutex, again until it succeeds. */
+/* Runs by a ticket, outside the mutex, until it succeeds. */
 static uint64_t run_by_ticket(const char *key)
 {
     boddurci_ticket ticket = BODDURCI_FREE;
@@ -637,7 +637,7 @@ static uint64_t run_by_ticket(const char *key)
     return again - 1;
 }
 
-/* A thread: its key, whether it runs by tickets, the number of its runs, and the number of repeated runs. */
+/* A thread: its key, whether it runs by tickets, and the numbers of its runs and of its repeated runs. */
 struct worker {
     const char *key;
     int by_ticket;
@@ -647,7 +647,7 @@ struct worker {
 static void *work(void *given)
 {
     struct worker *worker = given;
-    /* At least once: on a busy machine a thread may get the mutex late. */
+    /* Run at least once, since a thread may get the mutex late on a busy machine. */
     do {
         if (worker->by_ticket) {
             worker->again += run_by_ticket(worker->key);
@@ -708,7 +708,7 @@ static uint32_t plan_changed(boddurci *db, uint8_t *plan, size_t room)
     return boddurci_plan(db, BODDURCI_NO_BYTES, 0, numbers, count, zeros, count * 1024, plan, room, &length);
 }
 
-/* A handle and a ticket. A step is one call on them. */
+/* Makes one step: a call on a handle and a ticket. */
 static uint32_t do_step(boddurci *db, boddurci_ticket *ticket, int step)
 {
     uint8_t text[100], value[200];
@@ -748,8 +748,8 @@ static uint32_t do_step(boddurci *db, boddurci_ticket *ticket, int step)
     }
 }
 
-/* Makes one step. The nth allocation from the first step on may fail in it: the step succeeds nevertheless, or does nothing and is
- * repeated. Returns whether the allocation was reached. */
+/* Makes one step. The nth allocation, counted from the first step on, may fail in it. The step then succeeds nevertheless, or it does
+ * nothing and is repeated. Returns whether the allocation was reached. */
 static int refuse_in_step(boddurci *db, boddurci_ticket *ticket, int step, unsigned long nth, uint32_t expected)
 {
     struct files before = {NULL, NULL, 0, 0}, after;
@@ -774,7 +774,7 @@ static int refuse_in_step(boddurci *db, boddurci_ticket *ticket, int step, unsig
     return was_met;
 }
 
-/* Makes all steps. The nth allocation fails; with 0 none does. Returns whether it was reached. */
+/* Makes all steps. The nth allocation fails, or none if n is 0. Returns whether it was reached. */
 static int refuse_in_steps(unsigned long nth, uint32_t *expected, struct files *made)
 {
     boddurci db = BODDURCI_CLOSED;
@@ -793,7 +793,7 @@ static int refuse_in_steps(unsigned long nth, uint32_t *expected, struct files *
     return was_met;
 }
 
-/* Opens these files. The nth allocation fails. Returns whether it was reached. */
+/* Opens these files while the nth allocation fails. Returns whether it was reached. */
 static int refuse_in_opening(unsigned long nth, struct files files)
 {
     boddurci db = BODDURCI_CLOSED;
@@ -809,7 +809,7 @@ static int refuse_in_opening(unsigned long nth, struct files files)
     return was_met;
 }
 
-/* The same in pieces, and submissions by name. */
+/* Opens the files in pieces, and submits programs by name, while the nth allocation fails. Returns whether it was reached. */
 static int refuse_in_others(unsigned long nth, struct files files)
 {
     int is_met = 0;

@@ -29,14 +29,14 @@ struct files files_of(boddurci *db);
 int are_same(struct files a, struct files b);
 void free_files(struct files files);
 
-/* Plans of saves, and the pages that count as changed. */
+/* Tests of plans of saves, and of the pages that count as changed. */
 void test_plans(uint32_t wide);
 void test_marks(void);
 
-/* Files that are passed in pieces. The second call returns whether an allocation failed. */
+/* Tests of files that are passed in pieces. `reads_in_memory` returns whether an allocation failed. */
 void test_readings(void);
 int reads_in_memory(struct files files);
 
-/* Stock programs by name; their texts are in a folder. The second call returns whether an allocation failed. */
+/* Tests of stock programs by name, whose texts are in the folder `examples`. `stocks_in_memory` returns whether an allocation failed. */
 void test_stocks(const char *examples);
 int stocks_in_memory(void);

@@ -1,5 +1,5 @@
-/* Redo files, from C: those that no save can leave, those in the format before the log, and logs, whole, torn and damaged; and a limit on
- * the length of .dir. tests/c_library builds and runs it. The argument is a folder. */
+/* Tests redo files, from C: those that no save can leave; those in the format from before the log; and logs, whole, torn and damaged. Also
+ * tests a limit on the length of .dir. tests/c_library builds and runs it. The argument is a folder. */
 #define _DEFAULT_SOURCE
 #include "boddurci_files.h"
 #include <errno.h>
@@ -13,7 +13,7 @@
 #include <time.h>
 #include <unistd.h>
 
-/* Microseconds, more than a tick of the clock. Within a tick a base does not see writes of another program. */
+/* TICK is in microseconds, longer than a tick of the clock. Within a tick a base does not see writes of another program. */
 enum { PAIRS = 100, HEADER = 4096, LOG = HEADER + 1048576, GROWN = HEADER + 4194304, SAVES = 3, FAST = 20, TICK = 20000 };
 
 static unsigned long looked;
@@ -87,7 +87,7 @@ static void store_one(boddurci_base *base, int i)
 
 /* ---- redo files of one save */
 
-/* A marked redo file without changes: the new lengths of .pag and .dir, and the old ones. */
+/* Writes a marked redo file without changes: the new lengths of .pag and .dir, and the old ones. */
 static void write_redo(const char *name, const uint32_t lengths[4])
 {
     char redo[29] = "\1sdbmred2";
@@ -101,7 +101,7 @@ static int is_bad_redo(const char *name)
     return fails(name, 0, BODDURCI_BAD_REDO) && fails(name, BODDURCI_READ_ONLY, BODDURCI_BAD_REDO) && strstr(fault.text, "is not of these files");
 }
 
-/* Redo files: one that no save can leave, one in an older format, one of other files, and one that is not marked. */
+/* Redo files: one that no save can leave, one in an older format, one of other files, and one without a mark. */
 static void test_redo(void)
 {
     static const uint32_t other[4] = {1024, 0, 2048, 0}, long_file[4] = {1073742848, 0, 0, 0}, long_dir[4] = {0, 268435457, 0, 0};
@@ -117,7 +117,7 @@ static void test_redo(void)
     write_redo("none.redo", long_dir);
     EXPECT(fails("none", 0, BODDURCI_TOO_LONG) && fails("none", BODDURCI_READ_ONLY, BODDURCI_TOO_LONG) && is_marked("none.redo"));
     write_text("visits.redo", "\0plan", 5);
-    /* Only the first byte of an unmarked one is read, even if it is long: a writer makes a new one. */
+    /* Only the first byte of an unmarked redo file is read, even if it is long. A writer makes a new one. */
     EXPECT(truncate("visits.redo", 3000000000) == 0);
     boddurci_base *base = opened("visits", 0);
     EXPECT(count_of(base) == PAIRS && length_of("visits.redo") == LOG && is_marked("visits.redo"));
@@ -128,7 +128,7 @@ static void test_redo(void)
     boddurci_close_files(base);
 }
 
-/* An interrupted save of an empty database: a reader finds it empty and writes nothing, and a writer recovers it. */
+/* An interrupted save of an empty database. A reader finds the database empty and writes nothing, and a writer recovers it. */
 static void test_cut_off(void)
 {
     static const uint32_t lengths[4] = {0, 0, 1024, 0};
@@ -145,7 +145,7 @@ static void test_cut_off(void)
     boddurci_close_files(base);
 }
 
-/* A plan with a block that is half written, is written, or has different bytes; and two changes of one place. */
+/* Plans whose block in the file is half written, is written, or has other bytes, and a plan with two changes of one place. */
 static void test_known(void)
 {
     static const uint8_t head[29] = {1, 's', 'd', 'b', 'm', 'r', 'e', 'd', '2', 0, 4, 0, 0, 0, 0, 0, 0, 0, 4, 0, 0, 0, 0, 0, 0, 2};
@@ -167,7 +167,7 @@ static void test_known(void)
 
 /* ---- logs */
 
-/* Makes saves of one pair each, in a process that is killed then. */
+/* Saves one pair at a time in a process, which is then killed. */
 static void leave_log(const char *name, int from, int saves)
 {
     int status;
@@ -193,8 +193,8 @@ static uint8_t *bytes_of(const char *name, size_t *length)
     return bytes;
 }
 
-/* Returns the end of the record that begins here: it has four bytes, four for the length of its plan, which are its digits to the base 255
- * plus 1 each, and the plan. */
+/* Returns the end of the record that begins at `at`. A record has its weight (four bytes), the length of its plan (four digits to the base
+ * 255, each stored plus 1), and the plan. */
 static size_t end_of(const uint8_t *bytes, size_t at)
 {
     size_t length = 0;
@@ -203,7 +203,7 @@ static size_t end_of(const uint8_t *bytes, size_t at)
     return at + 8 + length;
 }
 
-/* The next opening recovers the saves of a log that was left: on the present data files, and on those before all saves. */
+/* The next opening recovers the saves of a log that was left, both on the present data files and on those from before all saves. */
 static void test_left(void)
 {
     leave_log("left", 0, SAVES);
@@ -227,7 +227,7 @@ static int is_damaged(const char *name)
     return fails(name, BODDURCI_READ_ONLY, BODDURCI_BAD_REDO) && strstr(fault.text, "is damaged") != NULL;
 }
 
-/* A last record with a missing byte was never committed. An earlier record with a missing byte is damage, and the log is refused. */
+/* If the last record lacks a byte, it was never committed. If an earlier record lacks a byte, it is damaged, and the log is refused. */
 static void test_damaged(void)
 {
     size_t length, ends[SAVES + 1] = {HEADER};
@@ -253,7 +253,7 @@ static void test_damaged(void)
     EXPECT(found_in("torn") == SAVES);
 }
 
-/* A save that is longer than the log makes a longer log, which the next opening uses. A full log is emptied. */
+/* A save that is longer than the log makes the log longer, and the next opening uses that log. A full log is emptied. */
 static void test_long(void)
 {
     boddurci_base *base = opened("long", 0);
@@ -281,8 +281,8 @@ static void move_locks(int is_back)
     EXPECT(rename(is_back ? "away.writer" : "beside.writer", is_back ? "beside.writer" : "away.writer") == 0);
 }
 
-/* A program without the lock empties the log of an open base, and writes its pages: the next save is refused and closes the log, and a save
- * that insists begins a new log, also after saves in one tick of the clock. */
+/* A program that does not take the lock empties the log of an open base, and writes its pages. The next save is refused and closes the log.
+ * A save that insists begins a new log, also after saves within one clock tick. */
 static void test_written_beside(void)
 {
     size_t count = 1;
@@ -323,7 +323,7 @@ static void set_limit(rlim_t most)
     EXPECT(setrlimit(RLIMIT_FSIZE, &limit) == 0);
 }
 
-/* Whether a file is unchanged, and its time too. */
+/* Returns whether a file and its time are unchanged. */
 static int is_untouched(const char *name, const struct stat *before)
 {
     struct stat is;
@@ -349,8 +349,8 @@ static void store_empty_key(boddurci_base *base, const char *value)
     boddurci_give(base);
 }
 
-/* The length of .dir counts too, even if a change is only in .pag. The hash of the empty key is 0, so its page is the first one at any
- * depth of the directory. */
+/* The length of .dir counts even if a change is only in .pag. The hash of the empty key is 0, so its page is the first one at any depth of
+ * the directory. */
 static void test_limited_directory(void)
 {
     static uint8_t directory[131072];
@@ -388,7 +388,7 @@ int fdatasync(int file)
     return omits_syncs ? 0 : fsync(file);
 }
 
-/* Saves one key with values that fill a log of 1 MiB once. Returns 1 if that took so long that the log may not grow, as under valgrind. */
+/* Saves one key with values that fill a log of 1 MiB once. Returns 1 if that took too long for the log to grow, as under valgrind. */
 enum { FILLS = 900, LONG = 700 };
 
 static int fills_slowly(boddurci_base *base)
@@ -417,8 +417,8 @@ static int first_byte_of(const char *name, const char *key)
     return value[0];
 }
 
-/* A log that fills within a second gets 4 MiB, once, and keeps them; one that does not, or that may not be longer, stays as it is. No save
- * fails, and the last one is found, also after a kill. */
+/* A log that fills within a second gets 4 MiB, once, and keeps them. A log that fills more slowly, or that may not be longer, stays
+ * unchanged. No save fails, and the last one is found, also after a kill. */
 static void test_grown(void)
 {
     enum { SLOW, LIMITED, KILLED, CASES };

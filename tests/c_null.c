@@ -1,5 +1,5 @@
-/* Every call of both headers that takes a handle, a reading, a ticket or a base, with NULL for it: it returns the right status, and writes
- * nothing. tests/c_library builds and runs it, and checks that it has all calls. */
+/* Tests every call of both headers that takes a handle, a reading, a ticket or a base, with NULL for it. The call must return the right
+ * status and write nothing. tests/c_library builds and runs it, and checks that it has all calls. */
 #define _POSIX_C_SOURCE 200809L
 #include "boddurci_files.h"
 #include <stdio.h>
@@ -31,7 +31,7 @@ static unsigned long looked;
         }                                                                                                                          \
     } while (0)
 
-/* Expects that a call returns this status, and has written nothing. */
+/* Expects that a call returns this status and has written nothing. */
 #define REFUSES(expected, call)                                                                                                    \
     do {                                                                                                                           \
         memset(&before, 0x5a, sizeof before);                                                                                      \
@@ -131,7 +131,7 @@ static void test_shared(void)
     boddurci_close_shared(NULL);
 }
 
-/* A child gets no handle of its parent's base, and the calls with it say so. */
+/* A child gets no handle of its parent's base, and the calls with it report that. */
 static void test_child(void)
 {
     int status;

@@ -1,7 +1,7 @@
-/* Openings of files that are read in pieces: their memory and time, files that become shorter meanwhile, odd lengths and the longest one.
- * tests/c_library builds and runs it, with pread wrapped. The argument is a folder. It prints memory in KiB and milliseconds. The status is
- * 1 if an opening takes more than 1.25 times the memory of the open database, or one of a sparse 1 GiB more than 8 MiB or a second of
- * processor time. */
+/* Tests openings of files that are read in pieces: their memory and time, files that become shorter meanwhile, odd lengths and the greatest
+ * one. tests/c_library builds and runs it, with pread wrapped. The argument is a folder. It prints memory in KiB and milliseconds. The
+ * status is 1 if an opening takes more than 1.25 times the memory of the open database, or if an opening of a sparse 1 GiB takes more than
+ * 8 MiB or a second of processor time. */
 #define _GNU_SOURCE
 #include "boddurci_files.h"
 #include <malloc.h>
@@ -60,7 +60,7 @@ static size_t count_of(boddurci_base *base)
     return count;
 }
 
-/* Makes a base with a number of pairs of a size in bytes. */
+/* Makes a base with `pairs` pairs. The key and the value of a pair have `bytes` bytes together. */
 static void make(const char *name, uint32_t flags, unsigned pairs, size_t bytes)
 {
     static uint8_t value[1000];
@@ -79,7 +79,7 @@ static void make(const char *name, uint32_t flags, unsigned pairs, size_t bytes)
 
 /* ---- memory and time */
 
-/* Returns the memory of this process, now or at most, in KiB. */
+/* Returns the memory of this process in KiB, present or greatest. */
 static long memory(const char *which)
 {
     char line[200];
@@ -101,7 +101,7 @@ static double processor(void)
     return (double)(used.ru_utime.tv_sec + used.ru_stime.tv_sec) * 1e3 + (double)(used.ru_utime.tv_usec + used.ru_stime.tv_usec) * 1e-3;
 }
 
-/* Prints the memory that an opening takes, and the memory that stays. Returns whether it is too much. */
+/* Prints the memory that an opening takes, and the memory that stays in use. Returns whether it is too much. */
 static int measured(const char *what, const char *name, uint32_t flags, size_t pairs, int is_sparse)
 {
     long before = memory("VmRSS:");
@@ -117,7 +117,7 @@ static int measured(const char *what, const char *name, uint32_t flags, size_t p
     return is_sparse ? most > 8192 || time > 1000 : most * 4 > stays * 5;
 }
 
-/* The same in a new process, which has no memory yet. */
+/* Does the same in a new process, which has no memory yet. */
 static void measure(const char *what, const char *name, uint32_t flags, size_t pairs, int is_sparse)
 {
     char words[3][24];
@@ -160,7 +160,7 @@ static void refuses(const char *name, uint32_t flags, uint32_t status, const cha
     NEED(strcmp(fault.text, text) == 0);
 }
 
-/* Only a hole, of the greatest length and of one byte more, and of lengths that are not whole pages. */
+/* Files that are one hole: of the greatest length, of one byte more, and of lengths that are not whole pages. */
 static void test_holes(void)
 {
     static const char bad[] = "bad files: PagLength";
@@ -178,7 +178,7 @@ static void test_holes(void)
     refuses("hole", BODDURCI_WIDE, BODDURCI_BAD_FILES, bad);
 }
 
-/* A pair at the end of a long hole, and one at its start. */
+/* A pair at the end of a long hole, and a pair at its start. */
 static void test_sparse(void)
 {
     make("sparse", 0, 50, 100);

@@ -1,4 +1,4 @@
-/* Plans of saves, and the pages that count as changed. Part of tests/c_library.c. */
+/* Tests plans of saves, and the pages that count as changed. Part of tests/c_library.c. */
 #include "c_library.h"
 
 static uint32_t number_at(const uint8_t *at)
@@ -8,7 +8,7 @@ static uint32_t number_at(const uint8_t *at)
 
 enum { PLAN_HEAD = 28, CHANGE_HEAD = 9 };
 
-/* Whether the old bytes of a change are those of the file, with zeros past its end. */
+/* Returns whether the old bytes of a change are those of the file, with zeros past its end. */
 static int is_old(const uint8_t *told, size_t offset, size_t size, const uint8_t *old, size_t old_length)
 {
     for (size_t i = 0; i < size; i++)
@@ -39,7 +39,7 @@ static uint8_t *made_by(const uint8_t *plan, size_t length, int file, const uint
     return made;
 }
 
-/* Makes the plan for old files, with a number of pages read. */
+/* Makes the plan for old files. Passes the first `count` pages. */
 static uint32_t plan_all(boddurci *db, struct files old, size_t count, size_t page, uint8_t *plan, size_t room, size_t *length)
 {
     uint32_t *numbers = malloc((count + 1) * sizeof *numbers);
@@ -61,7 +61,7 @@ static size_t changed_in(boddurci *db)
     return count;
 }
 
-/* Checks that the plan makes the old files equal to those of a database. Returns its length. */
+/* Checks that the plan makes the old files equal to those of a database. Returns the length of the plan. */
 static size_t plan_from(boddurci *db, struct files old, size_t page)
 {
     uint8_t none[1];
@@ -121,7 +121,7 @@ void test_plans(uint32_t wide)
     boddurci_close(&db);
 }
 
-/* The pages that count as changed, and plans with and without them. */
+/* Which pages count as changed, and plans with and without them. */
 void test_marks(void)
 {
     static uint8_t pages[2048], plan[8192];
@@ -143,7 +143,7 @@ void test_marks(void)
     EXPECT(length == PLAN_HEAD + CHANGE_HEAD + 2 * 1024);
     EXPECT(boddurci_mark(&db, some, 3) == BODDURCI_DONE && changed_in(&db) == 2 && boddurci_mark(&db, some, 0) == BODDURCI_DONE);
     EXPECT(boddurci_changed(&db, numbers, 4, &count) == BODDURCI_DONE && numbers[0] == 5 && numbers[1] == 0);
-    /* A page with garbage among its free bytes counts as changed from the opening on. */
+    /* A page with garbage in its free bytes counts as changed from the opening on. */
     struct files files = files_of(&db);
     boddurci_close(&db);
     files.pag[500] = 1;

@@ -1,6 +1,6 @@
-/* Readers while a process has a base open for writing: the data that they find, their waits, and the locks. tests/c_library builds and runs
- * it. The first argument is a folder. A second one is a number of seconds: then a reader reads in a loop next to a service that saves
- * without a pause, and the figures are printed. A third one is the pause of the reader after each reading, in microseconds. */
+/* Tests readers while a process has a base open for writing: the data that they find, their waits, and the locks. tests/c_library builds
+ * and runs it. The first argument is a folder. The second, a number of seconds, lets a reader read in a loop next to a service that saves
+ * without a pause, and prints the figures. The third is the pause of that reader after each reading, in microseconds. */
 #define _GNU_SOURCE
 #include "boddurci_files.h"
 #include <errno.h>
@@ -52,7 +52,7 @@ static void store(boddurci_base *base, const char *key, const void *value, size_
     boddurci_give(base);
 }
 
-/* Returns the number at a key, or -1. */
+/* Returns the number at a key, or -1 if the key is missing. */
 static long number_on(boddurci_base *base, const char *key)
 {
     long number = -1;
@@ -86,7 +86,7 @@ static int is_marked(const char *name)
     return first == 1;
 }
 
-/* Whether the file of a lock can be locked now. */
+/* Returns whether the file of a lock can be locked now. */
 static int is_free(const char *name)
 {
     int lock = open(name, O_RDWR), is_free = lock >= 0 && flock(lock, LOCK_EX | LOCK_NB) == 0;
@@ -102,7 +102,7 @@ struct service {
     int orders, answers;
 };
 
-/* Opens a base, and saves a number at the key `a` for each order, until there are no more. The order -1 kills the process. */
+/* Opens a base, and saves a number at the key `a` for each order, until the orders end. The order -1 kills the process. */
 static void serve(const char *name, int orders, int answers)
 {
     long order;
@@ -148,7 +148,7 @@ static char order(const struct service *service, long number)
     return answer_of(service);
 }
 
-/* Ends the orders, and waits for the end: the service has closed its base, or was killed. */
+/* Ends the orders, and waits until the service has closed its base or was killed. */
 static void ended(struct service *service, int was_killed)
 {
     int status;
@@ -158,7 +158,7 @@ static void ended(struct service *service, int was_killed)
     close(service->answers);
 }
 
-/* Readers have each save of a service immediately, and other writers are refused. */
+/* Readers see each save of a service immediately. Other writers are refused. */
 static void test_service(void)
 {
     char text[100];
@@ -179,7 +179,7 @@ static void test_service(void)
     EXPECT(!is_marked("served.redo") && is_free("served.writer") && found("served") == 20);
 }
 
-/* A killed service leaves its saves, and no lock. */
+/* A killed service leaves its saves, and no locks. */
 static void test_killed(void)
 {
     struct service service = started("served");
@@ -191,7 +191,7 @@ static void test_killed(void)
     boddurci_close_files(base);
 }
 
-/* While a service runs, a reader without the redo file has the last save too: the saves are in the data files. */
+/* While a service runs, a reader that has no redo file sees the last save too, since the saves are in the data files. */
 static void test_redo(void)
 {
     struct service service = started("served");
@@ -200,7 +200,7 @@ static void test_redo(void)
     ended(&service, 0);
 }
 
-/* After a failed save readers wait until a later one succeeds. */
+/* After a failed save, readers wait until a later save succeeds. */
 static void test_failed(void)
 {
     struct service service = started("served");
@@ -210,7 +210,7 @@ static void test_failed(void)
     ended(&service, 0);
 }
 
-/* A new database belongs only to its writer until the first save. A reader with MUST_EXIST waits until then. */
+/* A new database belongs to its writer alone until the first save. A reader with MUST_EXIST waits until then. */
 static void test_new(void)
 {
     struct service service = started("new");
@@ -219,7 +219,7 @@ static void test_new(void)
     ended(&service, 0);
 }
 
-/* A file that gets shorter empties the log, which gets its mark again. */
+/* A save that shortens a file empties the log, which then gets its mark again. */
 static void test_shorter(void)
 {
     static uint8_t large[700];
@@ -247,7 +247,7 @@ struct counted {
 
 static struct counted *counted;
 
-/* Adds 1 to the equal numbers at two keys. The lengths of the files change too. */
+/* Adds 1 to the numbers at two keys, which are equal. The lengths of the files change too. */
 static void count_up(boddurci_base *base)
 {
     static uint8_t filler[700];
@@ -267,7 +267,7 @@ static void count_up(boddurci_base *base)
     counted->saved = number;
 }
 
-/* Reads repeatedly: both numbers are of one save, which is not older than the last save before the reading. */
+/* Reads repeatedly: both numbers are from one save, which is not older than the last save before the reading. */
 static void read_until_over(void)
 {
     while (!counted->is_over) {
@@ -292,7 +292,7 @@ static pid_t forked(void (*child)(void))
 
 enum { WRITERS = 4, TURNS_EACH = 10, KILLS = 60 };
 
-/* Opens the base for each of its turns, and makes one or two saves alternately. */
+/* Opens the base for each of its turns, and makes one save and two saves alternately. */
 static void take_turns(void)
 {
     for (int turn = 0; turn < TURNS_EACH; turn++) {
@@ -321,7 +321,7 @@ static int ended_well(pid_t process)
     return waitpid(process, &status, 0) == process && WIFEXITED(status) && WEXITSTATUS(status) == 0;
 }
 
-/* No save of a writer is lost, and readers never find half of a save, even if writers are killed at any time. */
+/* No save of a writer is lost, and readers never see half of a save, even if writers are killed at any time. */
 static void test_turns(void)
 {
     long none = 0;
@@ -353,7 +353,7 @@ static void test_turns(void)
 
 /* ---- a save that is interrupted in the data files */
 
-/* Replaces the function of the C library, for the library too: if requested, the second call on .pag kills the process. */
+/* Replaces the function of the C library, for the library too. On request the second call on .pag kills the process. */
 static int writes_until_kill;
 
 ssize_t pwrite(int file, const void *bytes, size_t count, off_t at)
@@ -366,8 +366,8 @@ ssize_t pwrite(int file, const void *bytes, size_t count, off_t at)
     return pwrite64(file, bytes, count, at);
 }
 
-/* Makes the system slow between the locks of a base when it closes the files of this process: the folder of the base and its first lock get
- * descriptors below those of files that are slow to free, and the second lock one above. */
+/* Makes the system slow between the two locks of a base when it closes the files of this process. The folder of the base and its first lock
+ * get descriptors below those of files that are slow to close, and the second lock gets one above them. */
 static void separate_locks(void)
 {
     int low[2] = {dup(0), dup(0)};
@@ -378,7 +378,7 @@ static void separate_locks(void)
     EXPECT(close(low[0]) == 0 && close(low[1]) == 0);
 }
 
-/* Saves one number in two keys on different pages, and is killed between them. */
+/* Saves one number at two keys on different pages, and is killed between the two writes. */
 static void save_half(const char *name)
 {
     separate_locks();
@@ -391,8 +391,8 @@ static void save_half(const char *name)
     _exit(0);
 }
 
-/* A process that gets the files while the writer is being killed does not find half of the save: BASE.writer does not say that the files
- * are whole then, in any order in which the system releases the locks. */
+/* A process that gets BASE.lock while the writer is being killed must not see half of the save. BASE.writer does not show that the files
+ * are complete then. The system may release the locks in any order. */
 static void test_half(void)
 {
     enum { TIMES = 60 };
@@ -412,7 +412,7 @@ static void test_half(void)
         pid_t writer = fork();
         if (writer == 0)
             save_half("half");
-        /* It saves as soon as it has opened the base. A reader that does not sleep comes before all locks are released. */
+        /* The service saves as soon as it has opened the base. A reader that does not sleep comes before all locks are released. */
         for (long number = 0; number != i;) {
             boddurci_base *reader = boddurci_open_files("half", BODDURCI_READ_ONLY | BODDURCI_NO_WAIT, &fault);
             EXPECT(reader != NULL || fault.status == BODDURCI_LOCKED);
@@ -433,7 +433,7 @@ static void *read_here(void *name)
     return (void *)(intptr_t)found(name);
 }
 
-/* A thread can read while it has the base open, and so can other threads; nobody opens it twice for writing. */
+/* A thread can read while it has the base open, and so can other threads. Nobody can open it twice for writing. */
 static void test_here(void)
 {
     void *number;
@@ -448,7 +448,7 @@ static void test_here(void)
     boddurci_close_files(base);
 }
 
-/* A child reads the last save while its parent has the base open, and the locks stay with the parent. */
+/* A child reads the last save while its parent has the base open, and the parent keeps the locks. */
 static void test_forked(void)
 {
     int status;
@@ -473,7 +473,7 @@ static void test_forked(void)
 
 /* ---- the files of the locks */
 
-/* A save waits for a reader, and for nobody else. */
+/* Releases the lock of a reader after a while. A save waits for a reader, and for nobody else. */
 static void *release(void *given)
 {
     usleep(100000);
@@ -513,7 +513,7 @@ static void *look(void *writer)
     return NULL;
 }
 
-/* A process that stops while it checks BASE.writer does not block saves. Readers use the log then, and nobody else writes. */
+/* A process that is stopped while it checks BASE.writer does not block saves. Readers use the log meanwhile, and nobody else writes. */
 static void test_stopped(void)
 {
     long number = 40;
@@ -552,7 +552,7 @@ static void test_moved(void)
     }
 }
 
-/* If the file of a lock is missing or not accepted, a reader reads, and a writer makes it or reports why not. */
+/* If the file of a lock is missing or not accepted, a reader still reads, and a writer makes the file or reports why it cannot. */
 static void test_locks(void)
 {
     static const char *const names[] = {"here.lock", "here.writer"};
@@ -570,8 +570,8 @@ static void test_locks(void)
     boddurci_close_files(opened("here", 0));
 }
 
-/* If the redo file cannot be marked the writer keeps the lock of the files until a save can mark it. Root may make files everywhere, so the
- * test uses another user then. */
+/* If the redo file cannot be marked, the writer keeps BASE.lock until a save can mark it. Root may make files everywhere, so the test
+ * becomes another user first. */
 static void test_unmarked(void)
 {
     long number = 2;
@@ -593,7 +593,8 @@ static void test_unmarked(void)
 
 /* ---- a reader in a loop */
 
-/* Shared by the service and its reader: the numbers of begun and completed saves, and whether the service is to end. */
+/* Shared by the service and its reader: the number of the last save that began, that of the last save that ended, and whether the service
+ * is to end. */
 struct shared {
     atomic_long begun, done;
     atomic_int is_over;
@@ -601,7 +602,7 @@ struct shared {
 
 enum { PAIRS = 64, WINDOW = 100000 /* microseconds */ };
 
-/* Opens a base with some pages, and saves one number into two keys on different pages until the end. */
+/* Opens a base with some pages, and saves one number at two keys on different pages, again and again until the end. */
 static void save_in_loop(struct shared *shared)
 {
     static uint8_t large[500];
@@ -644,7 +645,7 @@ static void read_once(struct shared *shared, int64_t milliseconds, struct figure
     figures->most = took > figures->most ? took : figures->most;
 }
 
-/* Whether the two keys are on different pages, as the files show them. */
+/* Returns whether the two keys are on different pages, according to the files. */
 static int are_apart(void)
 {
     static char bytes[1 << 20];
@@ -661,7 +662,7 @@ static void report(const char *who, const struct figures *figures)
            1000 * figures->sum / (double)figures->readings, 1000 * figures->most, figures->slow);
 }
 
-/* Makes a database like that of the service, which nobody else uses. */
+/* Makes a copy of the service's database, which nobody else uses. */
 static void copy_loop(void)
 {
     boddurci_base *reader = opened("loop", BODDURCI_READ_ONLY), *copy = opened("copy", 0);
@@ -687,7 +688,7 @@ static void read_copy(void)
     boddurci_close_files(reader);
 }
 
-/* The kinds of turns of the loop. */
+/* The kinds of turns in the loop. */
 enum { RESTS, READS_COPY, READS, READS_WITHIN, TURNS };
 
 /* Lets the service save for a while during a turn. */
@@ -706,8 +707,8 @@ static void take_turn(int turn, struct shared *shared, useconds_t rest, struct f
     }
 }
 
-/* The turns change often, so that saves at nearly the same time are compared: without a reader, with a reader of another database, which
- * takes as much processor time, and with a reader of the same database, which waits without a limit or for 5 seconds. */
+/* The turns change often, so that they compare saves at nearly the same time: without a reader; with a reader of another database, which
+ * takes as much processor time; and with a reader of the same database, which waits without a limit or for 5 seconds. */
 static void loop(double length, useconds_t rest)
 {
     struct shared *shared = mmap(NULL, sizeof *shared, PROT_READ | PROT_WRITE, MAP_SHARED | MAP_ANONYMOUS, -1, 0);

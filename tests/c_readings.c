@@ -1,7 +1,7 @@
-/* Files that are passed in pieces: reading, and opening. tests/c_library.c runs it. */
+/* Tests files that are passed in pieces: reading and opening. tests/c_library.c runs it. */
 #include "c_library.h"
 
-/* Passes the bytes of a .pag in pieces of a length. */
+/* Passes the bytes of a .pag in pieces of a given length. */
 static uint32_t read_in(boddurci_reading *reading, uint32_t wide, const uint8_t *pag, size_t length, size_t piece)
 {
     uint32_t status = BODDURCI_DONE;
@@ -26,7 +26,7 @@ static struct files made(uint32_t wide)
     return files;
 }
 
-/* The text in a room. */
+/* A text in its buffer. */
 struct text {
     uint8_t room[100];
     size_t length;
@@ -46,7 +46,7 @@ static void test_alike(struct files files, uint32_t read_wide, uint32_t wide, si
     struct text one = {{0}, 0}, other;
     uint32_t status = boddurci_open(&whole, files.dir, files.dir_length, files.pag, files.pag_length, wide, 0, one.room, sizeof one.room, &one.length);
     EXPECT(read_in(&reading, read_wide, files.pag, files.pag_length, piece) == BODDURCI_DONE);
-    /* A refusal does not change the reading: the second time it is the same. */
+    /* A refusal does not change the reading, so the second result is the same. */
     for (int time = 0; time < 2; time++) {
         EXPECT(open_read(&pieces, &reading, files, wide, &other) == status);
         EXPECT(one.length == other.length && !memcmp(one.room, other.room, sizeof one.room));
@@ -92,7 +92,7 @@ static void test_pieces(uint32_t wide)
     free_files(files);
 }
 
-/* The calls after a piece, and the state of a reading before the first piece and after an opening. */
+/* The calls after a piece; the state of a reading before the first piece and after an opening. */
 static void test_states(void)
 {
     static const uint8_t zeros[8192];
@@ -132,7 +132,8 @@ void test_readings(void)
     test_pieces(1);
 }
 
-/* Pieces of a page, and an opening. Returns whether an allocation failed. A piece without memory leaves the reading unread. */
+/* Passes the pieces of a page, and opens the reading. Returns whether an allocation failed. If the allocation for a piece fails, the
+ * reading is unread afterwards. */
 int reads_in_memory(struct files files)
 {
     boddurci db = BODDURCI_CLOSED;

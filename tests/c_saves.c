@@ -1,12 +1,12 @@
-/* Saves from C, which tests/c_crashes interrupts.
+/* Saves from C, for tests/c_crashes, which interrupts them.
  *
- *     c_saves list BASE      prints all pairs, in hex, of a base that is read only
+ *     c_saves list BASE      opens the base for reading, and prints all pairs in hex
  *     c_saves change BASE    makes the changes on standard input, `replace KEY VALUE` and `delete KEY` in hex, saves, and prints `saved`;
- *                            if only the redo file has the save, it says so on standard error
- *     c_saves insist BASE    the same, but if the save fails it saves once more
- *     c_saves each BASE      saves after each line, prints `saved` and the number of lines so far, and continues if a save fails; the line
- *                            `rest` rests a little longer than a second
- *     c_saves over BASE      the same, but overwrites the changes of another program */
+ *                            reports on standard error if only the redo file has the save
+ *     c_saves insist BASE    like `change`, but saves once more if the save fails
+ *     c_saves each BASE      saves after each line, prints `saved` and the number of lines so far, and continues if a save fails; for the
+ *                            line `rest` it sleeps a little longer than a second
+ *     c_saves over BASE      like `each`, but overwrites the changes of another program */
 #define _POSIX_C_SOURCE 200809L
 #include "boddurci_files.h"
 #include <stdio.h>
@@ -22,7 +22,7 @@ static int fail(void)
     return 2;
 }
 
-/* Prints at once, by a call that tests/cut.c notes. */
+/* Prints immediately, by a call that tests/cut.c logs. */
 static void say(const char *text)
 {
     if (write(1, text, strlen(text)) < 0)

@@ -1,11 +1,11 @@
-/* Shared bases. tests/shared builds and runs it.
+/* Tests shared bases. tests/shared builds and runs it.
  *
- *     calls FOLDER                 the calls, beside a model, other programs, other users, forks and threads
+ *     calls FOLDER                 tests the calls, with a model, other programs, other users, forks and threads
  *     count BASE LOG SEED          increments counters until it is killed, and appends each answer to the log
  *     change BASE                  makes the changes on standard input, and prints a line after each
  *     fetch BASE KEY               prints the value of a key
  *     list BASE                    prints all pairs, as a reader
- *     hold BASE MILLISECONDS       has the base open for writing for a time, and saves a pair
+ *     hold BASE MILLISECONDS       opens the base for writing, saves a pair, and closes it after that time
  *     close BASE                   opens the base for writing, and closes it */
 #define _GNU_SOURCE
 #include "boddurci_files.h"
@@ -55,7 +55,7 @@ static int fails(const char *name, uint32_t flags, uint32_t status)
     return shared == NULL && fault.status == status && fault.text[0] != 0;
 }
 
-/* Runs bounded_counter without bounds. Returns the number that it has made, or 0 if the call fails. */
+/* Runs bounded_counter without bounds. Returns the new number, or 0 if the call fails. */
 static uint64_t increment_with(boddurci_shared *shared, uint32_t counter, const char *key, boddurci_fault *into)
 {
     uint8_t arg[24] = {1};
@@ -82,7 +82,7 @@ static uint32_t store(boddurci_shared *shared, const char *key, const char *valu
     return boddurci_shared_store(shared, (const uint8_t *)key, strlen(key), (const uint8_t *)value, strlen(value), 1, &fault);
 }
 
-/* Whether a key has this value; it has none if `value` is NULL. */
+/* Returns whether a key has this value, or is missing if `value` is NULL. */
 static int has(boddurci_shared *shared, const char *key, const char *value)
 {
     uint8_t room[BODDURCI_VALUE_MOST];
@@ -134,7 +134,7 @@ static int is_marked(const char *base)
     return marked;
 }
 
-/* Opens a handle on the data files without locks and without the log, as another program reads them. */
+/* Opens a handle on the data files without locks and without the log, as another program would read them. */
 static void open_raw(boddurci *db, const char *base, uint32_t flags)
 {
     uint8_t text[200];
@@ -146,7 +146,7 @@ static void open_raw(boddurci *db, const char *base, uint32_t flags)
     free(pag.at);
 }
 
-/* Writes the files of a handle in place, as another program writes them; and closes it. */
+/* Writes the files of a handle in place, as another program would write them, and closes the handle. */
 static void write_raw(boddurci *db, const char *base)
 {
     uint8_t none[1];
@@ -161,7 +161,7 @@ static void write_raw(boddurci *db, const char *base)
     boddurci_close(db);
 }
 
-/* Whether the data files are those of a handle. */
+/* Returns whether the data files are those of a handle. */
 static int has_files(boddurci *db, const char *base)
 {
     uint8_t none[1];
@@ -180,7 +180,7 @@ static int has_files(boddurci *db, const char *base)
     return are_same;
 }
 
-/* ---- beside a model: the same commands on a handle in memory */
+/* ---- a comparison with a model: the same commands on a handle in memory */
 
 static uint32_t seed;
 
@@ -190,7 +190,7 @@ static uint32_t roll(uint32_t below)
     return (uint32_t)((uint64_t)(seed >> 8) * below >> 24);
 }
 
-/* A key from a small set; some are of zeros, whose hashes are all the same. */
+/* Makes a key from a small set. Some keys consist of zeros and all have the same hash. */
 static size_t key_of(uint32_t number, uint8_t key[40])
 {
     if (number % 17 == 0) {
@@ -204,7 +204,7 @@ struct model {
     boddurci db;
     boddurci_shared *shared;
     uint32_t programs[3];
-    size_t most; /* the longest value */
+    size_t most; /* the greatest length of a value */
 };
 
 static void same_fetch(struct model *model, const uint8_t *key, size_t length)
@@ -257,7 +257,7 @@ static void same_command(struct model *model, uint32_t keys)
     EXPECT(fault.system == 0);
 }
 
-/* All keys are deleted at the end: then no file has bytes. */
+/* At the end all keys are deleted: then both files are empty. */
 static void delete_all(struct model *model, uint32_t keys)
 {
     uint8_t key[40];
@@ -346,7 +346,7 @@ static void test_names(void)
     boddurci_close_shared(shared);
 }
 
-/* Gives the note in the log to another boot of the system. docs/DESIGN.md has its bytes. */
+/* Gives the note in the log to another boot of the system. docs/DESIGN.md has the bytes of a note. */
 static void change_boot(const char *base)
 {
     enum { NOTE = 16, BOOT = NOTE + 32, CHECK = NOTE + 112 };
@@ -362,7 +362,7 @@ static void change_boot(const char *base)
     free(redo.at);
 }
 
-/* After a loss of power the data files lack changes, which the log has: the note is not for the boot after it. */
+/* After a loss of power the data files lack changes that the log has. The note is from an earlier boot, so the log must be recovered. */
 static void test_boots(void)
 {
     boddurci_shared *shared = opened("boots", 0);
@@ -382,7 +382,7 @@ static void test_boots(void)
     boddurci_close_shared(shared);
 }
 
-/* After a loss of power .pag may exist in the log alone. */
+/* After a loss of power .pag may exist only in the log. */
 static void test_lost_pages(void)
 {
     for (uint32_t flags = 0; flags <= BODDURCI_WIDE; flags += BODDURCI_WIDE)
@@ -416,7 +416,7 @@ static void test_sizes(void)
     boddurci_close_shared(shared);
 }
 
-/* Other files: no save has left them, or they are no database. */
+/* Files that no save has left, or that are not a database. */
 static void test_files(void)
 {
     static const uint8_t junk[1024] = {255, 255, 1};
@@ -429,7 +429,7 @@ static void test_files(void)
     char key[20];
     for (int i = 0; i < 200; i++)
         EXPECT(store(shared, (sprintf(key, "%d", i), key), "some value") == BODDURCI_DONE);
-    /* A lost directory is noticed, if the log does not have it. */
+    /* A lost directory is noticed, unless the log has it. */
     boddurci_close_files(boddurci_open_files("files", 0, &fault));
     EXPECT(!is_marked("files") && rename("files.dir", "lost") == 0 && store(shared, "a", "b") == BODDURCI_BAD_FILES);
     EXPECT(boddurci_shared_fetch(shared, BYTES("a"), NULL, 0, NULL, &fault) == BODDURCI_BAD_FILES);
@@ -437,7 +437,7 @@ static void test_files(void)
     boddurci_close_shared(shared);
 }
 
-/* Returns the number of a page of zeros in .pag, or 0. The pages are small. */
+/* Returns the number of a page of .pag that is all zeros, or 0 if there is no such page. Pages are small. */
 static size_t empty_page(const char *base)
 {
     static const uint8_t zeros[1024];
@@ -467,7 +467,7 @@ static uint32_t store_long(boddurci_shared *shared, int number)
     return store(shared, key, value);
 }
 
-/* A split must not overwrite a page that has bytes, although the directory does not lead to it: it fails as on the whole database. */
+/* A split must not overwrite a page that has bytes, even if the directory does not lead to that page. It fails as on the whole database. */
 static void test_targets(void)
 {
     uint8_t pages[3][1024] = {{0}, {255, 255, 1}, {0}};
@@ -524,12 +524,12 @@ static void test_readers(void)
     boddurci_close_shared(shared);
 }
 
-/* ---- two users of one group, of whom only one owns the files */
+/* ---- two users of one group, only one of whom owns the files */
 
 enum { OWNER = 7001, MEMBER = 7002, GROUP = 7003 };
 static const char of_group[] = "group/db";
 
-/* Runs a test as a user of the group, in a child. Returns whether it has passed. */
+/* Runs a test as a user of the group, in a child. Returns whether it passed. */
 static int passes_as(uid_t user, void (*test)(void))
 {
     int status;
@@ -575,7 +575,7 @@ static void delete_as_member(void)
     boddurci_close_shared(shared);
 }
 
-/* A member of the group makes the redo file, and cannot give it to the owner of .pag: it must not stay. */
+/* A member of the group makes the redo file, but cannot give it to the owner of .pag. So the file must not stay. */
 static void test_group(void)
 {
     struct stat found;
@@ -586,14 +586,14 @@ static void test_group(void)
     EXPECT(stat("group/db.pag", &found) == 0 && found.st_uid == OWNER && found.st_gid == GROUP && (found.st_mode & 0777) == 0660);
     EXPECT(unlink("group/db.redo") == 0 && passes_as(MEMBER, store_as_member) && passes_as(OWNER, find_as_owner));
     EXPECT(access("group/db.redo", F_OK) != 0 && passes_as(OWNER, store_as_owner) && passes_as(MEMBER, store_as_member));
-    /* The member may use the file of the owner. */
+    /* The member may use the redo file of the owner. */
     EXPECT(stat("group/db.redo", &found) == 0 && found.st_uid == OWNER && passes_as(OWNER, find_as_owner));
-    /* A killed call of the member has left the file. The next one removes it, also if it changes nothing. */
+    /* A killed call of the member has left its redo file. The next call removes it, even if it changes nothing. */
     EXPECT(is_marked(of_group) && chown("group/db.redo", MEMBER, GROUP) == 0 && passes_as(MEMBER, delete_as_member));
     EXPECT(access("group/db.redo", F_OK) != 0 && passes_as(OWNER, find_as_owner));
 }
 
-/* A limit on the length of files is a fault, and no signal. */
+/* A limit on the length of files causes a fault and no signal. */
 static void test_limit(void)
 {
     struct rlimit most, less;
@@ -642,9 +642,9 @@ static void test_locks(void)
         close(lock);
         EXPECT(has(shared, "a", "b") && has(once, "a", "b"));
     }
-    /* Another file gets the name of a lock. */
+    /* The names of the locks lead to other files. */
     EXPECT(unlink("locks.lock") == 0 && unlink("locks.writer") == 0 && store(shared, "a", "d") == BODDURCI_DONE && has(once, "a", "d"));
-    /* No lock is kept. */
+    /* The shared base keeps no lock. */
     int lock = taken("locks.lock", LOCK_EX | LOCK_NB), writer = taken("locks.writer", LOCK_EX | LOCK_NB);
     close(lock);
     close(writer);
@@ -652,7 +652,7 @@ static void test_locks(void)
     boddurci_close_shared(shared);
 }
 
-/* A base that is open for writing: by this thread, and by another process. */
+/* The base is open for writing, by this thread or by another process. */
 static void test_services(void)
 {
     boddurci_shared *shared = opened("service", 0);
@@ -685,7 +685,7 @@ static void test_services(void)
     boddurci_close_shared(shared);
 }
 
-/* Saves a pair in a service that is killed: the log has no note. */
+/* Saves a pair in a service that is killed, so that the log has no note. */
 static void store_and_die(const char *base, const char *value)
 {
     int status;
@@ -701,7 +701,7 @@ static void store_and_die(const char *base, const char *value)
     EXPECT(waitpid(child, &status, 0) == child && WIFSIGNALED(status) && is_marked(base));
 }
 
-/* A log that must be recovered, while a service that waits for the files has BASE.writer shared: a fetch does not need that lock. */
+/* A log must be recovered, and a service that waits for the files holds BASE.writer shared. A fetch does not need that lock. */
 static void test_waiting(void)
 {
     boddurci_shared *shared = opened("waited", 0), *once = opened("waited", BODDURCI_NO_WAIT);
@@ -721,7 +721,7 @@ static void do_nothing(int signal)
     (void)signal;
 }
 
-/* A service that waits for the files for some time, while other processes take BASE.lock again and again. */
+/* Waits for the files like a service, for some time, while other processes take BASE.lock again and again. */
 static void wait_as_service(void)
 {
     int writer = taken("signals.writer", LOCK_SH), lock = taken("signals.lock", LOCK_SH);
@@ -735,7 +735,7 @@ static void wait_as_service(void)
     _exit(0);
 }
 
-/* Signals during such a fetch. */
+/* Signals come during a fetch that waits. */
 static void test_signals(void)
 {
     static const struct itimerval often = {{0, 2000}, {0, 2000}}, never = {{0, 0}, {0, 0}};
@@ -782,7 +782,7 @@ static void test_others(void)
             store_raw("others", "a", "x");
         }
         if (i % 8 == 3) {
-            /* The next opening finds it too. */
+            /* The next opening sees the write too. */
             boddurci_base *base = boddurci_open_files("others", i % 16 == 3 ? BODDURCI_READ_ONLY : 0, &fault);
             EXPECT(base != NULL);
             boddurci_close_files(base);
@@ -793,7 +793,7 @@ static void test_others(void)
     boddurci_close_shared(shared);
 }
 
-/* Another database gets the names. */
+/* The names lead to the files of another database. */
 static void test_replaced(void)
 {
     boddurci_shared *shared = opened("old", 0), *other = opened("new", 0);
@@ -817,7 +817,7 @@ static void test_long(void)
     struct bytes redo = read_file("long", ".redo");
     EXPECT(redo.length < 8 << 20);
     free(redo.at);
-    /* Each third call comes after one of another kind of program. */
+    /* Each third call comes after a call of another kind of program. */
     for (int i = 0; i < 60; i++) {
         EXPECT(increment(shared, counter, "0") == 181 + (uint64_t)i);
         if (i % 3 == 0)
@@ -849,7 +849,7 @@ static void test_forks(void)
     boddurci_close_shared(shared);
 }
 
-/* A child does not hold the locks of a call of its parent, after the parent was killed. */
+/* After its parent was killed, a child does not hold the locks of a call of the parent. */
 static void test_orphans(void)
 {
     boddurci_shared *shared = opened("orphans", 0);
@@ -884,7 +884,7 @@ static void *store_always(void *shared)
     return NULL;
 }
 
-/* The same, with a fork in the middle of a call of another thread. */
+/* Nor does a child that was forked during a call of another thread. */
 static void test_orphans_of_threads(void)
 {
     boddurci_shared *shared = opened("orphans", 0);
@@ -924,7 +924,7 @@ static void *wait_in_call(void *unused)
     return unused;
 }
 
-/* A fork while another thread is in the middle of a call. */
+/* A fork during a call of another thread. */
 static void test_lost(void)
 {
     pthread_t thread;
@@ -987,7 +987,7 @@ static void test_threads(void)
     boddurci_close_shared(of_all);
 }
 
-/* Another working folder, and another name of the folder: the handle stays with its files, also for a call on the whole base. */
+/* After a change of the working folder or a rename of the folder, the handle stays with its files, also for a call on the whole base. */
 static void test_folders(void)
 {
     boddurci_shared *shared = opened("folder/db", 0);

@@ -1,4 +1,4 @@
-/* Stock programs by name: each is the program whose text is in examples/. tests/c_library.c runs it. */
+/* Tests stock programs by name: each is the program whose text is in examples/. tests/c_library.c runs it. */
 #include "c_library.h"
 
 static const char *const names[] = {"counter", "bounded_add", "bounded_counter", "compare_and_set", "sequence",
@@ -20,7 +20,7 @@ static size_t assembled(const char *folder, const char *name, uint8_t *image)
     return length;
 }
 
-/* Returns all names in one line, as in the text of NO_STOCK. */
+/* The text of NO_STOCK contains all names in one line. */
 static void test_list(void)
 {
     char listed[300] = "";
@@ -29,7 +29,7 @@ static void test_list(void)
     EXPECT(strcmp(listed, BODDURCI_STOCKS) == 0 && strstr(boddurci_text(BODDURCI_NO_STOCK), listed) != NULL);
 }
 
-/* An unknown name: no number is set, and no program is submitted. */
+/* An unknown name sets no number and submits no program. */
 static void test_others(boddurci *db, uint32_t next)
 {
     static const char *const others[] = {"", "Counter", "counter ", "counte", "counters", "@counter", "lease.s", "\xff"};
@@ -39,6 +39,20 @@ static void test_others(boddurci *db, uint32_t next)
         EXPECT(boddurci_stock(db, others[i], &number) == BODDURCI_NO_STOCK && number == 77);
     EXPECT(boddurci_submit_stock(db, (const uint8_t *)"counter", 8, &number) == BODDURCI_NO_STOCK && number == 77);
     EXPECT(boddurci_run(db, next, BYTES("a"), BODDURCI_NO_BYTES, 1, 8, 0, &end, &word) == BODDURCI_NO_PROGRAM);
+}
+
+/* Adds to a number, within bounds. */
+static void test_adding(boddurci *db)
+{
+    uint64_t end = 9, number = 9;
+    EXPECT(boddurci_add(db, BYTES("sum"), 5, 0, 7, &end, &number) == BODDURCI_DONE && end == 1 && number == 5);
+    EXPECT(boddurci_add(db, BYTES("sum"), 3, 0, 7, &end, &number) == BODDURCI_DONE && end == 0 && number == 5);
+    EXPECT(boddurci_add(db, BYTES("sum"), -6, 0, 7, &end, &number) == BODDURCI_DONE && end == 0 && number == 5);
+    EXPECT(boddurci_add(db, BYTES("sum"), -5, 0, 7, &end, &number) == BODDURCI_DONE && end == 1 && number == 0);
+    EXPECT(boddurci_add(db, BYTES("sum"), INT64_MAX, 0, UINT64_MAX, &end, &number) == BODDURCI_DONE && end == 1 && number == INT64_MAX);
+    EXPECT(boddurci_add(db, BYTES("sum"), INT64_MIN, 0, UINT64_MAX, &end, &number) == BODDURCI_DONE && end == 0 && number == INT64_MAX);
+    end = number = 9;
+    EXPECT(boddurci_add(NULL, BYTES("sum"), 1, 0, 7, &end, &number) == BODDURCI_IS_CLOSED && end == 9 && number == 9);
 }
 
 void test_stocks(const char *examples)
@@ -65,10 +79,11 @@ void test_stocks(const char *examples)
         EXPECT(boddurci_run(&db, 0, BYTES("hits"), BODDURCI_NO_BYTES, 1, 8, 0, &end, &word) == BODDURCI_DONE && end == 1);
         EXPECT(boddurci_fetch(&db, BYTES("hits"), value, sizeof value, &length) == BODDURCI_DONE && length == 8 && value[0] == i);
     }
+    test_adding(&db);
     boddurci_close(&db);
 }
 
-/* Submits by name. Returns whether an allocation failed; then nothing has changed. */
+/* Submits programs by name. Returns whether an allocation failed. If so, nothing has changed. */
 int stocks_in_memory(void)
 {
     boddurci db = BODDURCI_CLOSED;

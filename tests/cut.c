@@ -1,5 +1,5 @@
-/* A library in front of the C library. It interrupts a run at its Nth call that writes, syncs, truncates, removes, links or renames a file,
- * or allocates its blocks, or it logs these calls.
+/* A library that is loaded before the C library. It interrupts a run at its Nth call that writes, syncs, truncates, removes, links or
+ * renames a file, or allocates its blocks. Or it logs these calls.
  *
  *     CUT_CALL     N; without it no call is interrupted
  *     CUT_FAULT    the errno with which the call fails; 0 is a kill
@@ -57,7 +57,7 @@ static int is_next_cut(void)
     return chosen != 0 && atomic_load(&calls) + 1 == chosen;
 }
 
-/* Whether this call is the one to interrupt. A kill does not return. */
+/* Returns whether this call is the one to interrupt. A kill does not return. */
 static int is_cut(void)
 {
     if (!chosen || atomic_fetch_add(&calls, 1) + 1 != chosen)
@@ -178,7 +178,7 @@ int unlinkat(int folder, const char *name, int how)
     return status;
 }
 
-/* Links a file under a new name, which the log has. */
+/* Links a file under a new name, which the log records. */
 int linkat(int from, const char *old, int to, const char *name, int flags)
 {
     int status = is_cut() ? -1 : REAL(linkat)(from, old, to, name, flags);

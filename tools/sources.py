@@ -16,7 +16,7 @@ USE = re.compile(r"^(?:pub(?:\(crate\))? )?use ([^;]+);", re.M)
 
 
 def close_of(text, at):
-    """Returns the place after the bracket that closes the one at a place."""
+    """Returns the place after the bracket that closes the bracket at place `at`."""
     depth = 0
     for place in range(at, len(text)):
         depth += (text[place] in "([{") - (text[place] in ")]}")
@@ -26,7 +26,7 @@ def close_of(text, at):
 
 
 def receiver_before(text, at):
-    """Returns the expression that ends at a place, before the dot of a method call."""
+    """Returns the expression that ends at place `at`, before the dot of a method call."""
     start = at
     while start:
         last = text[start - 1]
@@ -116,7 +116,7 @@ def files():
 
 
 def crates():
-    """Returns each crate of crates.txt with the crates below it, those of the kit too."""
+    """Returns each crate of crates.txt with the crates below it, including those of the kit."""
     lines = (TOP / "crates.txt").read_text(encoding="utf-8").splitlines()
     heads = (line.split(":") for line in lines if line and not line.startswith("#"))
     return {head.split()[0]: below.split() for head, below in heads}

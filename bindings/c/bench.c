@@ -1,7 +1,10 @@
-/* Times calls of the library: N stores, fetches and increments (runs of examples/counter.s) of 16-byte keys and 8-byte values.
+/* Measures calls of the library: N stores, fetches and increments (runs of examples/counter.s), with keys of 16 bytes and values of 8.
+ *
  * cc -O2 -I out/boddurci bindings/c/bench.c out/boddurci/libboddurci.a -pthread -o bench
- * usage: bench N [wide]     prints the stores, fetches, runs and runs by a ticket per second; and the milliseconds that it takes to make
- * the bytes of both files, to open them again, and to plan a save of one changed pair. */
+ * usage: bench N [wide]
+ *
+ * It prints the stores, fetches, runs and runs by a ticket per second. Then it prints the milliseconds to make the bytes of both files, to
+ * open them again, and to plan a save of one changed pair. */
 #include "boddurci.h"
 #include <stdio.h>
 #include <stdlib.h>
@@ -30,7 +33,7 @@ static void name(char *key, unsigned i)
 
 #define KEY (const uint8_t *)key, 16
 
-/* Plans a save after the change of one pair; returns 0 if there is a plan. */
+/* Plans a save after the change of one pair. Returns 0 if there is a plan. */
 static int plan_one(boddurci *db, const uint8_t *dir, size_t dir_length, const uint8_t *pag, size_t pag_length, size_t page)
 {
     static uint8_t pages[8192], plan[65536];

@@ -1,5 +1,5 @@
-/* Reads a file into memory, whole or as pages in pieces. Only its data is read, and the rest of the memory is never written, so a hole
- * takes no memory: a sparse file takes as much as it has on the disk. */
+/* Reads a file into memory, whole or as pages in pieces. Only the data of the file is read, and the rest of the memory is never written. So
+ * holes take no memory: a sparse file takes as much as it has on the disk. */
 #define _GNU_SOURCE
 #include "boddurci_saves.h"
 #include <errno.h>
@@ -21,7 +21,7 @@ void boddurci_let_go(struct boddurci_bytes *bytes)
     bytes->length = bytes->room = 0;
 }
 
-/* Maps zeros, in small pages: a huge one would take 2 MiB for each block of the file. */
+/* Maps zeros in small pages. With huge pages each block of data would take 2 MiB. */
 static void *map(size_t room)
 {
     void *at = mmap(NULL, room, PROT_READ | PROT_WRITE, MAP_PRIVATE | MAP_ANONYMOUS | MAP_NORESERVE, -1, 0);
@@ -45,7 +45,7 @@ int boddurci_set_length(struct boddurci_bytes *bytes, size_t length)
     return 0;
 }
 
-/* Reads a range of a file into a room, up to the end of the file. Returns the offset after the bytes that were read, or -1. */
+/* Reads a range of a file into a buffer, up to the end of the file. Returns the offset after the last byte that was read, or -1. */
 static off_t read_range(int file, uint8_t *room, off_t from, off_t to)
 {
     for (off_t start = from; from < to;) {
@@ -59,7 +59,7 @@ static off_t read_range(int file, uint8_t *room, off_t from, off_t to)
     return from;
 }
 
-/* Returns the present end of a file that ended at `end` before and had no data after some offset: it may be shorter by now. */
+/* Returns the present end of a file that ended at `end` before and had no data from `at` on: it may be shorter by now. */
 static off_t end_after(int file, off_t at, off_t end)
 {
     struct stat now;
@@ -68,7 +68,8 @@ static off_t end_after(int file, off_t at, off_t end)
     return now.st_size > at ? now.st_size : at;
 }
 
-/* Finds the next data at or after an offset, up to `*to`. If the system cannot say, all is data. */
+/* Returns the offset of the first data at or after `at`, or `end` if only a hole follows. Sets *to to the end of that data. If the system
+ * does not say, everything is data. */
 static off_t find_data(int file, off_t at, off_t end, off_t *to)
 {
     *to = end;
@@ -166,11 +167,11 @@ uint32_t boddurci_read_data(struct boddurci_place *place, enum boddurci_file fil
 
 /* ---- pages, in pieces */
 
-/* Whole pages of either size. */
+/* A number of whole pages of either size. */
 enum { PIECE = 262144 };
 
-/* Passes the next piece. Each piece except the last has whole pages, and together they have 1 GiB at most, so it can only fail for
- * memory. */
+/* Passes the next piece. Only memory can run out: each piece except the last consists of whole pages, and all together have at most 1
+ * GiB. */
 static int push(boddurci_reading *pages, uint32_t is_wide, const uint8_t *piece, size_t length)
 {
     if (boddurci_read(pages, is_wide, piece, length) == BODDURCI_DONE)
@@ -179,7 +180,7 @@ static int push(boddurci_reading *pages, uint32_t is_wide, const uint8_t *piece,
     return -1;
 }
 
-/* Passes zeros. They are in the cache of the processor. */
+/* Passes zeros from a small buffer that stays in the processor's cache. */
 static int push_zeros(boddurci_reading *pages, uint32_t is_wide, size_t length)
 {
     static const uint8_t zeros[32768];
@@ -191,7 +192,7 @@ static int push_zeros(boddurci_reading *pages, uint32_t is_wide, size_t length)
     return 0;
 }
 
-/* Reads a file to its end. If it has become shorter meanwhile the rest is left out. */
+/* Reads a file to its end. If it has become shorter meanwhile, leaves out the rest. */
 static int read_pieces(int file, off_t end, uint32_t is_wide, boddurci_reading *pages, uint8_t *room)
 {
     off_t next, found, to;
@@ -244,7 +245,7 @@ int boddurci_move_pages(struct boddurci_bytes *bytes, uint32_t is_wide, boddurci
     return 0;
 }
 
-/* Reads some bytes. It does not wait for the disk if `is_cached`. */
+/* Reads some of the bytes. If `is_cached` is 1, fails instead of waiting for the disk. */
 static ssize_t read_some(int opened, uint64_t at, uint8_t *room, size_t size, int is_cached)
 {
     if (!is_cached)

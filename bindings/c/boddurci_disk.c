@@ -1,4 +1,4 @@
-/* The three files of a base, open for writing, and the calls on them. boddurci_steps.c has the calls that a save makes. */
+/* The three files of a base, open for writing, and the calls on them. boddurci_steps.c executes the steps of a save by these calls. */
 #define _GNU_SOURCE
 #include "boddurci_saves.h"
 #include <errno.h>
@@ -9,7 +9,7 @@
 #include <time.h>
 #include <unistd.h>
 
-/* ---- the signal of a file that is too long */
+/* ---- SIGXFSZ, the signal for a file that is too long */
 
 static int has_come(void)
 {
@@ -69,8 +69,8 @@ void boddurci_disk_close(struct boddurci_disk *disk)
         boddurci_disk_drop(disk, file);
 }
 
-/* The permissions with which a file is made, before the umask. A redo file has records in it, so nobody else may read it before it has the
- * permissions of .pag. If there is no .pag yet, the users who will be able to read .pag may read it. */
+/* Returns the permissions for a new file, before the umask. A redo file contains records, so only its owner may read it until it has the
+ * permissions of .pag. If .pag does not exist yet, all users who will be able to read it may read the redo file. */
 static mode_t mode_of(const struct boddurci_disk *disk, enum boddurci_file file)
 {
     if (file == BODDURCI_REDO)
@@ -78,7 +78,7 @@ static mode_t mode_of(const struct boddurci_disk *disk, enum boddurci_file file)
     return file == BODDURCI_PAGES ? 0666 : boddurci_mode_of_pages(disk->place, 0666);
 }
 
-/* Makes a file. A redo file that was made before .pag gets the owner, the group and the permissions of .pag. */
+/* Makes a file. When .pag is made, gives a redo file that was made before it the owner, the group and the permissions of .pag. */
 static int make(struct boddurci_disk *disk, enum boddurci_file file)
 {
     int *opened = &disk->files[file];
@@ -93,7 +93,7 @@ static int make(struct boddurci_disk *disk, enum boddurci_file file)
     return redo < 0 ? 0 : boddurci_be_like_pages(disk->place, BODDURCI_REDO, redo);
 }
 
-/* Opens a data file that exists. boddurci_log.c opens the redo file. */
+/* Opens an existing data file. boddurci_log.c opens the redo file. */
 static int open_found(struct boddurci_disk *disk, enum boddurci_file file)
 {
     if (disk->files[file] < 0 && file != BODDURCI_REDO)
@@ -103,7 +103,7 @@ static int open_found(struct boddurci_disk *disk, enum boddurci_file file)
     return disk->files[file] < 0 ? -1 : 0;
 }
 
-/* Opens a file, and makes it if it is missing. */
+/* Opens a file, or makes it if it is missing. */
 static int open_to_write(struct boddurci_disk *disk, enum boddurci_file file)
 {
     disk->last = file;
@@ -114,7 +114,7 @@ static int open_to_write(struct boddurci_disk *disk, enum boddurci_file file)
 
 /* ---- calls on one file */
 
-/* Notes whether a call may have raised the signal: the system raises it only with EFBIG. */
+/* Records whether a call may have raised the signal: the system raises it only with EFBIG. */
 static int failed(struct boddurci_disk *disk)
 {
     disk->is_too_long = disk->is_too_long || errno == EFBIG;
@@ -134,7 +134,8 @@ int boddurci_disk_write(struct boddurci_disk *disk, enum boddurci_file file, uin
     return 0;
 }
 
-/* Zeros are written in small pieces: a page cache with large folios takes longer for each later write of a few bytes, and for its sync. */
+/* Writes zeros in small pieces. After a long write the page cache may use large folios, and then each later write of a few bytes, and its
+ * sync, takes longer. */
 int boddurci_disk_zero(struct boddurci_disk *disk, enum boddurci_file file, uint64_t at, uint64_t size)
 {
     static uint8_t zeros[16384];

@@ -15,14 +15,14 @@ int boddurci_is_of_another(const boddurci_base *base)
 
 /* ---- reading */
 
-/* The data that an opening reads: all bytes of .dir, and the pages of .pag without its bytes. If .pag is short its bytes are read first,
- * and parsed after the locks are released. */
+/* The data that an opening reads: all bytes of .dir, and .pag as pages, without its bytes. The bytes of a short .pag are read first, and
+ * parsed after the locks are released. */
 struct parts {
     struct boddurci_bytes directory;
     struct boddurci_bytes unparsed;
     boddurci_reading pages;
     uint32_t is_wide;
-    int has_data; /* .pag is more than one hole */
+    int has_data; /* .pag has data and is not just one hole */
 };
 
 static void let_parts_go(struct parts *parts)
@@ -45,7 +45,7 @@ static uint32_t read_pieces(int file, struct parts *parts, boddurci_fault *fault
     return is_read == 0 ? status : boddurci_fail_by_system(fault, "a file cannot be read");
 }
 
-/* Reads both data files. A missing file has no bytes, but .pag may be required to exist. */
+/* Reads both data files. A missing file has no bytes; if `must_exist` is 1, a missing .pag is an error. */
 static uint32_t read_parts(struct boddurci_place *place, int must_exist, struct parts *parts, boddurci_fault *fault)
 {
     int file;
@@ -59,8 +59,8 @@ static uint32_t read_parts(struct boddurci_place *place, int must_exist, struct 
     return status;
 }
 
-/* Reads both data files for a read-only database. If the redo file has its mark, the result includes its saves; but not while a writer
- * has the base open, since that writer has written them. */
+/* Reads both data files for a read-only base. If the redo file has its mark, the result includes the saves in it. While a writer has the
+ * base open that is unnecessary, since the writer has written them. */
 static uint32_t read_over(struct boddurci_place *place, int must_exist, struct parts *parts, boddurci_fault *fault)
 {
     struct boddurci_bytes files[2];
@@ -86,7 +86,7 @@ static uint32_t parse(struct parts *parts, boddurci_fault *fault)
 
 /* ---- opening */
 
-/* Notes which files exist, without reading them. */
+/* Records which data files exist, without reading them. */
 static void see_files(struct boddurci_place *place)
 {
     for (enum boddurci_file file = BODDURCI_PAGES; file <= BODDURCI_DIRECTORY; file++) {
@@ -96,7 +96,7 @@ static void see_files(struct boddurci_place *place)
     }
 }
 
-/* Recovers both data files, then reads them. */
+/* Reads both data files. For a writer it first recovers them. */
 static uint32_t read_files(boddurci_base *base, struct parts *parts, boddurci_fault *fault)
 {
     struct boddurci_disk *disk = &base->logged.disk;
@@ -125,12 +125,12 @@ static const uint8_t *or_none(struct boddurci_bytes bytes)
     return bytes.at != NULL ? bytes.at : none;
 }
 
-/* Checks whether a base that is opened with wide pages looks like one with small ones, which may read as wide ones by chance. */
+/* Checks whether a base that is opened with wide pages looks like one with small pages, which may be valid wide ones by chance. */
 static uint32_t look_at_size(const boddurci_base *base, struct parts *parts, boddurci_fault *fault)
 {
     uint32_t looks_small = 0, status = BODDURCI_DONE;
     int is_tested = parts->is_wide && parts->has_data && !(base->flags & BODDURCI_ANY_SIZE);
-    /* The keys may hash the other way than the caller says. */
+    /* The keys may be hashed in the other way than the flags say. */
     for (uint32_t is_unsigned = 0; is_tested && status == BODDURCI_DONE && !looks_small && is_unsigned < 2; is_unsigned++)
         status = boddurci_reading_looks_small(&parts->pages, or_none(parts->directory), parts->directory.length, is_unsigned, &looks_small);
     if (status == BODDURCI_DONE && looks_small)
@@ -152,7 +152,7 @@ static uint32_t open_parts(boddurci_base *base, struct parts *parts, boddurci_fa
     return status;
 }
 
-/* Tries once more for a reader without a lock, after its reading: the first writer may have made the lock meanwhile. */
+/* Tries again for a reader that found no lock and has read the files: the first writer may have made the lock meanwhile. */
 static uint32_t read_again(boddurci_base *base, struct parts *parts, uint32_t status, int64_t milliseconds, boddurci_fault *fault)
 {
     boddurci_fault second;
@@ -261,7 +261,7 @@ static void end_log(boddurci_base *base)
     boddurci_logged_end(&base->logged);
 }
 
-/* In a forked child another thread of the parent may have held the mutex: then the memory of the database is not freed. */
+/* In a forked child the memory of the database is not freed if another thread of the parent held the mutex. */
 void boddurci_close_files(boddurci_base *base)
 {
     if (base == NULL)

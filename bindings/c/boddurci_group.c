@@ -4,26 +4,26 @@
 #include <sched.h>
 #include <semaphore.h>
 
-/* The state of a call that waits. */
+/* The state of a waiting call. */
 enum state { WAITS, SLEEPS, HAS_TURN, IS_SERVED };
 
-/* A call of boddurci_save. It is on the stack of its thread, which waits until the call has its turn or is served. */
+/* A call of boddurci_save. It is on the stack of its thread, which waits until the call gets the turn to save or is served. */
 struct boddurci_call {
     struct boddurci_call *next;
     boddurci_fault *fault;
     uint32_t status;
     int insists;
-    int state;  /* one of enum state, atomic; after HAS_TURN and IS_SERVED the thread continues */
+    int state;  /* one of enum state, atomic; the thread continues after HAS_TURN or IS_SERVED */
     sem_t turn; /* posted if the thread sleeps */
 };
 
-/* Nanoseconds. If the last save took less, waiting calls spin until the end of the next one. Tests set it. */
+/* In nanoseconds. If the last save took less, waiting calls spin until the end of the next one. Tests set another value. */
 #ifndef BODDURCI_LONG_SAVE
 #define BODDURCI_LONG_SAVE 500000
 #endif
 static const int64_t LONG_SAVE = BODDURCI_LONG_SAVE;
 
-/* Nanoseconds, about the time to wake a thread. */
+/* In nanoseconds: about the time that it takes to wake a thread. */
 static const int64_t MOMENT = 40000;
 
 static int64_t now(void)
@@ -33,7 +33,7 @@ static int64_t now(void)
     return (int64_t)time.tv_sec * 1000000000 + time.tv_nsec;
 }
 
-/* Lets the other thread of a core run for some 40 nanoseconds. */
+/* Pauses for some 40 nanoseconds, so that the other hardware thread of the core can run. */
 static void pause_shortly(void)
 {
 #if defined(__x86_64__) || defined(__i386__)
@@ -43,7 +43,7 @@ static void pause_shortly(void)
 #endif
 }
 
-/* At first it does not even yield: the holder is about done. */
+/* The first tries do not even yield, since the holder is about to unlock. */
 void boddurci_lock_soon(pthread_mutex_t *mutex)
 {
     enum { PAUSES = 100, TRIES = 200 };
@@ -78,7 +78,7 @@ void boddurci_group_destroy(struct boddurci_group *group)
     pthread_mutex_destroy(&group->serving);
 }
 
-/* Adds a call to those that wait. Returns 1 if it has to wait for its turn, and 0 if it is to save now. */
+/* Adds a call to the list. Returns 1 if it must wait, and 0 if it is to save now. */
 static int has_to_wait(struct boddurci_group *group, struct boddurci_call *call)
 {
     boddurci_lock_soon(&group->mutex);
@@ -96,8 +96,8 @@ static int waiting_in(const struct boddurci_group *group)
     return __atomic_load_n(&group->waiting, __ATOMIC_RELAXED);
 }
 
-/* How long a save may wait for others, in nanoseconds. After a long save the threads that it has served sleep, and wake one after the
- * other. */
+/* Returns how long a save may wait for more calls, in nanoseconds. After a long save the threads that it served sleep, and wake one by
+ * one. */
 static int64_t patience(int64_t took)
 {
     static const int64_t MOST = 1000000;
@@ -106,7 +106,7 @@ static int64_t patience(int64_t took)
     return took / 8 < MOST ? took / 8 : MOST;
 }
 
-/* Waits until a number of calls wait, at most until a time, and returns how many do. */
+/* Waits until `count` calls wait, or until the time `end`. Returns the number of waiting calls. */
 static int await_calls(const struct boddurci_group *group, int count, int64_t took, int64_t end)
 {
     const struct timespec moment = {0, (long)MOMENT};
@@ -115,14 +115,15 @@ static int await_calls(const struct boddurci_group *group, int count, int64_t to
     return waiting_in(group);
 }
 
-/* Whether a save waits for a moment more, given the calls before the last moment and after it: some came then, and most have come. */
+/* Returns whether a save waits for another moment, given the numbers of calls before and after the last moment: some came in it, and at
+ * least two thirds have come. */
 static int goes_on(int before, int has, int others)
 {
     return has > before && 3 * has >= 2 * others;
 }
 
-/* Waits a moment for the calls that the last save has served: their threads may save again, and then one save serves all. If most have come
- * it waits for the rest. If none has come, the next saves do not wait. A single thread does not wait. */
+/* Waits a moment for the calls that the last save served: their threads may save again, and then one save serves all of them. If most have
+ * come, it waits for the rest. If none has come, the next SKIPS saves do not wait. A single thread does not wait. */
 static void await_others(struct boddurci_group *group)
 {
     enum { SKIPS = 7, MOMENTS = 8 };
@@ -140,7 +141,7 @@ static void await_others(struct boddurci_group *group)
     group->skips = had < others && has == had ? SKIPS : 0;
 }
 
-/* Empties the list of waiting calls. The first of them saves, and leads to the rest by its `next`. */
+/* Empties the list of waiting calls. The first call saves, and its `next` leads to the rest. */
 static void take_all(struct boddurci_group *group)
 {
     boddurci_lock_soon(&group->mutex);
@@ -157,15 +158,15 @@ static int has_one_that_insists(const struct boddurci_call *call)
     return call != NULL;
 }
 
-/* Lets a call continue. Unless it sleeps, it may be gone as soon as it has the state. */
+/* Lets a call continue. Unless its thread sleeps, the call may no longer exist once it has the new state. */
 static void wake(struct boddurci_call *call, int state)
 {
     if (__atomic_exchange_n(&call->state, state, __ATOMIC_ACQ_REL) == SLEEPS)
         sem_post(&call->turn);
 }
 
-/* Gives the turn to save to the first waiting call. That call exists until it has its turn, since nobody else takes the list. The calls that
- * were just served may come again, next to those that wait. */
+/* Gives the turn to save to the first waiting call. That call exists until it has the turn, since nobody else empties the list. The calls
+ * that were just served may come again, in addition to those that wait. */
 static void pass_on(struct boddurci_group *group)
 {
     boddurci_lock_soon(&group->mutex);
@@ -177,7 +178,7 @@ static void pass_on(struct boddurci_group *group)
         wake(next, HAS_TURN);
 }
 
-/* Copies the outcome of a save to each of these calls. */
+/* Copies the result of a save to each of these calls, and wakes them. */
 static void serve(struct boddurci_call *call, uint32_t status, const boddurci_fault *fault)
 {
     while (call != NULL) {
@@ -189,8 +190,8 @@ static void serve(struct boddurci_call *call, uint32_t status, const boddurci_fa
     }
 }
 
-/* Waits until a call has its turn or is served. Waking a thread takes longer than a short save, so it spins as long as two saves took, and
- * yields to other threads meanwhile. */
+/* Waits until a call has the turn or is served. Waking a thread takes longer than a short save. So it spins for about the time of two
+ * saves, and yields to other threads meanwhile, before it sleeps. */
 static int wait_for(struct boddurci_call *call, int64_t took)
 {
     int state = WAITS;
@@ -204,7 +205,7 @@ static int wait_for(struct boddurci_call *call, int64_t took)
     return __atomic_load_n(&call->state, __ATOMIC_ACQUIRE);
 }
 
-/* Saves for all waiting calls. This call is the first of them. */
+/* Saves for all waiting calls. `call` is the first of them. */
 static void save_for_all(struct boddurci_group *group, struct boddurci_call *call, boddurci_saving *save, boddurci_base *base)
 {
     await_others(group);
@@ -218,7 +219,7 @@ static void save_for_all(struct boddurci_group *group, struct boddurci_call *cal
     pthread_mutex_unlock(&group->serving);
 }
 
-/* Cancellation is disabled: the call is in the list, or other threads wait for its save. */
+/* Cancellation is disabled, since the call is in the list, or other threads wait for its save. */
 uint32_t boddurci_group_save(struct boddurci_group *group, boddurci_saving *save, boddurci_base *base, int insists, boddurci_fault *fault)
 {
     struct boddurci_call call = {.fault = fault, .insists = insists, .state = WAITS};

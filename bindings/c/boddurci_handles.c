@@ -1,4 +1,4 @@
-/* The calls of boddurci.h that take a handle, a ticket or a reading. Each checks for NULL, and then makes the proved call, whose references
+/* The calls of boddurci.h that take a handle, a ticket or a reading. Each checks for NULL and then makes the proved call, whose references
  * are never NULL. ./dbm --build-library renames each export of crates/boddurci_c that is called here to boddurci_proved_NAME. */
 #include "boddurci.h"
 

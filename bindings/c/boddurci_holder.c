@@ -1,4 +1,4 @@
-/* Finds the process that has a lock of a base, in /proc/locks of Linux. */
+/* Finds the process that holds a lock of a base, in /proc/locks of Linux. */
 #define _POSIX_C_SOURCE 200809L
 #include "boddurci_saves.h"
 #include <fcntl.h>
@@ -6,9 +6,9 @@
 #include <string.h>
 #include <sys/stat.h>
 
-/* Parses a line of /proc/locks. Returns the process if the line is a flock on the inode, -1 if this process cannot see that process, for
- * example in another container, and 0 otherwise. A line has its number, the kind of the lock, two words on how it is held, the process, and
- * the file as its device and inode. A waiting process has an arrow before the kind. */
+/* Parses a line of /proc/locks. Returns the process if the line is a flock on this inode; -1 if this process cannot see that process, which
+ * may be in another container; otherwise 0. A line has its number, the kind of the lock, two words on how it is held, the process, and the
+ * file as its device and inode. A process that waits for the lock has an arrow before the kind. */
 static long process_in(const char *line, unsigned long long number)
 {
     long process;
@@ -35,7 +35,7 @@ long boddurci_holder_of(const struct boddurci_place *place, enum boddurci_file l
     return process;
 }
 
-/* Writes the name of a process for the text of a fault. */
+/* Gets the name of a process for the text of a fault. */
 static void name_of(long process, char *shown, size_t size)
 {
     char path[40], name[40] = "";

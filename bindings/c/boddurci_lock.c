@@ -1,4 +1,4 @@
-/* The base of a name, and its locks: flocks on BASE.lock and BASE.writer. boddurci_saves.h says what each means. */
+/* The locks of a base: flocks on BASE.lock and BASE.writer. boddurci_saves.h says what each protects. */
 #define _GNU_SOURCE
 #include "boddurci_saves.h"
 #include <errno.h>
@@ -14,8 +14,8 @@
 
 /* ---- names */
 
-/* If the name of a file is a symbolic link to a file of another base with this ending, returns the name of that base, which the caller
- * frees; otherwise NULL. */
+/* If the name of a file is a symbolic link to a file of another base with this ending, sets *lead to the name of that base, which the
+ * caller frees. Otherwise sets it to NULL. */
 static int lead_of(const char *base, const char *ending, char **lead)
 {
     struct stat found;
@@ -41,8 +41,8 @@ static int lead_of(const char *base, const char *ending, char **lead)
     return 0;
 }
 
-/* If both data files are symbolic links to those of another base, sets *led to its name, so that all processes use the same locks, and to
- * NULL otherwise. The caller frees it. */
+/* If both data files are symbolic links to those of another base, sets *led to the name of that base, so that all processes use the same
+ * locks. Otherwise sets it to NULL. The caller frees it. */
 static uint32_t resolve(const char *name, char **led, boddurci_fault *fault)
 {
     char *pages = NULL, *directory = NULL;
@@ -62,7 +62,7 @@ static uint32_t resolve(const char *name, char **led, boddurci_fault *fault)
     return boddurci_fail(fault, BODDURCI_FILE_FAILED, 0, "BASE.pag and BASE.dir are links to two bases");
 }
 
-/* Whether the last part of a name can be the name of a base: the files of users/ would be users/.dir and users/.pag. */
+/* Returns whether the last part of a name can be the name of a base. The files of users/ would be users/.dir and users/.pag. */
 static int is_name(const char *name)
 {
     const char *end = strrchr(name, '/'), *last = end != NULL ? end + 1 : name;
@@ -78,15 +78,15 @@ static int64_t now(void)
     return (int64_t)time.tv_sec * 1000 + time.tv_nsec / 1000000;
 }
 
-/* The end of a wait. If it is below 0 the wait has no limit. */
+/* Returns the time at which a wait ends, or -1 if the wait has no limit. */
 static int64_t end_of(int64_t milliseconds)
 {
     int64_t start = now();
     return milliseconds < 0 ? -1 : milliseconds < INT64_MAX - start ? start + milliseconds : INT64_MAX;
 }
 
-/* Sleeps before the next try: some 50 times as long as a short save takes, then up to 5 milliseconds. EWOULDBLOCK at the end of the wait,
- * EINTR after a signal. */
+/* Sleeps before the next try: for the first SHORT tries about as long as a short save takes, then 1 to 5 milliseconds. Fails with
+ * EWOULDBLOCK at the end of the wait, and with EINTR after a signal. */
 static int rest(int *tries, int64_t end)
 {
     enum { SHORT = 50, MOMENT = 50000, MILLISECOND = 1000000, LONGEST = 5 };
@@ -103,10 +103,10 @@ static int rest(int *tries, int64_t end)
 
 /* ---- places with locks */
 
-/* The places whose locks this process has. A fork takes the mutex first, so a child finds a consistent list. */
+/* The places whose locks this process holds. A fork takes the mutex first, so a child finds a consistent list. */
 static struct boddurci_place *held;
 static unsigned long threads; /* the number of threads that have taken a lock so far */
-static __thread unsigned long this_thread; /* its number among these, from 1: the system reuses its own numbers */
+static __thread unsigned long this_thread; /* this thread's number among them, from 1; the system reuses its own numbers */
 static pthread_mutex_t held_mutex = PTHREAD_MUTEX_INITIALIZER;
 static pthread_once_t held_once = PTHREAD_ONCE_INIT;
 
@@ -156,13 +156,13 @@ static void set_keeps_files(struct boddurci_place *place, int keeps)
     give_held();
 }
 
-/* Whether a place holds a lock for longer than a call. */
+/* Returns whether a place holds a lock for longer than a call. */
 static int has_for_long(const struct boddurci_place *place, enum boddurci_file lock)
 {
     return place->opened[lock] >= 0 && (lock == BODDURCI_WRITER || place->keeps_files);
 }
 
-/* Whether this thread has a lock already: it would wait for itself. A child does not have the locks of its parent. */
+/* Returns whether this thread already holds a lock, and so would wait for itself. A child does not hold the locks of its parent. */
 static int has_it_here(const struct boddurci_place *place, enum boddurci_file lock)
 {
     struct stat wanted, had;
@@ -185,7 +185,7 @@ static int is_named(const struct boddurci_place *place, enum boddurci_file lock)
     return boddurci_is_named(place, lock, place->opened[lock]);
 }
 
-/* Whether .pag is missing or this process may write it. Otherwise the process makes no lock. */
+/* Returns whether .pag is missing or this process may write it. If not, the process makes no lock files. */
 static int may_write(const struct boddurci_place *place)
 {
     int opened = openat(place->folder, place->names[BODDURCI_PAGES], O_RDWR | O_NONBLOCK | O_NOCTTY | O_CLOEXEC);
@@ -200,7 +200,7 @@ static uint32_t cannot_be_made(enum boddurci_file lock, boddurci_fault *fault)
     return boddurci_fail_by_system(fault, lock == BODDURCI_LOCK ? "BASE.lock cannot be made" : "BASE.writer cannot be made");
 }
 
-/* Makes the file of a lock, unless another process was faster. All who may use .pag may use it. */
+/* Makes the file of a lock, unless another process was faster. Every user who may use .pag may use it. */
 static uint32_t make_lock(struct boddurci_place *place, enum boddurci_file lock, boddurci_fault *fault)
 {
     if (!may_write(place))
@@ -227,8 +227,8 @@ static void close_lock(struct boddurci_place *place, enum boddurci_file lock)
     place->opened[lock] = -1;
 }
 
-/* Opens the file of a lock, for writing if this user may, and again if another file has its name by now. A writer makes a missing one.
- * OPEN_HERE if this thread has the lock. */
+/* Opens the file of a lock, for writing if this user may. Opens it again if its name leads to another file by now. A writer makes a missing
+ * file. OPEN_HERE if this thread holds the lock. */
 static uint32_t open_lock(struct boddurci_place *place, enum boddurci_file lock, int reads, boddurci_fault *fault)
 {
     uint32_t status = BODDURCI_DONE;
@@ -248,9 +248,9 @@ static uint32_t open_lock(struct boddurci_place *place, enum boddurci_file lock,
     return status;
 }
 
-/* ---- taking them */
+/* ---- taking the locks */
 
-/* Waits for a lock. A wait without a limit blocks in the system call; one with a limit tries and sleeps by turns. */
+/* Waits for a lock. Without a limit it blocks in flock; with a limit it tries and sleeps by turns. */
 static int wait_for(int lock, int how, int64_t end)
 {
     if (end < 0)
@@ -301,8 +301,8 @@ static uint32_t share_lock(struct boddurci_place *place, int64_t end, boddurci_f
     }
 }
 
-/* Whether another process has a lock exclusively. It tries a shared lock, so that processes that check at the same time do not find each
- * other. */
+/* Returns whether another process holds a lock exclusively. Tries a shared lock, so that processes that check at the same time do not find
+ * each other. */
 static int is_busy(int lock)
 {
     if (flock(lock, LOCK_SH | LOCK_NB) == 0) {
@@ -325,7 +325,8 @@ int boddurci_has_writer(const struct boddurci_place *place)
     return has_writer;
 }
 
-/* Whether a save waits for the files: a process has BASE.writer shared. Another reader that checks it counts too, for a moment. */
+/* Returns whether a save waits for the files: then its process holds BASE.writer shared. Another reader that is checking BASE.writer counts
+ * too, for a moment. */
 static int is_waited_for(const struct boddurci_place *place)
 {
     if (place->opened[BODDURCI_LOCK] < 0 || boddurci_has_writer(place))
@@ -333,8 +334,8 @@ static int is_waited_for(const struct boddurci_place *place)
     return boddurci_holder_of(place, BODDURCI_WRITER) != 0;
 }
 
-/* The system prefers readers to a writer that waits. So a reader releases the files for a moment if a save waits for them; for a limited
- * time, since the writer may be stopped. */
+/* The system prefers readers to a waiting writer. So a reader that got BASE.lock releases it for a moment if a save waits for it. It does
+ * so a limited number of times, since the writer may be stopped. */
 uint32_t boddurci_take_shared(struct boddurci_place *place, int64_t milliseconds, boddurci_fault *fault)
 {
     enum { MOST = 40 };
@@ -351,7 +352,7 @@ uint32_t boddurci_take_shared(struct boddurci_place *place, int64_t milliseconds
 
 enum outcome { TAKEN, IS_BUSY, TRY_AGAIN, HAS_FAILED };
 
-/* Takes BASE.writer without waiting, while BASE.lock is held. On failure it releases BASE.lock. */
+/* Takes BASE.writer without waiting. The caller holds BASE.lock; on failure the call releases it. */
 static enum outcome lock_writer(const struct boddurci_place *place, boddurci_fault *fault)
 {
     int files = place->opened[BODDURCI_LOCK], writer = place->opened[BODDURCI_WRITER];
@@ -377,8 +378,8 @@ static enum outcome lock_both(struct boddurci_place *place, int64_t end, boddurc
     return HAS_FAILED;
 }
 
-/* The same, but it does not try BASE.lock while BASE.writer is busy. The exception is a single try, which could otherwise fail by another
- * process that only checks the lock. */
+/* Like `lock_both`, but leaves BASE.lock alone while BASE.writer is busy. A wait of 0 milliseconds (`is_only`) is an exception: its single
+ * try could otherwise fail because another process only checks BASE.writer. */
 static enum outcome try_both(struct boddurci_place *place, int64_t end, int is_only, boddurci_fault *fault)
 {
     for (enum boddurci_file lock = BODDURCI_LOCK; lock <= BODDURCI_WRITER; lock++)
@@ -389,7 +390,7 @@ static enum outcome try_both(struct boddurci_place *place, int64_t end, int is_o
     return lock_both(place, end, fault);
 }
 
-/* Notes that both locks are held. BASE.writer is shared while BASE.lock is exclusive. */
+/* Records that this place holds both locks. Converts BASE.writer to shared, since BASE.lock is exclusive. */
 static void note_both(struct boddurci_place *place)
 {
     for (enum boddurci_file lock = BODDURCI_LOCK; lock <= BODDURCI_WRITER; lock++)
@@ -421,8 +422,8 @@ static uint32_t take_both(struct boddurci_place *place, int64_t milliseconds, bo
 
 /* ---- while a base is open */
 
-/* Tries for a moment to get a lock exclusively. It does not sleep, and at first does not even yield: a reader of few pages is done before a
- * thread could be woken. After a failure the lock is not even shared. */
+/* Tries for a short time to get a lock exclusively. It does not sleep, and at first does not even yield: a reader of few pages is done
+ * before a thread could be woken. After a failure the lock is not held at all. */
 static int take_soon(int lock)
 {
     enum { TRIES = 1000, QUICK = 100 };
@@ -442,7 +443,7 @@ int boddurci_take_files(struct boddurci_place *place)
         return 0;
     if (take_soon(files) == 0)
         return wait_through(writer, LOCK_SH);
-    /* BASE.writer is shared first: it shows new readers that a save waits (is_waited_for). */
+    /* BASE.writer is shared first, which shows new readers that a save waits (is_waited_for). */
     return wait_through(writer, LOCK_SH) != 0 || wait_through(files, LOCK_EX) != 0 ? -1 : 0;
 }
 
@@ -451,8 +452,8 @@ int boddurci_share_files(struct boddurci_place *place)
     return place->keeps_files ? 0 : wait_through(place->opened[BODDURCI_LOCK], LOCK_SH);
 }
 
-/* Other processes hold BASE.writer only to check it, for a moment: to write they would need BASE.lock. If one of them is stopped then,
- * BASE.writer stays shared, and readers use the log until the next save. */
+/* Other processes hold BASE.writer only for a moment, to check it: to write they would need BASE.lock. If one of them is stopped in that
+ * moment, BASE.writer stays shared, and readers use the log until the next save. */
 void boddurci_give_files(struct boddurci_place *place)
 {
     set_keeps_files(place, 0);
@@ -475,7 +476,7 @@ uint32_t boddurci_are_held(const struct boddurci_place *place, boddurci_fault *f
     return BODDURCI_DONE;
 }
 
-/* BASE.writer is released first: a process that gets BASE.lock then finds it free. */
+/* BASE.writer is released first, so that a process that gets BASE.lock finds it free. */
 void boddurci_give_locks(struct boddurci_place *place, int is_own)
 {
     forget_held(place);
@@ -495,7 +496,7 @@ void boddurci_settle_locks(struct boddurci_place *place)
 
 /* ---- entering */
 
-/* Whether the name leads to the same base as before the wait. */
+/* Checks that the name leads to the same base as before the wait. MOVED if not. */
 static uint32_t leads_there(const char *base, boddurci_fault *fault)
 {
     char *led;
@@ -541,10 +542,11 @@ uint32_t boddurci_find(struct boddurci_place *place, const char *name, boddurci_
     return status;
 }
 
-/* A call that waits for BASE.lock to change something says so by a lock of another kind, on the first byte of that file; one that has waited
- * for long, and a fetch that waits, on the second byte. The system prefers readers, and a process that calls again, to one that waits. So
- * new fetches let the first go, and new changes the second. These locks end with the process. On a local file system they are independent of
- * flock. On other file systems no call announces itself, since flock may lock the same bytes. */
+/* A call that waits for BASE.lock to make a change announces itself by a lock of another kind, on the first byte of that file. A call that
+ * has waited for long, and a fetch that waits, lock the second byte. Without this they might wait forever: the system prefers readers, and
+ * a process that calls again, to one that waits. New fetches let a call with the first byte go first, and new changes one with the second.
+ * The system releases these locks when the process ends. On a local file system they are independent of flock. On other file systems no
+ * call announces itself, since flock may lock the same bytes. */
 enum { WAITS, STARVES, BYTES };
 
 #ifdef F_OFD_SETLK
@@ -581,7 +583,7 @@ static void announce_none(const struct boddurci_place *place)
     (void)!lock_bytes(place, F_UNLCK, 0, BYTES);
 }
 
-/* Lets another call go first, for a limited time, since its process may be stopped. */
+/* Waits while another call is announced, so that it goes first. The wait is limited, since that call's process may be stopped. */
 static void let_go(const struct boddurci_place *place, off_t byte, int64_t end)
 {
     enum { MOST = 200 };
@@ -590,14 +592,14 @@ static void let_go(const struct boddurci_place *place, off_t byte, int64_t end)
         nanosleep(&moment, NULL);
 }
 
-/* Whether the files of both locks are open. They are those under the names, unless it turns out otherwise once they are locked. */
+/* Returns whether the files of both locks are open. A call checks that they still have their names once they are locked. */
 static int are_open(const struct boddurci_place *place)
 {
     return place->opened[BODDURCI_LOCK] >= 0 && place->opened[BODDURCI_WRITER] >= 0;
 }
 
-/* Tries once to take both locks for a call. After the first try it does not try BASE.lock while BASE.writer is busy. Sets *is_queued if
- * BASE.lock is busy. */
+/* Tries once to take both locks for a call. After the first try it leaves BASE.lock alone while BASE.writer is busy. Sets *is_queued to 1
+ * if BASE.lock is busy. */
 static enum outcome try_call(struct boddurci_place *place, int is_first, int *is_queued, boddurci_fault *fault)
 {
     for (enum boddurci_file lock = BODDURCI_LOCK; lock <= BODDURCI_WRITER && !(is_first && are_open(place)); lock++)
@@ -617,8 +619,8 @@ static enum outcome try_call(struct boddurci_place *place, int is_first, int *is
     return errno == EINTR ? TRY_AGAIN : HAS_FAILED;
 }
 
-/* Announces a call that waits for BASE.lock. One waiting call spins for a while, which takes less time than to wake it. New calls wait for a
- * call that has waited for long, and that call rests shortly. */
+/* Announces a call that waits for BASE.lock. One waiting call at a time spins for a while, which takes less time than to wake it. A call
+ * that has waited for long announces that too, so that new calls wait for it, and from then on sleeps only shortly between tries. */
 static enum outcome queue(struct boddurci_place *place, int *tries, int *spins, boddurci_fault *fault)
 {
     enum { SPINS = 3, LONG = 20 };
@@ -633,7 +635,7 @@ static enum outcome queue(struct boddurci_place *place, int *tries, int *spins, 
     return IS_BUSY;
 }
 
-/* Takes both locks for a call. Its wait continues after a signal. */
+/* Takes both locks for a call. The wait continues after a signal. */
 static uint32_t take_to_change(struct boddurci_place *place, int64_t end, boddurci_fault *fault)
 {
     int tries = 0, spins = 0, is_first = 1, has_waited = 0, is_queued;
@@ -659,7 +661,7 @@ static uint32_t take_to_change(struct boddurci_place *place, int64_t end, boddur
     return fault->status;
 }
 
-/* Shares BASE.lock if its file is open, and nobody has it exclusively. */
+/* Takes BASE.lock shared if its file is open and nobody holds it exclusively. Returns 1 if it got the lock. */
 static int share_open(struct boddurci_place *place)
 {
     int lock = place->opened[BODDURCI_LOCK];

@@ -1,5 +1,5 @@
-/* The log of a base in BASE.redo: opens it, appends the record of each save, and closes it. The library returns the steps of each
- * (crates/sdbm_log), and boddurci_steps.c makes them. */
+/* The log of a base in BASE.redo: opens it, appends the record of each save, and closes it. The library returns the steps
+ * (crates/sdbm_log), and boddurci_steps.c executes them. */
 #define _POSIX_C_SOURCE 200809L
 #include "boddurci_saves.h"
 #include <errno.h>
@@ -10,11 +10,12 @@
 #include <sys/stat.h>
 #include <unistd.h>
 
-/* The usual room of a log, and the room if the disk has less. A redo file without a mark that is longer than MOST_UNUSED is removed:
- * each opening for writing reads it. */
+/* ROOM is the usual room of a log, and LEAST_ROOM its room if the disk has no more. A redo file without a mark is removed if it is longer
+ * than MOST_UNUSED, since each opening for writing reads it. */
 static const size_t ROOM = 1 << 20, LEAST_ROOM = 1 << 16, MOST_UNUSED = 1 << 24;
 
-/* A log that saves fill within SOON nanoseconds is made anew with this room: to empty a log takes a sync of both data files. */
+/* If saves fill a log within SOON nanoseconds, it is replaced by one with GROWN_ROOM, since emptying a log takes a sync of both data
+ * files. */
 static const size_t GROWN_ROOM = 1 << 22;
 static const int64_t SOON = 1000000000;
 
@@ -24,7 +25,7 @@ static uint32_t cannot_be_written(const struct boddurci_disk *disk, boddurci_fau
     return boddurci_fail_by_system(fault, what[disk->last]);
 }
 
-/* Reports a committed save with the call that failed afterwards. */
+/* Reports a committed save after which a call failed. */
 static uint32_t is_pending(const struct boddurci_disk *disk, boddurci_fault *fault)
 {
     static const char *const what[3] = {"the save is kept in BASE.redo, and BASE.pag could not be written",
@@ -38,7 +39,7 @@ static uint32_t too_long(boddurci_fault *fault)
     return boddurci_fail(fault, BODDURCI_TOO_LONG, 0, boddurci_files_text(BODDURCI_TOO_LONG));
 }
 
-/* ---- steps from the library */
+/* ---- getting steps from the library */
 
 static const uint8_t *or_none(struct boddurci_bytes bytes)
 {
@@ -54,7 +55,7 @@ static void free_steps(struct boddurci_steps *steps)
     steps->own = NULL;
 }
 
-/* The fault if the library returns no steps. */
+/* Sets the fault for a status with which the library returned no steps. */
 static uint32_t refused(uint32_t status, boddurci_fault *fault)
 {
     switch (status) {
@@ -70,7 +71,7 @@ static uint32_t refused(uint32_t status, boddurci_fault *fault)
 
 enum { WORDS = sizeof(boddurci_step) / sizeof(uint64_t) };
 
-/* Allocates the rooms for steps and their bytes. */
+/* Allocates buffers for steps and their bytes. */
 static int make_rooms(struct boddurci_steps *steps, size_t words, size_t bytes)
 {
     free_steps(steps);
@@ -80,8 +81,8 @@ static int make_rooms(struct boddurci_steps *steps, size_t words, size_t bytes)
     return steps->at != NULL && steps->own != NULL ? 0 : -1;
 }
 
-/* Requests the steps that open the log of these files with `room` bytes. If `log` is NULL, the steps that bring copies of the data files to
- * the state that the three files mean. */
+/* Gets the steps that open the log of these files with `room` bytes. If `log` is NULL, gets the steps that bring copies of the data files
+ * to the state that the three files represent. */
 static uint32_t ask(const struct boddurci_bytes files[3], size_t room, boddurci_log *log, struct boddurci_steps *steps, boddurci_fault *fault)
 {
     const uint8_t *pag = or_none(files[0]), *dir = or_none(files[1]), *redo = or_none(files[2]);
@@ -105,7 +106,8 @@ static uint32_t ask(const struct boddurci_bytes files[3], size_t room, boddurci_
     return boddurci_is_within_limits(steps) ? status : too_long(fault);
 }
 
-/* Requests the steps of a save. A change has 128 bytes of a block twice, or more. */
+/* Gets the steps of a save. Each change of a plan has at least 128 bytes from before it and as many from after it, so the first buffer is
+ * usually long enough. */
 static uint32_t ask_save(struct boddurci_bytes bytes, boddurci_log *log, struct boddurci_steps *steps, boddurci_fault *fault)
 {
     size_t words = (bytes.length / 256 + 32) * WORDS, room, committed = 0;
@@ -140,7 +142,7 @@ static int has_mark(int opened)
     return got < 0 ? -1 : got == 1 && first == 1;
 }
 
-/* Opens the redo file for reading, and reports whether it has its mark. If it is missing it has none, and the descriptor is -1. */
+/* Opens the redo file for reading, and sets *is_marked to whether it has its mark. If it is missing, *opened is -1 and *is_marked 0. */
 static uint32_t look(const struct boddurci_place *place, int *opened, int *is_marked, boddurci_fault *fault)
 {
     *is_marked = 0;
@@ -175,8 +177,8 @@ static int64_t now(void)
     return (int64_t)time.tv_sec * 1000000000 + time.tv_nsec;
 }
 
-/* Leaves the log after a failed call: the next opening recovers it. Without its mark it is useless, and it is removed, since its bytes on
- * the disk may differ from those that are read. */
+/* Abandons the log after a failed call: the next opening recovers it. Removes the redo file if it has no mark, since it is useless then,
+ * and its bytes on the disk may differ from those that are read. */
 static void give_up(struct boddurci_logged *logged)
 {
     struct boddurci_disk *disk = &logged->disk;
@@ -193,7 +195,7 @@ static void give_up(struct boddurci_logged *logged)
     errno = system;
 }
 
-/* Called if the redo file could not be opened for writing: removes it if it has no mark and this user may not write it. */
+/* Removes the redo file if it has no mark and this user may not write it. Called after it could not be opened for writing. */
 static uint32_t remove_denied(struct boddurci_disk *disk, boddurci_fault *fault)
 {
     boddurci_fault second;
@@ -203,7 +205,8 @@ static uint32_t remove_denied(struct boddurci_disk *disk, boddurci_fault *fault)
     return boddurci_disk_remove_redo(disk) == 0 ? boddurci_no_fault(fault) : cannot_be_written(disk, fault);
 }
 
-/* Opens the redo file for writing, if it exists. If this user owns it, it gets the owner, the group and the permissions of .pag. */
+/* Opens the redo file for writing, if it exists. If this user owns it or is root, gives it the owner, the group and the permissions of
+ * .pag. */
 static uint32_t open_redo(struct boddurci_disk *disk, boddurci_fault *fault)
 {
     struct stat found;
@@ -221,7 +224,7 @@ static uint32_t open_redo(struct boddurci_disk *disk, boddurci_fault *fault)
     return status;
 }
 
-/* Removes an open redo file if it has no mark and is useless. */
+/* Removes an open redo file without a mark if it is too long, or if an earlier call on it failed. */
 static uint32_t remove_useless(struct boddurci_logged *logged, boddurci_fault *fault)
 {
     struct boddurci_disk *disk = &logged->disk;
@@ -263,8 +266,8 @@ static int clear_note(struct boddurci_disk *disk)
     return disk->files[BODDURCI_REDO] < 0 ? 0 : boddurci_clear_note(disk->files[BODDURCI_REDO]);
 }
 
-/* Makes the steps that open the log. First it writes a marked redo file again, with the bytes that were read: if an earlier sync of it
- * failed, the bytes on the disk may differ, and the next sync would not write them. */
+/* Executes the steps that open the log. If the redo file has its mark, first writes it again with the bytes that were read: if an earlier
+ * sync of it failed, the bytes on the disk may differ, and the next sync would not write them. */
 static uint32_t do_open(struct boddurci_logged *logged, struct boddurci_bytes redo, const struct boddurci_steps *steps, boddurci_fault *fault)
 {
     struct boddurci_disk *disk = &logged->disk;
@@ -281,7 +284,7 @@ static uint32_t do_open(struct boddurci_logged *logged, struct boddurci_bytes re
     return cannot_be_written(disk, fault);
 }
 
-/* Opens the log with `room` bytes. If the redo file has its mark the data files are recovered. */
+/* Opens the log with `room` bytes. Recovers the data files if the redo file has its mark. */
 static uint32_t try_open(struct boddurci_logged *logged, size_t room, boddurci_fault *fault)
 {
     struct boddurci_bytes files[3] = {{NULL, 0, 0}, {NULL, 0, 0}, {NULL, 0, 0}}, none = {NULL, 0, 0};
@@ -320,8 +323,8 @@ static uint32_t open_log(struct boddurci_logged *logged, boddurci_fault *fault)
     return status;
 }
 
-/* If a note of a shared base says that all records are applied, closes the log: the data files may have later changes of programs that do
- * not know it. */
+/* Closes the log if a note of a shared base says that all records are applied: programs that do not know the log may have changed the data
+ * files since. */
 static uint32_t close_applied(struct boddurci_logged *logged, int *is_ended, boddurci_fault *fault)
 {
     struct boddurci_disk *disk = &logged->disk;
@@ -356,14 +359,14 @@ uint32_t boddurci_logged_recover(struct boddurci_logged *logged, int are_names_s
     int is_marked = 1;
     if (status != BODDURCI_FILE_FAILED || look_only(disk->place, &is_marked, &second) != BODDURCI_DONE || is_marked)
         return status;
-    /* The data files are recovered, and there is no room for a log yet. */
+    /* The data files are recovered, but there is no room for a new log yet. */
     logged->is_given_up = 0;
     return boddurci_no_fault(fault);
 }
 
 /* ---- saving */
 
-/* Whether the steps that commit a save only append its record to the log. Otherwise they empty the log first. */
+/* Returns whether the steps that commit a save only append its record to the log. If not, they empty the log first. */
 static int only_append(const struct boddurci_steps *steps)
 {
     for (size_t i = 0; i < steps->committed; i++)
@@ -372,8 +375,8 @@ static int only_append(const struct boddurci_steps *steps)
     return 1;
 }
 
-/* Whether the log is to be made anew with more room before a save: the save would empty it, and it was empty a moment ago. A long save, or one
- * that makes a file shorter, empties any log. */
+/* Returns whether to replace the log by a longer one before a save: the save would empty it less than SOON nanoseconds after it was last
+ * empty. A save that is long, or that shortens a file, empties any log, so more room would not help. */
 static int has_to_grow(const struct boddurci_logged *logged, const struct boddurci_steps *steps)
 {
     enum { FEW = 4 };
@@ -386,7 +389,7 @@ static int has_to_grow(const struct boddurci_logged *logged, const struct boddur
     return after[BODDURCI_PAGES] >= before[BODDURCI_PAGES] && after[BODDURCI_DIRECTORY] >= before[BODDURCI_DIRECTORY];
 }
 
-/* Closes the log and opens it with more room, or as before if the disk has no more. A base tries that once. */
+/* Closes the log and opens it with more room, or with the usual room if the disk has no more. A base tries this once. */
 static uint32_t grow(struct boddurci_logged *logged, boddurci_fault *fault)
 {
     logged->is_grown = 1;
@@ -396,7 +399,7 @@ static uint32_t grow(struct boddurci_logged *logged, boddurci_fault *fault)
     return status == BODDURCI_DONE ? open_log(logged, fault) : status;
 }
 
-/* Requests the steps of a save, in a log that has grown before if it has to. */
+/* Gets the steps of a save. Makes the log longer first if necessary. */
 static uint32_t ask_in_log(struct boddurci_logged *logged, struct boddurci_bytes bytes, boddurci_log *next, struct boddurci_steps *steps,
                            boddurci_fault *fault)
 {
@@ -409,7 +412,7 @@ static uint32_t ask_in_log(struct boddurci_logged *logged, struct boddurci_bytes
     return status == BODDURCI_DONE ? ask_save(bytes, next, steps, fault) : status;
 }
 
-/* Commits a save. Readers may read the data files meanwhile, but not the log while it is emptied. */
+/* Commits a save. Readers may read the data files meanwhile, but not while the log is emptied. */
 static int commit(struct boddurci_logged *logged, const struct boddurci_steps *steps)
 {
     int appends = only_append(steps);
@@ -431,7 +434,7 @@ static int apply(struct boddurci_logged *logged, const struct boddurci_steps *st
     return boddurci_do_steps(disk, steps->at + steps->committed, steps->count - steps->committed, steps->bytes);
 }
 
-/* Commits a save, and writes it to the data files. */
+/* Commits a save and writes it to the data files. */
 static uint32_t do_save(struct boddurci_logged *logged, const struct boddurci_steps *steps, int *is_left, boddurci_fault *fault)
 {
     struct boddurci_disk *disk = &logged->disk;
@@ -478,8 +481,8 @@ static void put_number(uint8_t *at, uint64_t number)
         at[i] = (uint8_t)(number >> 8 * i);
 }
 
-/* Commits a plan that changes nothing; boddurci.h has its form. It omits the steps after the commit, since each file has its length
- * already. */
+/* Commits a plan that changes nothing; boddurci.h has its form. Leaves out the steps after the commit, since each file already has its
+ * length. */
 static uint32_t commit_nothing(struct boddurci_logged *logged, const uint64_t lengths[2], boddurci_fault *fault)
 {
     uint8_t record[BODDURCI_PLAN_AT + 28] = {0}, *plan = record + BODDURCI_PLAN_AT;
@@ -513,7 +516,7 @@ uint32_t boddurci_logged_mark(struct boddurci_logged *logged, boddurci_fault *fa
         return BODDURCI_DONE;
     if (boddurci_take_files(disk->place) != 0)
         return boddurci_fail_by_system(fault, "BASE.lock cannot be locked");
-    /* If the mark fails the times of the data files stay: new ones would look to the next save like a write of another program. */
+    /* If the mark fails, keep the times of the data files: the next save would take new ones for a write of another program. */
     disk->has_reserved = 0;
     uint32_t status = logged->is_open ? BODDURCI_DONE : open_log(logged, fault);
     return status == BODDURCI_DONE ? commit_nothing(logged, lengths, fault) : status;
@@ -521,9 +524,9 @@ uint32_t boddurci_logged_mark(struct boddurci_logged *logged, boddurci_fault *fa
 
 /* ---- closing */
 
-/* Clears the mark, and by the same write the note of a shared base. A process may be killed at any call. If the note went first, the marked
- * log would be recovered, although another program may have written the data files since. If the mark went first, the note could come to
- * apply to later records, which may end at the same place. */
+/* Clears the mark, and the note of a shared base with the same write, since the process may be killed at any call. If the note were cleared
+ * first, the marked log would be recovered, although another program may have written the data files since. If the mark were cleared first,
+ * the note could later apply to other records that end at the same place. */
 static int clear_mark(struct boddurci_disk *disk)
 {
     uint8_t header[BODDURCI_HEADER_USED];
@@ -534,9 +537,9 @@ static int clear_mark(struct boddurci_disk *disk)
     return boddurci_disk_write(disk, BODDURCI_REDO, 0, header, length);
 }
 
-/* Makes a step that closes the log: the syncs of both data files, the write that clears the mark, and the sync of the redo file. clear_mark
- * writes the same byte as that step, and zeros over the note. If a sync fails the note is cleared: the data files may lack what was written,
- * so the next call is to recover them. */
+/* Executes a step that closes the log. The steps are the syncs of both data files, the write that clears the mark, and the sync of the redo
+ * file. In place of that write clear_mark writes the same byte, and zeros over the note. If a sync fails, clears the note: the data files
+ * may lack what was written, so the next call has to recover them. */
 static int close_by(struct boddurci_disk *disk, const boddurci_step *step)
 {
     if (step->file >= 2 && step->kind != BODDURCI_SYNC)
@@ -550,7 +553,7 @@ static int close_by(struct boddurci_disk *disk, const boddurci_step *step)
     return -1;
 }
 
-/* Makes the steps that close the log. */
+/* Executes the steps that close the log. */
 static int close_log(struct boddurci_logged *logged)
 {
     boddurci_step steps[8];
@@ -575,7 +578,7 @@ uint32_t boddurci_logged_renew(struct boddurci_logged *logged, boddurci_fault *f
     return is_closed ? BODDURCI_DONE : cannot_be_written(&logged->disk, fault);
 }
 
-/* Whether the next opening can use the redo file: it has the owner, the group and the permissions of .pag, and is not too long. */
+/* Returns whether the next opening can use the redo file: it has the owner, the group and the permissions of .pag, and is not too long. */
 static int is_of_use(struct boddurci_disk *disk)
 {
     uint64_t length;
@@ -603,8 +606,8 @@ void boddurci_logged_end(struct boddurci_logged *logged)
 
 /* ---- reading */
 
-/* Syncs a marked redo file that a reader has read: otherwise a crash of the machine could lose a save that was read. On a read-only file
- * system there is nothing to sync. */
+/* Syncs a marked redo file for a reader. Without the sync a crash of the machine could lose a save that was already read. On a read-only
+ * file system there is nothing to sync. */
 static uint32_t keep_marked(struct boddurci_place *place, int redo, boddurci_fault *fault)
 {
     if ((boddurci_keep_opened(redo) == 0 && boddurci_keep_folder(place) == 0) || errno == EROFS || errno == EINVAL)
@@ -612,7 +615,7 @@ static uint32_t keep_marked(struct boddurci_place *place, int redo, boddurci_fau
     return boddurci_fail_by_system(fault, "BASE.redo cannot be kept");
 }
 
-/* Reads both data files, with the saves of a marked redo file applied. */
+/* Reads both data files and applies the saves of a marked redo file. */
 static uint32_t read_done(struct boddurci_place *place, int redo, struct boddurci_bytes files[3], boddurci_fault *fault)
 {
     struct boddurci_steps steps = {NULL, 0, 0, NULL, 0, NULL};

@@ -1,10 +1,10 @@
-/* The allocator of libboddurci.a: the three functions that it needs from the program, by malloc. They have no state. libboddurci.so hides
- * them. */
+/* The allocator of libboddurci.a: the three functions that the library needs from the program, by malloc. They have no state.
+ * libboddurci.so hides them. */
 #include <stdbool.h>
 #include <stddef.h>
 #include <stdlib.h>
 
-/* A pointer for a failed allocation, never read or written: the library accepts no null even then. */
+/* The pointer of a failed allocation, which is never read or written: the library accepts no NULL even then. */
 static char nowhere;
 
 struct given {

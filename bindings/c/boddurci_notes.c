@@ -1,5 +1,5 @@
-/* Notes of the data files of a base, taken when it last read or wrote them, and how the files differ from the notes now.
- * include/boddurci_files.h says which changes of other programs a save sees by this. */
+/* Notes of the data files of a base, taken when the base last read or wrote them, and how the files differ from the notes now.
+ * include/boddurci_files.h says which changes of other programs a save can see by them. */
 #define _GNU_SOURCE
 #include "boddurci_saves.h"
 #include <fcntl.h>
@@ -27,7 +27,7 @@ static int is_same_time(struct timespec one, struct timespec other)
     return one.tv_sec == other.tv_sec && one.tv_nsec == other.tv_nsec;
 }
 
-/* Whether a time is within 20 milliseconds of another one. */
+/* Returns whether two times are less than 20 milliseconds apart. */
 static int is_near(struct timespec one, struct timespec other)
 {
     double apart = (double)(one.tv_sec - other.tv_sec) + 1e-9 * (double)(one.tv_nsec - other.tv_nsec);
@@ -47,9 +47,10 @@ int boddurci_is_local(int opened)
     return 0;
 }
 
-/* ---- looks */
+/* ---- looks: they read the state of the files */
 
-/* Reads the state of a data file: of the open file, or if it is closed, of the one under the name. A quick look copies the noted times. */
+/* Reads the state of a data file: of the open file if `is_held` is 1 and it is open, otherwise of the file under the name. A quick look
+ * copies the noted times. */
 static struct boddurci_note look_at(const struct boddurci_notes *notes, const struct boddurci_disk *disk, enum boddurci_file file, int is_held)
 {
     struct stat is;
@@ -68,7 +69,7 @@ static struct boddurci_note look_at(const struct boddurci_notes *notes, const st
     return note;
 }
 
-/* Reads the state of both files: of those under the names, or of the open ones, which takes less time. */
+/* Reads the state of both files. With `is_held` 1 it reads that of the open files, which takes less time. */
 static void look_at_both(const struct boddurci_notes *notes, const struct boddurci_disk *disk, int is_held, struct boddurci_note found[2])
 {
     struct boddurci_note both[2];
@@ -81,7 +82,7 @@ static void look_at_both(const struct boddurci_notes *notes, const struct boddur
 
 static const struct timespec never = {0, 0};
 
-/* Whether a time is the noted one, or that of a later write of the base. */
+/* Returns whether a time is the noted one, or that of a later write of the base. */
 static int is_our_time(struct timespec noted, struct timespec is, struct timespec latest)
 {
     return is_same_time(noted, is) || is.tv_sec < latest.tv_sec || (is.tv_sec == latest.tv_sec && is.tv_nsec <= latest.tv_nsec);
@@ -100,7 +101,7 @@ static enum boddurci_change change_of(const struct boddurci_note *noted, const s
     return is_our_time(noted->changed, is->changed, latest) ? BODDURCI_SAME : BODDURCI_TOUCHED;
 }
 
-/* How both files differ, and which of them differs more. */
+/* Returns the greater of the two differences. Sets *which to the file that has it. */
 static enum boddurci_change change_of_both(const struct boddurci_note noted[2], const struct boddurci_note is[2], struct timespec latest,
                                            int is_local, enum boddurci_file *which)
 {
@@ -132,7 +133,7 @@ struct timespec boddurci_time_of_folder(const struct boddurci_place *place)
     return fstat(place->folder, &found) == 0 ? found.st_ctim : never;
 }
 
-/* Whether the name of a data file is not a link: a link may lead into another folder. A missing file has none. */
+/* Returns whether the name of a data file is not a link: a link may lead into another folder. Returns 1 for a missing file. */
 static int is_plain(const struct boddurci_place *place, enum boddurci_file file, const struct boddurci_note *found)
 {
     struct stat is;
@@ -142,7 +143,8 @@ static int is_plain(const struct boddurci_place *place, enum boddurci_file file,
            is.st_ino == found->number;
 }
 
-/* A change of a name within the tick of the change before may leave the same time, so the last change has to be older. */
+/* Two changes of names within one clock tick may give the folder the same time. So the folder's time is noted only if it is clearly older
+ * than that tick. */
 void boddurci_note_names(struct boddurci_notes *notes, const struct boddurci_place *place, struct timespec folder,
                          const struct boddurci_note found[2])
 {
@@ -221,7 +223,7 @@ void boddurci_note_written(struct boddurci_notes *notes, const struct boddurci_d
     notes->has_our_clock = notes->is_local && is_near(notes->files[BODDURCI_PAGES].written, tick);
 }
 
-/* Both files exist, and other files cannot have their inodes, so only the lengths may differ from the notes. */
+/* Notes only the new lengths: both files exist, and no other files can have their inodes. Returns 0 if that is not enough. */
 static int note_lengths(struct boddurci_notes *notes, const uint64_t lengths[2])
 {
     int has_directory = notes->files[BODDURCI_DIRECTORY].is_there;

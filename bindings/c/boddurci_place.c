@@ -1,4 +1,4 @@
-/* The folder of a database, and its files, by their names in it. A redo file or a lock is accepted only if no user who may not write .pag
+/* The folder of a database, and the files in it by their names. A redo file or a lock is accepted only if no user who may not write .pag
  * can have made it; docs/DECISIONS.md says why under "Calls from C". */
 #define _GNU_SOURCE
 #include "boddurci_saves.h"
@@ -11,7 +11,7 @@
 #include <sys/sysmacros.h>
 #include <unistd.h>
 
-/* A folder that may be searched and not read is enough. */
+/* O_PATH, so that the right to search the folder is enough. */
 #ifdef O_PATH
 enum { OPEN_FOLDER = O_PATH | O_DIRECTORY | O_CLOEXEC };
 #else
@@ -76,7 +76,7 @@ void boddurci_place_close(struct boddurci_place *place)
         close(place->folder);
 }
 
-/* Closes a file that is not accepted, and sets errno to the reason. */
+/* Closes a file that is not accepted, and sets errno to `system`. */
 static int leave(int opened, int system)
 {
     close(opened);
@@ -161,8 +161,8 @@ static int is_lock(enum boddurci_file file)
     return file >= BODDURCI_LOCK;
 }
 
-/* Whether all users who may write a file may write .pag. If .pag is missing `pages` is NULL, and a lock may be writable, since it has no
- * bytes. */
+/* Returns whether every user who may write a file may write .pag too. `pages` is NULL if .pag is missing; a lock may then be writable by
+ * anybody, since it is empty. */
 static int is_writing_safe(enum boddurci_file file, const struct stat *found, const struct stat *pages)
 {
     if (pages == NULL)
@@ -173,8 +173,8 @@ static int is_writing_safe(enum boddurci_file file, const struct stat *found, co
     return (found->st_mode & S_IWOTH) == 0 && ((found->st_mode & S_IWGRP) == 0 || is_group_safe);
 }
 
-/* Whether the owner of a file is trusted: this user, root or the owner of .pag. A lock may belong to any user who may write .pag, since
- * that user cannot give it to the owner of .pag. */
+/* Returns whether the owner of a file is trusted: this user, root, or the owner of .pag. A lock may belong to any user who may write .pag,
+ * since that user cannot give it to the owner of .pag. */
 static int is_owner_safe(enum boddurci_file file, const struct stat *found, const struct stat *pages)
 {
     if (found->st_uid == geteuid() || found->st_uid == 0 || (pages != NULL && found->st_uid == pages->st_uid))
@@ -184,7 +184,7 @@ static int is_owner_safe(enum boddurci_file file, const struct stat *found, cons
     return (pages->st_mode & S_IWOTH) != 0 || ((pages->st_mode & S_IWGRP) != 0 && found->st_gid == pages->st_gid);
 }
 
-/* Checks that a redo file or a lock is accepted. A file that has lost its name meanwhile is. */
+/* Checks that a redo file or a lock is acceptable. A file that has lost its name meanwhile is. */
 static uint32_t look(const struct boddurci_place *place, enum boddurci_file file, const struct stat *found, boddurci_fault *fault)
 {
     struct stat pages;
@@ -210,7 +210,7 @@ static uint32_t cannot_be_opened(enum boddurci_file file, boddurci_fault *fault)
     return boddurci_fail_by_system(fault, file == BODDURCI_REDO ? "BASE.redo cannot be opened" : lock);
 }
 
-/* Opens the file. A lock may be read only. */
+/* Opens the file. A lock is opened for reading if it cannot be opened as requested. */
 static int open_found(const struct boddurci_place *place, enum boddurci_file file, int how)
 {
     int more = O_NOFOLLOW | O_NONBLOCK | O_NOCTTY | O_CLOEXEC, opened = openat(place->folder, place->names[file], how | more);
@@ -251,7 +251,7 @@ mode_t boddurci_mode_of_pages(const struct boddurci_place *place, mode_t otherwi
     return boddurci_look(place->folder, place->names[BODDURCI_PAGES], 0, &pages) == 0 ? pages.st_mode & 0666 : otherwise;
 }
 
-/* Gives a file an owner and a group, independently. If the system forbids the change, the file keeps its own. */
+/* Gives a file the owner and the group of .pag, each independently. If the system forbids a change, the file keeps its own. */
 static int give(int opened, const struct stat *pages, struct stat *own)
 {
     if (fstat(opened, own) != 0)

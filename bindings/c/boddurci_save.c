@@ -1,5 +1,5 @@
 /* Saves of a base: reads the pages that may have changed, plans, and checks for changes of other programs. include/boddurci_files.h has the
- * guarantees; boddurci_log.c carries a plan out. */
+ * guarantees; boddurci_log.c executes a plan. */
 #define _GNU_SOURCE
 #include "boddurci_saves.h"
 #include <errno.h>
@@ -16,19 +16,19 @@ static const uint8_t *or_none(struct boddurci_bytes bytes)
 
 /* ---- reading for a save */
 
-/* Numbers of pages, sorted. */
+/* Page numbers in ascending order. */
 struct numbers {
-    uint32_t *at; /* or NULL, if the list is empty */
+    uint32_t *at; /* NULL if the list is empty */
     size_t count;
 };
 
-/* The contents of the files for a plan: all of .dir, and of .pag its length and the listed pages. */
+/* The contents of the files that a plan needs: all of .dir, and the length and the listed pages of .pag. */
 struct reading {
     struct boddurci_bytes directory;
     size_t length;
-    size_t directory_length; /* when the save looked at the files */
+    size_t directory_length; /* the length of .dir when the save looked at the files */
     struct numbers listed;
-    struct numbers own; /* the pages that may have changed when the plan was made; only if pages are compared */
+    struct numbers own; /* the pages that may have changed when the plan was made; set only if pages are compared */
     uint8_t *pages;
     size_t size; /* of a page */
 };
@@ -77,7 +77,7 @@ static uint32_t list_changed(boddurci *db, struct numbers *numbers)
     return status;
 }
 
-/* Lists all pages of the file and of the database. A page that may have changed is listed even if it is past both ends. */
+/* Lists all pages of the file and of the database. Pages that may have changed are listed even if they are past both ends. */
 static uint32_t list_all(boddurci *db, struct reading *reading)
 {
     boddurci_cursor cursor;
@@ -102,7 +102,7 @@ static uint32_t list_all(boddurci *db, struct reading *reading)
     return status;
 }
 
-/* The bytes of a page that was read before, or NULL. */
+/* Returns the bytes of a page that was read before, or NULL. */
 static const uint8_t *page_in(const struct reading *before, uint32_t number)
 {
     const uint32_t *at = before->listed.at;
@@ -112,7 +112,8 @@ static const uint8_t *page_in(const struct reading *before, uint32_t number)
     return found != NULL ? before->pages + (size_t)(found - at) * before->size : NULL;
 }
 
-/* The number of pages that one read can take: listed pages from `first` on that are adjacent in the file and were not read before. */
+/* Returns the number of pages that one read can get: listed pages from `first` on that are adjacent in the file and were not read
+ * before. */
 static size_t side_by_side(const struct reading *reading, const struct reading *before, size_t first)
 {
     size_t count = 1;
@@ -123,7 +124,7 @@ static size_t side_by_side(const struct reading *reading, const struct reading *
     return count;
 }
 
-/* Reads the listed pages, except those that were read before. */
+/* Reads the listed pages. Copies those that were read before. */
 static uint32_t read_pages(int file, struct reading *reading, const struct reading *before, boddurci_fault *fault)
 {
     for (size_t i = 0, count; i < reading->listed.count; i += count) {
@@ -139,7 +140,7 @@ static uint32_t read_pages(int file, struct reading *reading, const struct readi
     return BODDURCI_DONE;
 }
 
-/* Reads all of .dir. A short .dir is not mapped, because mapping takes longer than reading. */
+/* Reads all of .dir. A short .dir is read without a mapping, which would take longer. */
 static uint32_t read_directory(int file, struct reading *reading, boddurci_fault *fault)
 {
     enum { SHORT = 65536 };
@@ -154,7 +155,7 @@ static uint32_t read_directory(int file, struct reading *reading, boddurci_fault
     return boddurci_read_at(file, 0, directory->at, length) == 0 ? BODDURCI_DONE : boddurci_fail_by_system(fault, "a file cannot be read");
 }
 
-/* Reads the directory, or the listed pages. After the first save of a base its files are open already. A missing file has no bytes. */
+/* Reads the directory or the listed pages. From the second save of a base on its files are already open. A missing file has no bytes. */
 static uint32_t read_part(boddurci_base *base, enum boddurci_file which, struct reading *reading, const struct reading *before,
                           boddurci_fault *fault)
 {
@@ -183,11 +184,11 @@ static uint32_t read_listed(boddurci_base *base, struct reading *reading, const 
 
 /* ---- planning */
 
-/* One save. */
+/* The state of one save. */
 struct saving {
-    int insists;                   /* it overwrites the changes of another program */
+    int insists;                   /* the save overwrites changes of another program */
     int are_names_same;            /* all names lead to the files of the last save */
-    int compares;                  /* the pages that the base has not changed must equal those of the file */
+    int compares;                  /* the pages that the base has not changed must be the same in the file */
     enum boddurci_change change;   /* how the files differ from the notes of the last save */
     enum boddurci_file which;      /* which file differs */
     struct boddurci_note found[2]; /* the present state of both files */
@@ -195,14 +196,14 @@ struct saving {
     struct boddurci_bytes plan;
 };
 
-/* The numbers of a list as an argument: never NULL, even if the list is empty. */
+/* Returns the numbers of a list as an argument, which must not be NULL even if the list is empty. */
 static const uint32_t *numbers_of(const struct numbers *numbers)
 {
     static const uint32_t none;
     return numbers->at != NULL ? numbers->at : &none;
 }
 
-/* Room for a plan that changes each block of the pages, up to a limit, so that a plan is usually made once. */
+/* Returns a length that is enough for a plan that changes every block of the pages, up to a limit, so that a plan is usually made once. */
 static size_t room_of(const struct reading *reading)
 {
     enum { BLOCK = 1024, CHANGE = 9 + 2 * BLOCK, MOST = 8192, LEAST = 65536 };
@@ -210,8 +211,8 @@ static size_t room_of(const struct reading *reading)
     return LEAST + (blocks < MOST ? blocks : MOST) * CHANGE;
 }
 
-/* Makes the plan of a save. The first BODDURCI_PLAN_AT bytes of its memory are left free for the log record. The plan is empty if the files
- * equal the database already. Free it in any case. */
+/* Makes the plan of a save. Leaves the first BODDURCI_PLAN_AT bytes of its memory free for the head of the log record. The plan is empty if
+ * the files already equal the database. Free it even if the call fails. */
 static uint32_t plan_of(boddurci *db, const struct reading *reading, struct boddurci_bytes *plan)
 {
     const uint8_t *directory = or_none(reading->directory);
@@ -232,7 +233,7 @@ static uint32_t plan_of(boddurci *db, const struct reading *reading, struct bodd
     return status;
 }
 
-/* Reads the listed pages from the page cache of the system, except those that were read before. */
+/* Reads the listed pages from the system's page cache, and copies those that were read before. Fails if a page is not in the cache. */
 static int read_cached(int file, struct reading *reading, const struct reading *before)
 {
     for (size_t i = 0; i < reading->listed.count; i++) {
@@ -247,8 +248,8 @@ static int read_cached(int file, struct reading *reading, const struct reading *
     return 0;
 }
 
-/* Lists the pages again, and reads those that other threads have changed meanwhile, if they are in the page cache: the caller has the mutex
- * and must not wait for the disk. Returns 0 if it has read them; otherwise it changes nothing. */
+/* Lists the pages again, and reads those that other threads have changed meanwhile, if they are in the page cache: the caller holds the
+ * mutex and must not wait for the disk. If it fails, it changes nothing. */
 static int read_more(boddurci_base *base, struct saving *saving)
 {
     struct reading *before = &saving->reading, more = {.length = before->length, .size = before->size};
@@ -269,7 +270,7 @@ static int read_more(boddurci_base *base, struct saving *saving)
     return is_read;
 }
 
-/* Lists the pages to read, reads them, and plans. It holds the mutex while it lists and plans; while it reads, only if `holds` is 1. */
+/* Lists the pages to read, reads them, and plans. Holds the mutex while it lists and plans, and also while it reads if `holds` is 1. */
 static uint32_t try_plan(boddurci_base *base, struct saving *saving, const struct reading *before, int holds, boddurci_fault *fault)
 {
     boddurci *db = boddurci_take_own(base);
@@ -297,7 +298,7 @@ static uint32_t try_plan(boddurci_base *base, struct saving *saving, const struc
 
 enum { TRIES = 3 };
 
-/* Plans. Starts over if other threads have changed more pages meanwhile; after TRIES attempts it holds the mutex while it reads. */
+/* Makes a plan. Starts over if other threads have changed more pages meanwhile. After TRIES attempts it holds the mutex while it reads. */
 static uint32_t plan_now(boddurci_base *base, struct saving *saving, boddurci_fault *fault)
 {
     uint32_t status = BODDURCI_STALE;
@@ -310,7 +311,7 @@ static uint32_t plan_now(boddurci_base *base, struct saving *saving, boddurci_fa
     return status;
 }
 
-/* Marks the pages of a plan that was not carried out as changed again. If that fails, the next save reads all pages. */
+/* Marks the pages of a plan that was not executed as changed again. If that fails, the next save reads all pages. */
 static void mark_again(boddurci_base *base, const struct saving *saving)
 {
     const struct numbers *numbers = saving->compares ? &saving->reading.own : &saving->reading.listed;
@@ -335,8 +336,8 @@ static void note_change(boddurci_base *base, const struct saving *saving)
         snprintf(base->change, sizeof base->change, "%s has %llu bytes, and had %llu", names[saving->which], length, before);
 }
 
-/* The fault of a save that would overwrite the changes of another program. It closes the log if it can: the records do not belong to
- * these files, and the next opening must not apply them. */
+/* Sets the fault of a save that would overwrite the changes of another program. Closes the log if possible, since its records do not belong
+ * to these files, and the next opening must not apply them. */
 static uint32_t is_changed(boddurci_base *base, boddurci_fault *fault)
 {
     boddurci_fault second;
@@ -358,8 +359,8 @@ static int has_own_changes(boddurci_base *base)
     return status != BODDURCI_DONE || count != 0;
 }
 
-/* Before any write: checks by lengths and times whether another program has changed the files. If only times differ, all pages are compared.
- * That is not enough if the other program may have written a page that the base has changed too: then the save is refused. */
+/* Checks before any write, by lengths and times, whether another program has changed the files. If only times differ, all pages will be
+ * compared. That does not help if the other program may have written a page that the base has changed too: then it refuses the save. */
 static uint32_t must_be_ours(boddurci_base *base, struct saving *saving, boddurci_fault *fault)
 {
     int is_known = base->is_noted || base->doubt != BODDURCI_SAME, is_other = saving->change == BODDURCI_OTHERS;
@@ -373,8 +374,8 @@ static uint32_t must_be_ours(boddurci_base *base, struct saving *saving, boddurc
     return base->change[0] != 0 && !saving->insists ? is_changed(base, fault) : BODDURCI_DONE;
 }
 
-/* Searches a plan for a change of another program: a page that the base has not changed, or anything if the base has changed no page.
- * boddurci.h has the form of a plan. */
+/* Searches a plan for a change of another program: a change of a page that the base has not changed, or any change if the base has changed
+ * no page. boddurci.h has the form of a plan. */
 static void compare(boddurci_base *base, const struct saving *saving)
 {
     enum { HEADER = 28, CHANGE = 9 };
@@ -393,7 +394,7 @@ static void compare(boddurci_base *base, const struct saving *saving)
     }
 }
 
-/* After the plan: checks whether another program has changed pages, or is writing. If so the plan is not carried out. */
+/* Checks after the plan whether another program has changed pages, or is writing. If so, the plan is not executed. */
 static uint32_t must_stay_ours(boddurci_base *base, const struct saving *saving, enum boddurci_change again, enum boddurci_file which,
                                boddurci_fault *fault)
 {
@@ -413,7 +414,7 @@ static uint32_t must_stay_ours(boddurci_base *base, const struct saving *saving,
 
 /* ---- saving */
 
-/* Carries out the plan. If that fails its pages count as changed again. */
+/* Executes the plan. If that fails, marks its pages as changed again. */
 static uint32_t do_plan(boddurci_base *base, const struct saving *saving, boddurci_fault *fault)
 {
     int is_left = 0;
@@ -446,8 +447,8 @@ static uint32_t are_named(const boddurci_base *base, const struct boddurci_note 
     return BODDURCI_DONE;
 }
 
-/* Recovers the files after a failed save. If another program has written them, a new log begins, since its records do not belong to
- * these files. */
+/* Recovers the files after a failed save. If another program has written them, closes the log, so that a new one begins: its records do not
+ * belong to these files. */
 static uint32_t recover(boddurci_base *base, struct saving *saving, boddurci_fault *fault)
 {
     int is_ended = 0;
@@ -506,9 +507,9 @@ static void settle(boddurci_base *base, const struct saving *saving, enum boddur
     boddurci_note_saved(&base->notes, &base->logged.disk, lengths);
 }
 
-/* The save, after `prepare`. If no page has changed and the files match the notes, it reads nothing; but the first save compares the lengths
- * of the files and the directory. If the files equal the database, it writes nothing. If the save insists, and another program has written
- * the files while they were read, the next save reads all pages. */
+/* Saves after `prepare`. If no page has changed and the files match the notes, it reads nothing, except that the first save compares the
+ * lengths of the files and the directory. If the files equal the database, it writes nothing. If the save insists, and another program
+ * wrote while the files were read, the next save reads all pages. */
 static uint32_t save_prepared(boddurci_base *base, struct saving *saving, boddurci_fault *fault)
 {
     enum boddurci_file which;
@@ -525,8 +526,9 @@ static uint32_t save_prepared(boddurci_base *base, struct saving *saving, boddur
     return status;
 }
 
-/* Releases BASE.lock after a save. If the log has failed, readers would see files that lack a committed save or have half of one, so the
- * lock is held until a later save has recovered them. After CHANGED the log is closed, and readers see what the other program wrote. */
+/* Releases BASE.lock after a save. If the log has failed, it keeps the lock until a later save has recovered the files: readers would see
+ * files that lack a committed save or contain half of one. After CHANGED the log is closed, and readers see what the other program
+ * wrote. */
 static void give_files(boddurci_base *base, uint32_t status, int were_kept)
 {
     const struct boddurci_logged *logged = &base->logged;

@@ -22,7 +22,7 @@ static int64_t milliseconds(void)
     return (int64_t)time.tv_sec * 1000 + time.tv_nsec / 1000000;
 }
 
-/* The time at which a wait ends, or -1 for a wait without a limit. */
+/* Returns the time at which a wait ends, or -1 if the wait has no limit. */
 static int64_t end_of_wait(const boddurci_shared *shared)
 {
     int64_t wait = __atomic_load_n(&shared->wait, __ATOMIC_RELAXED), start = milliseconds();
@@ -37,7 +37,7 @@ static int64_t left_of(int64_t end)
     return left > 0 ? left : 0;
 }
 
-/* ---- forks. A child must not keep the locks of its parent: it would hold them after the parent was killed. */
+/* ---- forks. A child must not keep the locks of its parent: it would still hold them after the parent was killed. */
 
 static boddurci_shared *all;
 static pthread_mutex_t all_mutex = PTHREAD_MUTEX_INITIALIZER;
@@ -53,8 +53,8 @@ static void give_all(void)
     pthread_mutex_unlock(&all_mutex);
 }
 
-/* Closes the lock files of a base if another thread of the parent was in the middle of a call. That thread may just have closed a lock file,
- * and another file may have got its descriptor. So a descriptor is closed only if it still is the file that has the lock's name. */
+/* Closes, in a child, the lock files of a base if another thread of the parent was in a call. That thread may just have closed a lock file,
+ * and another file may have got its descriptor. So a descriptor is closed only if it is still the file that has the lock's name. */
 static void leave_locks_of_call(struct boddurci_place *place)
 {
     for (enum boddurci_file lock = BODDURCI_LOCK; lock <= BODDURCI_WRITER; lock++)
@@ -63,8 +63,9 @@ static void leave_locks_of_call(struct boddurci_place *place)
     boddurci_drop_locks(place);
 }
 
-/* Closes the locks in a child: the next call opens them again. If another thread was in a call, the child cannot use the base. If that call
- * was on the whole database, the child keeps the locks of the base that call_whole had opened, which is not in the list `all`. */
+/* Closes the lock files in a child; the next call opens them again. If another thread of the parent was in a call, the child cannot use the
+ * base. If that call was on the whole database, the child keeps the locks of the base that call_whole had opened, since that base is not in
+ * the list `all`. */
 static void leave_locks(void)
 {
     for (boddurci_shared *shared = all; shared != NULL; shared = shared->next) {
@@ -136,7 +137,7 @@ static boddurci_shared *new_shared(uint32_t flags)
     return NULL;
 }
 
-/* Opens the handle on an empty database; each call opens the page of its key in it. */
+/* Opens the handle on an empty database. Each call replaces it by the page of its key. */
 static uint32_t open_handle(boddurci_shared *shared, boddurci_fault *fault)
 {
     uint8_t text[40];
@@ -160,7 +161,7 @@ static uint32_t look_at_size(const boddurci_shared *shared, const char *name, bo
     return base != NULL ? BODDURCI_DONE : fault->status;
 }
 
-/* Whether the redo file has its mark. */
+/* Returns whether the redo file has its mark. */
 static int has_marked(const boddurci_shared *shared)
 {
     int redo;
@@ -173,8 +174,8 @@ static int has_marked(const boddurci_shared *shared)
     return is_marked;
 }
 
-/* Checks that the database exists. After a crash of the machine .pag may be missing although a marked log has its bytes; the first call
- * then makes the file. */
+/* Checks that the database exists. After a crash of the machine .pag may be missing although a marked log has its bytes. In that case the
+ * first call makes the file. */
 static uint32_t look_for_pages(boddurci_shared *shared, boddurci_fault *fault)
 {
     int pages;
@@ -219,7 +220,7 @@ boddurci_shared *boddurci_open_shared(const char *name, uint32_t flags, boddurci
     return NULL;
 }
 
-/* In a child of a process that was in the middle of a call the memory of the database is not freed. */
+/* In a child that was forked during a call of another thread, the memory of the database is not freed. */
 void boddurci_close_shared(boddurci_shared *shared)
 {
     if (shared == NULL)
@@ -265,7 +266,7 @@ static int lock_until(pthread_mutex_t *mutex, int64_t end)
     return pthread_mutex_timedlock(mutex, &time);
 }
 
-/* Takes the mutex for a call. */
+/* Locks the mutex for a call. */
 static uint32_t begin(boddurci_shared *shared, int64_t end, boddurci_fault *fault)
 {
     boddurci_no_fault(fault);
@@ -280,7 +281,8 @@ static uint32_t begin(boddurci_shared *shared, int64_t end, boddurci_fault *faul
 
 /* ---- the whole database */
 
-/* Returns a name of the base that leads to the open folder, even if the folder was renamed. */
+/* Returns a name of the base that leads to the open folder, even if the folder was renamed. Returns the caller's name if /proc is
+ * missing. */
 static char *whole_name(const boddurci_shared *shared)
 {
     const char *pages = shared->place.names[BODDURCI_PAGES];
@@ -298,7 +300,7 @@ static char *whole_name(const boddurci_shared *shared)
     return name;
 }
 
-/* Submits all programs of the handle to another database: they get the same numbers there. */
+/* Submits all programs of the shared base to another database. They get the same numbers there. */
 static uint32_t submit_all(const boddurci_shared *shared, boddurci *db)
 {
     uint8_t text[1];
@@ -314,7 +316,7 @@ static uint32_t submit_all(const boddurci_shared *shared, boddurci *db)
     return status;
 }
 
-/* Makes a call on the whole database, and saves it. */
+/* Executes a command on the whole database and saves it. */
 static uint32_t answer_whole(const boddurci_shared *shared, boddurci_base *base, struct boddurci_command *command, boddurci_fault *fault)
 {
     boddurci *db = boddurci_take(base);
@@ -327,7 +329,7 @@ static uint32_t answer_whole(const boddurci_shared *shared, boddurci_base *base,
     return status == BODDURCI_DONE ? status : boddurci_fail(fault, status, 0, boddurci_text(status));
 }
 
-/* Opens the whole database for a call, and closes it. The call is one step too, because nobody else changes the database meanwhile. */
+/* Opens the whole database for a call and closes it again. The call is still one step, since nobody else changes the database meanwhile. */
 static uint32_t call_whole(const boddurci_shared *shared, struct boddurci_command *command, int64_t end, boddurci_fault *fault)
 {
     boddurci_base *base;
@@ -360,7 +362,7 @@ static uint32_t change(boddurci_shared *shared, struct boddurci_command *command
     return status == BODDURCI_DONE && is_whole ? call_whole(shared, command, end, fault) : status;
 }
 
-/* Recovers the log, and fetches. If this user may not recover it, or another process has BASE.writer, it fetches from the whole database and
+/* Recovers the log and fetches. If this user may not recover it, or another process holds BASE.writer, fetches from the whole database and
  * applies the log in memory, for which BASE.lock is enough. */
 static uint32_t fetch_recovered(boddurci_shared *shared, struct boddurci_command *command, int64_t end, boddurci_fault *fault)
 {
@@ -381,8 +383,8 @@ struct fetching {
     int must_recover, is_whole;
 };
 
-/* Takes BASE.lock for a fetch, if the file exists. A save that waits for the lock goes first. After a signal, saves no longer go first, since
- * a wait that begins again after each signal might never end. */
+/* Takes BASE.lock for a fetch, if the file exists, and lets a save that waits for it go first. After a signal saves no longer go first: a
+ * wait that began again after each signal might never end. */
 static uint32_t take_after_saves(struct boddurci_place *place, int64_t end, boddurci_fault *fault)
 {
     uint32_t status = boddurci_take_shared(place, left_of(end), fault);
@@ -392,7 +394,7 @@ static uint32_t take_after_saves(struct boddurci_place *place, int64_t end, bodd
     return boddurci_take_call(place, 1, left_of(end), fault);
 }
 
-/* Fetches under BASE.lock, if that exists; if `yields` is not 0, after a save that waits for it. */
+/* Fetches under BASE.lock, if that exists. If `yields` is 1, a save that waits for BASE.lock goes first. */
 static uint32_t fetch_once(struct fetching *it, int yields, boddurci_fault *fault)
 {
     struct boddurci_place *place = &it->shared->place;
@@ -409,8 +411,8 @@ static int has_lock(const struct boddurci_place *place)
     return faccessat(place->folder, place->names[BODDURCI_LOCK], F_OK, 0) == 0;
 }
 
-/* Fetches. If BASE.lock was missing and exists now, the fetch is repeated: the first writer may have come meanwhile. A log that must be
- * recovered may belong to a service whose save waits for the files, so the fetch is repeated after that save. */
+/* Fetches. Repeats the fetch if BASE.lock was missing and exists now, since the first writer may have come meanwhile. A log that must be
+ * recovered may belong to a service whose save waits for the files, so it also repeats the fetch after that save. */
 static uint32_t fetch(boddurci_shared *shared, struct boddurci_command *command, int64_t end, boddurci_fault *fault)
 {
     struct fetching it = {shared, command, end, 0, 0};
@@ -424,7 +426,7 @@ static uint32_t fetch(boddurci_shared *shared, struct boddurci_command *command,
     return status == BODDURCI_DONE && it.is_whole ? call_whole(shared, command, end, fault) : status;
 }
 
-/* Makes a call, as one step. */
+/* Makes a call as one atomic step. */
 static uint32_t call(boddurci_shared *shared, struct boddurci_command *command, boddurci_fault *fault)
 {
     boddurci_fault unsaid;
@@ -486,7 +488,7 @@ uint32_t boddurci_shared_run(boddurci_shared *shared, uint32_t number, const uin
 
 /* ---- programs */
 
-/* Makes room for one more program, and copies its bytes. */
+/* Makes room for one more program, and returns a copy of its bytes, or NULL if allocation fails. */
 static uint8_t *copy_program(boddurci_shared *shared, const uint8_t *bytes, size_t length)
 {
     struct boddurci_program *programs = realloc(shared->programs, (shared->program_count + 1) * sizeof *programs);
@@ -497,7 +499,7 @@ static uint8_t *copy_program(boddurci_shared *shared, const uint8_t *bytes, size
     return copy;
 }
 
-/* Stores a copy of a program that got a new number, for calls on the whole database. Otherwise frees the copy. */
+/* Stores the copy of a program if the program got a new number, for calls on the whole database. Otherwise frees the copy. */
 static void keep_program(boddurci_shared *shared, uint32_t number, uint8_t *copy, size_t length, int is_stock)
 {
     if (number != shared->program_count) {

@@ -1,4 +1,4 @@
-/* One call of a shared base on the page of its key. The caller has the locks. */
+/* One call of a shared base on the page of its key. The caller holds the locks. */
 #define _GNU_SOURCE
 #include "boddurci_saves.h"
 #include <errno.h>
@@ -10,10 +10,10 @@
 
 /* The page of a key, and the lengths of the files that it was read from. */
 struct part {
-    size_t directory; /* the length of .dir, whose bytes are in shared->directory */
+    size_t directory; /* the length of .dir; its bytes are in shared->directory */
     size_t length;    /* of .pag */
     uint32_t number;
-    size_t size;      /* of the page, whose bytes are in shared->page */
+    size_t size;      /* of the page; its bytes are in shared->page */
 };
 
 /* ---- the files */
@@ -41,7 +41,7 @@ void boddurci_drop_files(boddurci_shared *shared)
     boddurci_disk_drop(&shared->logged.disk, BODDURCI_REDO);
 }
 
-/* Whether the open data files are those under the names. */
+/* Returns whether the open data files are those under the names. */
 static int are_named(const boddurci_shared *shared)
 {
     for (enum boddurci_file file = BODDURCI_PAGES; file <= BODDURCI_DIRECTORY; file++) {
@@ -53,7 +53,7 @@ static int are_named(const boddurci_shared *shared)
     return 1;
 }
 
-/* Opens both data files anew. */
+/* Opens both data files again. */
 static uint32_t open_data(boddurci_shared *shared, boddurci_fault *fault)
 {
     uint32_t status = BODDURCI_DONE;
@@ -64,7 +64,8 @@ static uint32_t open_data(boddurci_shared *shared, boddurci_fault *fault)
     return status;
 }
 
-/* Looks at the data files under the names, and opens them if they are not open: another program may have replaced them. */
+/* Reads the state of the data files under the names, and opens these files unless they are open: another program may have replaced the open
+ * ones. */
 static uint32_t find_files(boddurci_shared *shared, int has_times, boddurci_fault *fault)
 {
     enum { TRIES = 3 };
@@ -80,7 +81,8 @@ static uint32_t find_files(boddurci_shared *shared, int has_times, boddurci_faul
     return status;
 }
 
-/* Checks that .pag exists, if it must. Call it once the log is settled: after a crash of the machine .pag may exist in the log alone. */
+/* Checks that .pag exists, if the base requires it. Call this after the log is settled: after a crash of the machine .pag may exist only in
+ * the log. */
 static uint32_t has_to_exist(const boddurci_shared *shared, boddurci_fault *fault)
 {
     if (shared->notes.files[BODDURCI_PAGES].is_there || !(shared->flags & BODDURCI_MUST_EXIST))
@@ -89,7 +91,8 @@ static uint32_t has_to_exist(const boddurci_shared *shared, boddurci_fault *faul
     return boddurci_fail_by_system(fault, "a file cannot be opened");
 }
 
-/* Opens a data file that a call has made. */
+/* Returns an open data file, if possible the one that is open for writing. Opens the file if a call has made it since the last
+ * open_data. */
 static int file_of(boddurci_shared *shared, enum boddurci_file file)
 {
     int written = shared->logged.disk.files[file];
@@ -100,7 +103,7 @@ static int file_of(boddurci_shared *shared, enum boddurci_file file)
     return shared->files[file];
 }
 
-/* Opens the redo file under the name, unless it is open. *redo is -1 if it is missing. */
+/* Opens the redo file under the name, unless it is open. Sets *redo to -1 if it is missing. */
 static uint32_t open_redo(boddurci_shared *shared, int writes, int *redo, boddurci_fault *fault)
 {
     int *written = &shared->logged.disk.files[BODDURCI_REDO], *file = writes || *written >= 0 ? written : &shared->files[BODDURCI_REDO];
@@ -119,7 +122,7 @@ static uint32_t open_redo(boddurci_shared *shared, int writes, int *redo, boddur
 
 /* ---- the log */
 
-/* Recovers the data files, if the log has its mark, and looks at them again. */
+/* Recovers the data files if the log has its mark, and reads their state again. */
 static uint32_t recover(boddurci_shared *shared, boddurci_fault *fault)
 {
     int is_ended;
@@ -130,8 +133,8 @@ static uint32_t recover(boddurci_shared *shared, boddurci_fault *fault)
     return status == BODDURCI_DONE ? find_files(shared, 1, fault) : status;
 }
 
-/* Brings the log into a state in which the data files are the database: it has no mark, or all its records are applied. If a program that
- * does not know the log has written the data files since, they are the database, and the log is closed. */
+/* Ensures that the data files are the database: the log has no mark, or all its records are applied. If a program that does not know the
+ * log has written the data files since, they are the database, and the log is closed. */
 static uint32_t settle_log(boddurci_shared *shared, boddurci_fault *fault)
 {
     int redo;
@@ -153,8 +156,9 @@ static uint32_t settle_log(boddurci_shared *shared, boddurci_fault *fault)
     return change == BODDURCI_SAME ? BODDURCI_DONE : boddurci_logged_renew(logged, fault);
 }
 
-/* Closes the log and removes the redo file, if the log is open and the file does not have the owner, the group and the permissions of .pag:
- * other users would not accept it. A user who may write .pag and does not own it cannot give the file to its owner. */
+/* Closes an open log and removes the redo file if it does not have the owner, the group and the permissions of .pag, since other users
+ * would not accept it. That happens if this user may write .pag and does not own it, and so cannot give the redo file to the owner of
+ * .pag. */
 static void remove_unlike(boddurci_shared *shared)
 {
     boddurci_fault unsaid;
@@ -167,8 +171,8 @@ static void remove_unlike(boddurci_shared *shared)
         (void)!(boddurci_disk_remove_redo(disk) == 0 && boddurci_disk_sync(disk, BODDURCI_REDO) == 0);
 }
 
-/* Leaves a note for the next call. If another program has written during this one, the log is closed instead: its records may not belong to
- * these files. So it is if the boot is unknown, for which a note would be. If that fails, the next call recovers. */
+/* Leaves a note for the next call. Closes the log instead if another program has written during this call, since the records may not belong
+ * to these files, or if the boot id is unknown, since a note holds for one boot only. If that fails, the next call recovers the files. */
 static void leave_log(boddurci_shared *shared)
 {
     boddurci_fault unsaid;
@@ -209,7 +213,7 @@ static size_t number_at(const uint8_t *bytes)
     return (size_t)bytes[0] | (size_t)bytes[1] << 8;
 }
 
-/* Whether the page in the room has pairs, and all its keys lead to it. Each key ends where the pair before begins. */
+/* Returns whether shared->page has pairs and all its keys lead to it. Each key ends where the pair before it begins. */
 static int has_own_pairs(const boddurci_shared *shared, const struct part *part, uint32_t number)
 {
     const uint8_t *page = shared->page;
@@ -230,8 +234,8 @@ static int is_same_file(const struct boddurci_note *one, const struct boddurci_n
     return one->is_there == other->is_there && one->device == other->device && one->number == other->number && one->length == other->length;
 }
 
-/* Whether the last page of .pag belongs to the directory. Otherwise the directory may be lost, or that of another database. It is read again
- * only if a length has changed since. */
+/* Returns whether the last page of .pag belongs to the directory. If not, the directory may be lost, or belong to another database. Reads
+ * that page again only if a file or its length has changed since. */
 static int is_last_page_right(boddurci_shared *shared, const struct part *part)
 {
     const struct boddurci_note *files = shared->notes.files;
@@ -246,7 +250,7 @@ static int is_last_page_right(boddurci_shared *shared, const struct part *part)
     return 1;
 }
 
-/* Reads .dir. Sets *is_whole if the files are not such that one page can be enough. */
+/* Reads .dir. Sets *is_whole to 1 if, by the lengths of the files, one page cannot be enough. */
 static int read_directory(boddurci_shared *shared, struct part *part, int *is_whole)
 {
     const struct boddurci_note *pages = &shared->notes.files[BODDURCI_PAGES], *directory = &shared->notes.files[BODDURCI_DIRECTORY];
@@ -261,7 +265,7 @@ static int read_directory(boddurci_shared *shared, struct part *part, int *is_wh
     return file < 0 ? -1 : boddurci_read_at(file, 0, shared->directory, part->directory);
 }
 
-/* Reads the page of a key, and opens its database. */
+/* Reads the page of a key and opens its database. */
 static uint32_t open_page(boddurci_shared *shared, const struct boddurci_command *command, struct part *part, int *is_whole,
                           boddurci_fault *fault)
 {
@@ -310,13 +314,14 @@ static uint32_t answer(boddurci_shared *shared, struct boddurci_command *command
 
 /* ---- saving */
 
-/* The pages that a plan may write. A page is split at most once for each bit of a hash, so there are rarely more. */
+/* The pages that a plan may write. Rarely more are needed, since a page is split at most once for each bit of the hash. A plan that needs
+ * more is left to a call on the whole database. */
 struct written {
     uint32_t numbers[80];
     size_t count;
 };
 
-/* Plans the save of the page. Sets *length to that of the plan, which is in shared->plan. */
+/* Plans the save of the page. The plan is in shared->plan; sets *length to its length. */
 static uint32_t plan_page(boddurci_shared *shared, const struct part *part, struct written *written, size_t *length)
 {
     enum { MOST = sizeof written->numbers / sizeof *written->numbers };
@@ -344,7 +349,7 @@ static int is_zero(const uint8_t *bytes, size_t size)
     return bytes[0] == 0 && memcmp(bytes, bytes + 1, size - 1) == 0;
 }
 
-/* Whether all pages that a plan may write, except that of the key, are zeros in the file. It overwrites the room of the page. */
+/* Sets *are_free to whether all pages that a plan may write, except that of the key, are zeros in the file. Overwrites shared->page. */
 static uint32_t are_free(boddurci_shared *shared, const struct part *part, const struct written *written, int *are_free, boddurci_fault *fault)
 {
     *are_free = 1;

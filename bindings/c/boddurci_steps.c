@@ -1,4 +1,4 @@
-/* Makes the steps that the library returns, on the files or on copies of them in memory, and allocates the room that they need. */
+/* Executes the steps that the library returns, on the files or on copies of them in memory, and allocates the disk space that they need. */
 #define _GNU_SOURCE
 #include "boddurci_saves.h"
 #include <errno.h>
@@ -69,7 +69,7 @@ int boddurci_is_within_limits(const struct boddurci_steps *steps)
     return 1;
 }
 
-/* The most bytes that this process may write into a file. */
+/* Returns the greatest length of a file that this process may write (RLIMIT_FSIZE). */
 static uint64_t most_bytes(void)
 {
     struct rlimit most;
@@ -90,14 +90,14 @@ int boddurci_may_write(struct boddurci_disk *disk, const struct boddurci_steps *
     return 0;
 }
 
-/* ---- room */
+/* ---- disk space */
 
 enum { BLOCK = 4096 };
 
 /* The blocks that both data files need. */
 struct need {
     uint64_t lengths[2]; /* the present lengths of the files */
-    uint64_t absent;     /* the bytes of whole blocks that could not be allocated */
+    uint64_t absent;     /* the bytes in whole blocks that could not be allocated */
 };
 
 static int is_zero(const uint8_t *bytes, size_t size)
@@ -105,8 +105,8 @@ static int is_zero(const uint8_t *bytes, size_t size)
     return size == 0 || (bytes[0] == 0 && memcmp(bytes, bytes + 1, size - 1) == 0);
 }
 
-/* Whether a step writes a data file past its end or in a hole: there it may have no blocks. In the step the present bytes of the file
- * follow the bytes to write. */
+/* Returns whether a step writes a data file past its end or in a hole, which may have no blocks. In the bytes of a save, the present bytes
+ * of the file follow those that the step writes. */
 static int needs_room(const struct boddurci_steps *steps, const boddurci_step *step, const struct need *need)
 {
     if (step->kind != BODDURCI_WRITE || !is_data(step) || step->length == 0)
@@ -116,7 +116,7 @@ static int needs_room(const struct boddurci_steps *steps, const boddurci_step *s
     return is_zero(steps->bytes + step->from + step->length, (size_t)step->length);
 }
 
-/* Allocates the blocks of a range of a data file. If that is impossible, they count as absent. */
+/* Allocates the blocks of a range of a data file. Counts them as absent if the file system cannot do that. */
 static int reserve_run(struct boddurci_disk *disk, const boddurci_step *run, struct need *need)
 {
     if (run->length == 0)
@@ -129,7 +129,7 @@ static int reserve_run(struct boddurci_disk *disk, const boddurci_step *run, str
     return status < 0 ? -1 : 0;
 }
 
-/* Allocates the blocks that the steps after the commit may need; adjacent ones by one call. */
+/* Allocates the blocks that the steps after the commit may need. Adjacent ranges take one call. */
 static int reserve_all(struct boddurci_disk *disk, const struct boddurci_steps *steps, struct need *need)
 {
     boddurci_step run = {BODDURCI_WRITE, 0, 0, 0, 0};
@@ -148,7 +148,7 @@ static int reserve_all(struct boddurci_disk *disk, const struct boddurci_steps *
     return reserve_run(disk, &run, need);
 }
 
-/* Checks that the redo file could get `size` bytes past its end: allocates them, and frees them. */
+/* Checks that the disk has room for `size` bytes past the end of the redo file: allocates or writes them, and frees them. */
 static int try_behind(struct boddurci_disk *disk, uint64_t size)
 {
     uint64_t length;
@@ -187,7 +187,7 @@ void boddurci_lengths_of(const uint8_t *bytes, int is_after, uint64_t lengths[2]
     lengths[BODDURCI_DIRECTORY] = boddurci_number_at(at + 4);
 }
 
-/* A file that is open has the length that the plan says: the save has looked at it before. */
+/* A data file that is open has the length in the plan, since the save has checked it. A closed one is opened to get its length. */
 int boddurci_take_room(struct boddurci_disk *disk, const struct boddurci_steps *steps)
 {
     struct need need = {{0, 0}, 0};

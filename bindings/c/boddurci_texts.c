@@ -36,7 +36,7 @@ const char *boddurci_files_text(uint32_t status)
 
 /* ---- names */
 
-/* Decodes the UTF-8 character at a place, and sets its length; 0 if the bytes are invalid. */
+/* Decodes a UTF-8 character and sets *bytes to its length. Returns 0 if the bytes are invalid. */
 static uint32_t character_at(const uint8_t *at, size_t *bytes)
 {
     static const uint32_t least[5] = {0, 0, 0x80, 0x800, 0x10000};
@@ -53,7 +53,7 @@ static uint32_t character_at(const uint8_t *at, size_t *bytes)
     return character;
 }
 
-/* Whether a character is shown unescaped: it is neither a backslash nor a control, a line separator or a bidirectional control. */
+/* Returns whether a character is shown unescaped: it is not a backslash, a control, a line separator or a bidirectional control. */
 static int is_plain(uint32_t character)
 {
     if (character < 0x20 || (character >= 0x7f && character < 0xa0) || character == '\\')
@@ -63,7 +63,7 @@ static int is_plain(uint32_t character)
     return !is_mark && !is_turn && character != 0x2028 && character != 0x2029;
 }
 
-/* Escapes a character if necessary, or an invalid byte. */
+/* Copies a character, escaped if necessary, or escapes an invalid byte. Returns the number of bytes that it has read. */
 static size_t show_next(const uint8_t *at, char *shown, size_t size)
 {
     size_t bytes = 0;
@@ -97,8 +97,7 @@ void boddurci_show_name(char *room, size_t size, const char *name)
 
 /* ---- faults */
 
-/* The system's text of an errno, in a room: strerror may share its buffer between threads. The C library has one of two kinds of
- * strerror_r. */
+/* Returns the system's text for an errno. strerror may share its buffer between threads; strerror_r has one of two signatures. */
 static const char *words_of(int system, char *room, size_t size)
 {
     room[0] = 0;

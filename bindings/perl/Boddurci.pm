@@ -12,39 +12,42 @@
 #
 # The methods `counter`, `lease`, `fenced_lease`, `semaphore` and `rate_limit` run stock programs; the POD below the code describes them.
 #
-# Keys and values are bytes. A tied database is in memory; `sync` and `untie` write its files, and a crash during them leaves the database
-# before or after. One process at a time has it tied for writing ("w", "c" and "n"), and other processes wait for that one. A process that
-# only reads ("r") does not wait, and reads the last save. If a tied hash is destroyed without `untie`, or is still tied when the program
-# ends, it is saved then; if that fails a warning names the base and the fault. The locks are released in any case.
+# Every failure dies. Keys and values are bytes. A tied database is in memory, and `sync` and `untie` write its files. After a crash during
+# one of them the files have either the old database or the new one.
 #
-# If another program has changed the files meanwhile, as Perl's SDBM_File does without the locks, `sync` and `untie` die with a
-# Boddurci::Changed and write nothing; tied(%db)->sync(insist => 1) overwrites the files. In a child of the process that tied the hash every
-# call except `untie` dies, and nothing is saved. A handler of a signal may die while a hash is tied: the locks are released then. Every
-# failure dies.
+# One process at a time has a database tied for writing ("w", "c" and "n"), and other processes wait for it. A process that only reads ("r")
+# does not wait, and reads the last save. If another program has changed the files meanwhile, as Perl's SDBM_File does without the locks,
+# `sync` and `untie` die with a Boddurci::Changed and write nothing; tied(%db)->sync(insist => 1) overwrites the files.
+#
+# If a tied hash is destroyed without `untie`, or is still tied when the program ends, it is saved then. If that fails, a warning names the
+# base and the fault; the locks are released in any case. A signal handler may die while a hash is tied: the locks are released then. In a
+# child of the process that tied the hash, every call except `untie` dies, and nothing is saved.
 #
 # Options follow the mode:
 #
-#   wide => 1            pages of 8,192 bytes
+#   wide => 1            pages have 8,192 bytes
 #   any_size => 1        with wide: opens files even if they look like those of small pages
-#   unsigned_keys => 1   keys hash by unsigned bytes
-#   timeout => SECONDS   the longest wait for a process that has the database tied for writing; without it there is no limit
+#   unsigned_keys => 1   keys are hashed as unsigned bytes
+#   timeout => SECONDS   the longest wait for a process that has the database tied for writing; without it the wait has no limit
 #   no_wait => 1         tries once
-#   limit => BYTES       the greatest length of BASE.pag, by default 1 GiB, which is also the most
+#   limit => BYTES       the greatest length of BASE.pag; the default, 1 GiB, is also the maximum
 #   shared => 1          several processes change the database at the same time
 #
-# If the wait is over `tie` dies and names the other process. A change that would make BASE.pag longer than the limit dies and is not made;
-# existing pages stay. Set a limit if strangers choose your keys: they can make BASE.pag as long as the limit.
+# At the end of the wait `tie` dies and names the other process. A change that would make BASE.pag longer than the limit dies and is not
+# made; existing pages stay. Set a limit if strangers choose your keys: they can make BASE.pag as long as the limit.
 #
-# With `shared` the hash holds no lock and no pages between its calls. Each fetch, store and `run` is one durable step among all processes
-# that share the database, so `sync` does nothing. `keys` and `each` find the keys that the database has at that time. `delete` is two steps:
-# a fetch of the value that it returns, and the deletion. `timeout` and `no_wait` are for each call, and a `limit` is not possible, nor is
-# the mode "n". A child that is forked may use the hash.
+# With `shared` the hash holds no lock and no pages between calls. Each fetch, store and `run` is one durable step among all processes that
+# share the database, so `sync` does nothing. `keys` and `each` see the keys that the database has at that time. `delete` is two steps: a
+# fetch of the value that it returns, and the deletion. `timeout` and `no_wait` apply to each call, and neither `limit` nor the mode "n" is
+# possible. A forked child may use the hash.
 #
 # The module needs FFI::Platypus (Debian: libffi-platypus-perl) and the shared object that `./dbm --build-library` makes. It loads the first
-# of these: the file that BODDURCI_LIBRARY names by its absolute path, the one next to this module, the one in out/boddurci of the
-# repository, that of the system. It ignores BODDURCI_LIBRARY under `perl -T`, and if the effective user or group is not the real one.
+# of these that exists: the file that BODDURCI_LIBRARY names by its absolute path, the one next to this module, the one in out/boddurci of
+# the repository, the one that the system finds. It ignores BODDURCI_LIBRARY under `perl -T`, and if the effective user or group is not the
+# real one.
 #
-# The store behind the calls is proved. This module, the files, the locks and the order of a save are tested and not proved.
+# The store is proved, and so is the order of the calls that write a save (docs/PROOFS.md). This module, and the C code that opens, locks
+# and writes the files, are tested and not proved.
 package Boddurci;
 use strict;
 use warnings;
@@ -56,7 +59,7 @@ use FFI::Platypus::Buffer qw(scalar_to_pointer);
 use Scalar::Util qw(refaddr);
 use Time::HiRes qw(clock_gettime CLOCK_MONOTONIC);
 
-# Statuses of boddurci.h and boddurci_files.h, and the texts of some of them. The library has texts for all.
+# Statuses of boddurci.h and boddurci_files.h, and this module's texts for some of them. The library has texts for all.
 my ($DONE, $MISSING, $BAD_FILES, $REFUSED, $BAD_TEXT, $CHANGED, $IS_CLOSED, $NO_PROGRAM, $NO_STOCK) = (0, 1, 4, 5, 6, 8, 16, 20, 24);
 my ($FILE_FAILED, $LOCKED, $FORKED, $INTERRUPTED) = (32, 33, 39, 41);
 my %WORDS = (
@@ -78,15 +81,15 @@ my $INSIST = 128;
 # The sizes of the results of calls: a value, an image, a fault (with its template for unpack) and a cursor.
 my ($VALUE_MOST, $IMAGE_MOST, $FAULT, $CURSOR) = (8008, 32768, "L l Z200", 16);
 
-# The library's name for the loader of the system.
+# The name of the library for the system's loader.
 my $SONAME = "libboddurci.so.2";
 
-# Returns whether the environment may choose the library: not under -T, nor if the process has rights that its user does not have.
+# Returns whether the environment may choose the library: not under -T, nor if the process has rights that its user lacks.
 sub _obeys_environment {
     return !${^TAINT} && $< == $> && $( + 0 == $) + 0;
 }
 
-# Returns the path of the shared object. It never searches the working folder.
+# Returns the path of the shared object. Never searches the working folder.
 sub _path_of_library {
     my $named = _obeys_environment() ? $ENV{BODDURCI_LIBRARY} // "" : "";
     if ($named ne "") {
@@ -137,7 +140,7 @@ $ffi->attach(["boddurci_$_->[0]" => "_$_->[0]"], $_->[1], $_->[2]), $CALLS{$_->[
         ["shared_stock", ["opaque", "string", "uint32*"] => "uint32"],
     );
 
-# Returns a buffer of $size bytes: a reference to its bytes, which no other scalar shares, and its address and size for a call.
+# Makes a buffer of $size bytes. Returns a reference to its bytes, which no other scalar shares, and its address and size for a call.
 sub _room {
     my ($size) = @_;
     my $room = "\0" x $size;
@@ -145,7 +148,7 @@ sub _room {
     return (\$room, scalar_to_pointer($room), $size);
 }
 
-# Returns the bytes of a key, a value, an argument or a program, and their number. It takes the string of an object only once: the next
+# Returns the bytes of a key, a value, an argument or a program, and their number. Converts an object to a string only once, since the next
 # string may have another length.
 sub _given {
     my ($given) = @_;
@@ -171,10 +174,10 @@ sub _die_of {
     die bless { text => Carp::shortmess($text) }, "Boddurci::Changed";
 }
 
-# Opens the base once its locks are free. After a signal it runs the handler, and then continues to wait.
+# Opens the base once its locks are free. After a signal the handler runs, and then the wait continues.
 #
-# Perl runs handlers of signals between statements. So the statement that opens the base also stores it in the object, which closes it if a
-# handler dies. The mutex is taken and given back in one statement.
+# Perl runs signal handlers between statements. So the statement that opens the base also stores it in the object, which closes it if a
+# handler dies. For the same reason one statement takes the mutex and gives it back.
 sub _open {
     my ($self, $flags, $timeout) = @_;
     my ($fault, $at) = _room(208);
@@ -189,8 +192,8 @@ sub _open {
     ($$self->{db}) = (_take($$self->{base}), _give($$self->{base}));
 }
 
-# The records of all open databases, by address. An object is a reference to its record. If a handler of a signal dies during the
-# destruction of an object, Perl drops only the object: its record then stays here until _end_left ends it.
+# The records of all open databases, by address. An object is a reference to its record. If a signal handler dies while an object is
+# destroyed, Perl drops only the object, and its record stays here until _end_left saves and closes the database.
 my %open;
 
 sub TIEHASH {
@@ -209,7 +212,7 @@ sub TIEHASH {
     return Boddurci::Shared->_tied($name, $flags, $timeout) if $is_shared;
     my $self = $class->_opened($name, $flags, $timeout);
     _check(_limit($self->_db, $limit)) if defined $limit;
-    # An object that is destroyed before it is returned saves nothing: with the mode n that would be an empty database.
+    # An object that is destroyed before it is returned must save nothing: with the mode n it would save an empty database.
     return ($$self->{keeps} = 1, $self)[1];
 }
 
@@ -235,13 +238,13 @@ sub _db {
     return $$self->{db};
 }
 
-# Makes a call of the library. Returns its status.
+# Makes a call of the library, and returns its status.
 sub _made {
     my ($self, $call, $writes, @given) = @_;
     return $CALLS{$call}->($self->_db($writes), @given);
 }
 
-# Submits a program, in a call that uses no file.
+# Makes a call that submits a program, which uses no file, and returns its status.
 sub _submitted {
     my ($self, $call, @given) = @_;
     return $CALLS{"$$self->{kind}$call"}->($self->_db, @given);
@@ -268,7 +271,7 @@ sub STORE {
     _check($self->_made("store", 1, @pair, 1));
 }
 
-# Another process that shares the database may delete the key in between.
+# Between the fetch and the deletion another process that shares the database may delete the key.
 sub DELETE {
     my ($self, $key) = @_;
     my @key = _given($key);
@@ -298,7 +301,7 @@ sub _keys {
     return @found;
 }
 
-# Returns the length of the next key of a walk, or undef after the last.
+# Returns the length of the next key in an iteration, or undef after the last.
 sub _turn {
     my ($self, $cursor, $key, $value) = @_;
     my $status = _next($self->_db, $cursor, @$key, \my $key_length, @$value, \my $value_length);
@@ -323,7 +326,7 @@ sub SCALAR {
     return scalar(my @keys = $self->_keys);
 }
 
-# Returns a program from its text, for `run` of this database only. If it is refused, dies with the line or the unit of the fault.
+# Verifies a program from its text, and returns it, for `run` of this database only. If it is refused, dies with the offending line or unit.
 sub program {
     my ($self, $text) = @_;
     $self->_db;
@@ -346,7 +349,7 @@ sub image {
     return bless { number => $number, of => $$self->{token} }, "Boddurci::Program";
 }
 
-# Returns the stock program of a name, for `run` of this database only. If there is no such program, dies with the ten names.
+# Returns the stock program of this name, for `run` of this database only. If there is no such program, dies with the ten names.
 sub stock {
     my ($self, $name) = @_;
     my ($text) = _given($name);
@@ -356,7 +359,7 @@ sub stock {
     return bless { number => $number, of => $$self->{token} }, "Boddurci::Program";
 }
 
-# These return an object for a record; its methods run a stock program.
+# The next five methods each return an object for a record, whose methods run a stock program.
 sub counter { return Boddurci::Counter->new(@_) }
 
 sub lease { return Boddurci::Lease->new(@_) }
@@ -375,8 +378,8 @@ sub _number {
     return $program->{number};
 }
 
-# Runs a program on the record of a key, or on `blank` zeros if the key is missing. Returns the number that the program returned and its
-# reply word, or nothing if there is neither the key nor a blank. `arg` is its argument, and `now` its time, by default that of the system.
+# Runs a program on the record of a key, or on `blank` zeros if the key is missing. `arg` is its argument, and `now` its time, by default
+# that of the system. Returns the program's result and its reply word, or nothing if the key is missing and there is no `blank`.
 sub run {
     my ($self, $program, $key, %more) = @_;
     my @bytes = (_given($key), _given($more{arg}));
@@ -389,9 +392,9 @@ sub run {
     return ($end, $word);
 }
 
-# Saves both files and makes them durable. If another program has changed them, dies with a Boddurci::Changed and writes nothing, unless the
-# option `insist` is true. If a file cannot be written and only BASE.redo has the save, it warns: the next opening or save completes it, and
-# until then other programs may see half of it.
+# Saves both files and makes the changes durable. If another program has changed the files, dies with a Boddurci::Changed and writes
+# nothing, unless the option `insist` is true. If a file cannot be written and only BASE.redo has the save, warns: the next opening or save
+# completes it, and until then other programs may see half of it.
 sub sync {
     my ($self, %options) = @_;
     Boddurci::Stocked::_need_options(\%options, "insist");
@@ -403,8 +406,8 @@ sub sync {
     carp $text if $system;
 }
 
-# Saves both files, unless the database was tied for reading, and releases the locks. If the save fails the database stays open. In a child
-# of the process that tied it nothing is written, and the locks stay.
+# Saves both files, unless the database was tied for reading, and releases the locks. If the save fails, the database stays open. In a child
+# of the process that tied it, writes nothing, and the parent keeps the locks.
 sub close {
     my ($self) = @_;
     return unless $$self->{base};
@@ -419,8 +422,8 @@ sub _release {
     delete $open{ refaddr $$self };
 }
 
-# Returns a name for a message, as UTF-8. It escapes backslashes, control and format characters (also bidirectional controls), and if the
-# name is not UTF-8 all bytes that are not ASCII.
+# Returns a name for a message, as UTF-8. Escapes backslashes, control and format characters (including bidirectional controls) and, if the
+# name is not UTF-8, all bytes that are not ASCII.
 sub _shown {
     my ($text) = @_;
     utf8::encode($text) if utf8::is_utf8($text);
@@ -438,14 +441,14 @@ sub _end {
     my $is_saved = eval { $self->sync if $$self->{keeps} && $$self->{process} == $$; 1 };
     my $why = "$@";
     $why =~ s/ at \S+ line \d+\.?\n\z//;
-    # A handler of a signal may die here too.
+    # A signal handler may die here too.
     for (1 .. 100) {
         last if eval { $self->_release; 1 };
     }
     carp _shown($$self->{name}), ": the changes that were not saved are lost: $why" unless $is_saved;
 }
 
-# Ends the records whose object is gone: only this table refers to them. With a true argument, ends all records.
+# Saves and closes the databases whose object is gone: only %open refers to their record. With a true argument, all databases.
 sub _end_left {
     my ($has_all) = @_;
     for my $record (grep { $has_all || Internals::SvREFCNT(%$_) == 1 } values %open) {
@@ -456,21 +459,21 @@ sub _end_left {
 sub UNTIE { $_[0]->close }
 sub DESTROY { $_[0]->_end }
 
-# At the end of the program everything that a save needs still exists.
+# In an END block everything that a save needs still exists.
 END { _end_left(1) }
 
-# The exception of `sync` and `untie` if another program has changed the files. As a string it is the text of the fault.
+# The exception of `sync` and `untie` if another program has changed the files. Its string is the text of the fault.
 package Boddurci::Changed;
 use overload '""' => sub { $_[0]{text} }, fallback => 1;
 
-# A database that several processes change at the same time: `tie` with `shared` returns it. Its record has a handle and no base.
+# A database that several processes change at the same time. `tie` with `shared` returns it. Its record has a handle and no base.
 package Boddurci::Shared;
 use Carp qw(carp croak);
 use Cwd qw(getcwd);
 use Time::HiRes qw(clock_gettime CLOCK_MONOTONIC);
 our @ISA = ("Boddurci");
 
-# Milliseconds. A call waits as long for a lock, and then again: handlers of signals run in between.
+# In milliseconds. A call waits this long for a lock, and then repeats the wait, so that signal handlers run in between.
 my $SLICE = 200;
 
 sub _tied {
@@ -492,7 +495,7 @@ sub _db {
     return $$self->{handle} // Boddurci::_refuse($IS_CLOSED);
 }
 
-# Makes a call on the files, again while they are locked and the time is not over. Returns its status.
+# Makes a call on the files, and returns its status. While the files are locked, repeats it until the timeout.
 sub _made {
     my ($self, $call, $writes, @given) = @_;
     my ($fault, $at) = Boddurci::_room(208);
@@ -517,7 +520,7 @@ sub _keys {
     return @found;
 }
 
-# Each change is durable.
+# Does nothing, since each change is durable.
 sub sync {
     my ($self, %options) = @_;
     Boddurci::Stocked::_need_options(\%options, "insist");
@@ -529,7 +532,7 @@ sub close {
     Boddurci::_close_shared(delete $$self->{handle}) if $$self->{handle};
 }
 
-# At the end of the program there is nothing to save, and the library may be gone.
+# Does nothing while the interpreter is destroyed: there is nothing to save, and the library may be gone.
 sub _end { $_[0]->close if ${^GLOBAL_PHASE} ne "DESTRUCT" }
 
 # A key of a database, and the stock program that runs on its record.
@@ -558,7 +561,7 @@ sub _whole {
     return 0 + $number;
 }
 
-# Dies if there are other options than these.
+# Dies if there is an option with another name.
 sub _need_options {
     my ($options, @names) = @_;
     my %is_known = map { $_ => 1 } @names;
@@ -572,8 +575,8 @@ sub _time {
     return defined $options{now} ? _whole("now", $options{now}, 0) : time;
 }
 
-# Runs the program with the argument on the record. Returns its code and reply word. If both are 0 the record may be too short; then it
-# dies.
+# Runs the program with the argument on the record. Returns its code and reply word. If both are 0, the record may be too short; it dies
+# if so.
 sub _run {
     my ($self, $arg, $now) = @_;
     my ($code, $word) = $self->{db}->run($self->{program}, $self->{key}, arg => $arg, blank => $self->_size, now => $now);
@@ -635,7 +638,7 @@ sub new {
     return $class->_of($db, $key);
 }
 
-# Runs the program for an owner and a term. Returns the time, the term, the code and the reply word.
+# Runs the program for an owner and a term in seconds. Returns the time, the term, the code and the reply word.
 sub _ask {
     my ($self, $owner, $seconds, %options) = @_;
     my $now = Boddurci::Stocked::_time(%options);
@@ -745,10 +748,10 @@ Boddurci - a key-value store with a proved core, and stock programs on its recor
 
 The head of this file describes how to tie a hash, the options, and how to run your own programs.
 
-The methods below run stock programs. Their laws are proved, for a key that only one of them changes; docs/PROGRAMS.md of Boddurci has the
+The methods below run stock programs. Their laws are proved, for a key that only one of them changes. docs/PROGRAMS.md of Boddurci has the
 record, argument, codes and reply word of each. Numbers are whole and below 2^64, except amounts, which are from -2^63 to 2^63 - 1.
 
-Every failure dies and changes nothing, for example a number out of its range, or a record that is too short for the program.
+Every failure dies and changes nothing, for example if a number is out of range, or if a record is too short for the program.
 
 =head1 METHODS
 
@@ -761,38 +764,38 @@ C<lease>, C<fenced_lease>, C<rate_limit>, C<semaphore> or C<token_bucket>. Dies 
 
 =item $db->counter($key, floor => $floor, ceiling => $ceiling)
 
-A number in the first 8 bytes of the record, the lowest byte first; 0 if the key is missing. By default the floor is 0 and the
-ceiling 2^64 - 1. The program is C<bounded_counter>.
+A number in the first 8 bytes of the record, the lowest byte first. It is 0 if the key is missing. By default the floor is 0 and the ceiling
+2^64 - 1. The program is C<bounded_counter>.
 
-C<< ->add($amount) >> adds an amount, by default 1, which may be negative, and returns the new number. If that would be outside floor and
-ceiling it dies and changes nothing. C<< ->get >> returns the number.
+C<< ->add($amount) >> adds an amount, by default 1, which may be negative, and returns the new number. If that would be below the floor or
+above the ceiling, it dies and changes nothing. C<< ->get >> returns the number.
 
 =item $db->lease($key)
 
-A lease, which one owner at a time has. An owner is a number that nobody else has, such as a random one.
+A lease, which one owner at a time holds. An owner is a number that nobody else has, such as a random one.
 
 C<< ->acquire($owner, $seconds) >> gives the lease to the owner, or renews it, for C<$seconds> from now. It returns the time at which the
-lease ends, or undef if another owner has it. At that time another owner may get it: stop before. C<< ->release($owner) >> releases it, and
-returns whether the owner had it.
+lease ends, or undef if another owner holds it. When the lease ends, another owner may get it: stop before that time.
+C<< ->release($owner) >> releases it, and returns whether the owner held it.
 
-Two owners never hold a lease at one time if times never fall. Both methods take C<< now => $time >> instead of the system's seconds: pass
-it in no call, or in all of them from one clock.
+Two owners never hold a lease at one time if times never fall. Both methods take C<< now => $time >> instead of the system's time in
+seconds: pass it in no call, or in all of them from one clock.
 
 =item $db->fenced_lease($key)
 
-A lease with a token. In list context C<acquire> returns two numbers, the end and the token, or nothing if another owner has the lease; in
-scalar context it returns the end. Each new owner gets a greater token than all before, and a renewal keeps the token. Let the resource that
-the lease protects refuse a token below the greatest that it has seen.
+A lease with a token. In list context C<acquire> returns two numbers, the end and the token, or nothing if another owner holds the lease. In
+scalar context it returns the end. Each new owner gets a greater token than all owners before, and a renewal keeps the token. Let the
+resource that the lease protects refuse a token below the greatest that it has seen.
 
 =item $db->semaphore($key, $size)
 
 C<< ->acquire >> takes a permit, and returns whether one was free. It does not wait. C<< ->release >> releases a permit, and returns whether
-anybody had one. A permit does not end by itself.
+anybody held one. A permit does not expire.
 
 =item $db->rate_limit($key, $count, $seconds)
 
-C<< ->admit >> returns whether a call is admitted: at most C<$count> in each window of C<$seconds>. The first call after the end of a
-window begins the next one. It takes C<< now => $time >> like a lease.
+C<< ->admit >> returns whether a call is admitted: at most C<$count> calls in each window of C<$seconds>. The first call after the end of a
+window begins the next window. It takes C<< now => $time >> like a lease.
 
 =back
 

@@ -48,7 +48,7 @@ dies_with(sub { tied(%db)->program("mov r0, 0\nhop\n") }, qr/line 2: Mnemonic/);
 dies_with(sub { tied(%db)->image("\0") }, qr/Decode\(Length\)/);
 dies_with(sub { tied(%db)->run(7, "hits") }, qr/no program/);
 
-# A program of another database, and one of this database that was opened before.
+# A program of another database is refused.
 {
     tie my %other, "Boddurci", "$base.other", "c";
     my $program = tied(%other)->program(text_of("$top/examples/counter.s"));
@@ -56,7 +56,7 @@ dies_with(sub { tied(%db)->run(7, "hits") }, qr/no program/);
     untie %other;
 }
 
-# Names, a limit of the wait for the lock, and a signal that ends the wait.
+# Names, a timeout of the wait for the lock, and a signal that ends the wait.
 dies_with(sub { tie my %none, "Boddurci", "$base\0x", "c" }, qr/zero byte/);
 dies_with(sub { tie my %none, "Boddurci", $_, "c" }, qr/the name is empty/) for "", ".", "..", "a/", "a/.", "a/..";
 dies_with(sub { tie my %none, "Boddurci", $base, "w", timeout => -1 }, qr/a timeout is/);
@@ -75,7 +75,7 @@ dies_with(sub { tie my %other, "Boddurci", $base, "w" }, qr/this thread has it o
     }
 }
 
-# A child is refused, and saves nothing.
+# Calls in a child are refused, and the child saves nothing.
 $db{child} = "parent";
 tied(%db)->sync;
 pipe(my $reading, my $writing) or die;
@@ -104,7 +104,7 @@ is($db{1999}, "1999" x 3);
 dies_with(sub { $db{a} = 1 }, qr/only read/);
 untie %db;
 
-# The end of a child, like that of a script, does not overwrite a later save of its parent.
+# A child that ends as a script does must not overwrite a later save of its parent.
 my $script = 'tie %db, "Boddurci", shift, "c"; $db{a} = "old"; pipe $r, $w; if (!fork) { close $w; <$r>; exit } $db{a} = "new"; untie %db; close $w; wait';
 is(system($^X, "-I$top/bindings/perl", "-MBoddurci", "-e", $script, "$base.ends"), 0);
 tie %db, "Boddurci", "$base.ends", "w", no_wait => 1;
@@ -121,7 +121,7 @@ untie %db;
     ok(eval { tie my %wide, "Boddurci", "$base.small", "r", wide => 1, any_size => 1; 1 } || $@ !~ /look small/);
 }
 
-# A limit of the length of .pag. The second key would need a page of the first MiB: nothing changes, in memory or on the disk.
+# A limit of the length of .pag. The second key is refused, since it would need the first MiB. Nothing changes, in memory or on the disk.
 {
     my ($first, $second, $value) = ("far180463", "far413", "x" x 900);
     dies_with(sub { tie my %none, "Boddurci", "$base.limit", "c", limit => $_ }, qr/a limit is/) for -1, "x", "", "1\n", "1" x 16;
@@ -142,7 +142,7 @@ untie %db;
     untie %limited;
 }
 
-# An object whose string differs each time is stored as one of its strings, and nothing after that string is read.
+# An object whose string differs each time is stored as one of its strings, and no call reads past that string.
 {
     package Changing;
     my @strings;
@@ -173,7 +173,7 @@ untie %db;
     untie %strings;
 }
 
-# A hash that is destroyed without an untie is saved, and so is one that is still tied when the program ends.
+# A hash is saved if it is destroyed without an untie, or still tied when the program ends.
 for my $kind ("my", "our") {
     my $script = qq{tie $kind \%db, "Boddurci", shift, "c"; \$db{$kind} = "kept"; \$SIG{__WARN__} = sub { print STDOUT \@_ }};
     is(qx{$^X -I$top/bindings/perl -MBoddurci -e '$script' $base.end 2>&1}, "");
@@ -182,7 +182,7 @@ for my $kind ("my", "our") {
     untie %kept;
 }
 
-# If a handler of a signal dies during the destruction of an object, the next tie saves and closes the base.
+# If a signal handler dies while an object is destroyed, the next tie saves and closes the base.
 {
     no warnings "redefine";
     local $SIG{__WARN__} = sub { };
@@ -212,7 +212,7 @@ SKIP: {
     is(join(",", map { tie my %kept, "Boddurci", "$base.threads$_", "r"; $kept{a} } "", ".own"), "12,own");
 }
 
-# If the destroyed hash cannot be saved a warning names the base and the fault, and the lock is free afterwards.
+# If a destroyed hash cannot be saved, a warning names the base and the fault, and the locks are free afterwards.
 {
     my @warned;
     local $SIG{__WARN__} = sub { push @warned, @_ };
@@ -245,7 +245,7 @@ SKIP: {
     rename "$base.lost.away", "$base.lost.lock" or die;
 }
 
-# If a handler of a signal dies just after the base is open, no lock stays. The signal comes during the wait for the lock, and the system
+# If a signal handler dies just after the base is open, no lock stays. The signal comes during the wait for the lock, and the system
 # continues the wait.
 for my $mode ("w", "n") {
     tie my %held, "Boddurci", "$base.signal", "c";
@@ -276,7 +276,7 @@ for my $mode ("w", "n") {
     untie %held;
 }
 
-# The library that is loaded: the one that BODDURCI_LIBRARY names by its absolute path, if the environment is trusted.
+# Which library is loaded: the one that BODDURCI_LIBRARY names by its absolute path, if the environment is trusted.
 {
     my $folder = tempdir(CLEANUP => 1);
     chmod 0755, $folder;
@@ -456,7 +456,7 @@ for my $mode ("w", "n") {
     dies_with($_, qr/the database is closed at \Q$0\E/)
         for sub { $hits->get }, sub { $hits->add(1) }, sub { $door->release(7) }, sub { $db->stock("lease") };
 
-    # A database that is only read; and other texts of the same numbers.
+    # A database that is open for reading only; and numbers with other texts.
     tie my %read, "Boddurci", "$base.stock";
     is(tied(%read)->counter("seats")->get, 10);
     dies_with(sub { tied(%read)->counter("seats")->add(1) }, qr/only read/);
@@ -468,7 +468,7 @@ for my $mode ("w", "n") {
     untie %stock;
 }
 
-# Data that Perl's own SDBM_File stores while a hash is tied is not overwritten, unless a save insists.
+# A save does not overwrite data that Perl's own SDBM_File stores while a hash is tied, unless the save insists.
 SKIP: {
     skip "no SDBM_File", 1 unless eval { require SDBM_File; require Fcntl; 1 };
     my $beside = "$base.beside";
@@ -496,7 +496,7 @@ SKIP: {
     untie %db;
 }
 
-# Shared databases. Each call is a step of its own: there is nothing to save, and children use the hash.
+# Shared databases. Each call is a separate step, so there is nothing to save, and children may use the hash.
 {
     my $shared = "$base.shared";
     dies_with(sub { tie my %none, "Boddurci", $shared, "w", shared => 1 }, qr/No such file/);
@@ -529,7 +529,7 @@ SKIP: {
     waitpid($_, 0), is($?, 0) for @children;
     is(tied(%other)->counter("hits")->get, 81);
 
-    # Beside a process that has the whole database a change waits, runs handlers of signals meanwhile, and dies.
+    # While another process has the whole database open, a change waits, runs signal handlers meanwhile, and dies at the timeout.
     pipe(my $has_it, my $says) or die;
     my $owner = fork // die;
     if (!$owner) {
@@ -561,7 +561,7 @@ SKIP: {
     %other = ();
     is_deeply([keys %reads], []);
 
-    # An open one at the end of the program, and a name that is resolved once.
+    # A shared database that is open when the program ends, and a name that is resolved once.
     my $script = 'tie our %db, "Boddurci", "shared", "c", shared => 1; chdir "/"; $db{a} = "b"; print keys %db';
     my ($folder, $file) = $shared =~ m{^(.*)/([^/]*)$};
     is(qx{cd $folder && $^X -I$top/bindings/perl -MBoddurci -e '$script' 2>&1}, "a");

@@ -1,13 +1,13 @@
 /* The most frequent calls of boddurci.py in C: fetch, store, delete and run, without ctypes.
  *
- * This file makes plain calls: on an open database whose lock no other thread has, during no save, with keys and values that are bytes or
- * str. It leaves any other call, and one that the library refuses, to the method in Python, which begins the call again. So the results and
- * the waiting of calls are defined once, in boddurci.py.
+ * This file makes plain calls: the keys and values are bytes or str, the database is open and not being saved, and no other thread holds
+ * its lock. Any other call, and one that the library refuses, goes to the method in Python, which begins the call again. So the results of
+ * calls, and how they wait, are defined once, in boddurci.py.
  *
- * A plain call keeps the lock of the interpreter from its check of the database to its end, and calls nothing of Python in between. So no
- * other thread, no signal and no fork can interrupt it, and it takes no other lock.
+ * A plain call holds the interpreter lock from its check of the database to its end, and calls no Python code in between. So no other
+ * thread, no signal and no fork can interrupt it, and it takes no other lock.
  *
- * It is not linked to the library. boddurci.py finds and opens the library, and passes the addresses of its calls to `bind`. */
+ * This file is not linked with the library. boddurci.py finds and loads the library, and passes the addresses of its calls to `bind`. */
 #ifndef Py_LIMITED_API
 #define Py_LIMITED_API 0x03080000
 #endif
@@ -20,10 +20,10 @@
 #error "it stands on the lock of the interpreter, which this one does without"
 #endif
 
-/* The version of the interface between boddurci.py and this file. Change it with `bind`, Lock or Calls. */
+/* The version of the interface between boddurci.py and this file. Change it whenever `bind`, Lock or Calls changes. */
 enum { FORM = 1 };
 
-/* Not a status of the library: the call is not a plain one. */
+/* Not a status of the library: the call is not plain, so the method in Python makes it. */
 #define LEFT UINT32_MAX
 
 /* The calls of the library. */
@@ -34,20 +34,20 @@ static struct {
     __typeof__(boddurci_run) *run;
 } library;
 
-/* Objects of boddurci.py, and names of attributes. */
+/* Objects of boddurci.py, and attribute names. */
 static struct {
     PyObject *get_item, *set_item, *delete_item, *contains, *get, *run; /* the methods of the class in Python */
     PyObject *program, *ran;   /* the classes of programs and of the results of runs */
-    PyObject *new_tuple;       /* makes a result of a run */
+    PyObject *new_tuple;       /* tuple.__new__, which makes the result of a run */
     PyObject *clock, *seconds; /* the module time, and its function time */
-    PyObject *name_of, *name_number, *name_time, *words[5]; /* and of the arguments of a run */
+    PyObject *name_of, *name_number, *name_time, *words[5]; /* the last are the arguments of a run */
 } python;
 
 static PyTypeObject *lock_type;
 
 /* ---- the lock of a database */
 
-/* A lock of threading for threads and calls in Python, with its holder and the number of times that the holder has taken it. */
+/* A lock of threading, with its holder and the number of times that the holder has taken it. Threads and methods in Python take it. */
 typedef struct {
     PyObject_HEAD
     PyObject *inner;
@@ -117,18 +117,18 @@ static PyType_Spec lock_spec = {"_boddurci.Lock", sizeof(Lock), 0, Py_TPFLAGS_DE
 
 /* ---- the arguments of a plain call */
 
-/* The database object of boddurci.py. */
+/* A database object of boddurci.py. */
 typedef struct {
     PyObject_HEAD
-    boddurci *db; /* NULL if it is closed, or in a child of its process */
+    boddurci *db; /* NULL if it is closed, and in a child of its process */
     Lock *lock;
     PyObject *alone, *beside; /* the same object, except during a save */
-    PyObject *token;          /* the mark of its programs */
+    PyObject *token;          /* identifies its programs */
     unsigned long long changes;
     char reads;
 } Calls;
 
-/* Whether a plain call is possible now. */
+/* Returns whether a plain call is possible now. */
 static int is_free(const Calls *calls)
 {
     if (calls->db == NULL || calls->lock == NULL || calls->beside != calls->alone)
@@ -136,7 +136,7 @@ static int is_free(const Calls *calls)
     return calls->lock->held == 0 || calls->lock->holder == PyThread_get_thread_ident();
 }
 
-/* Whether a plain call may change the database. If so, counts a change. */
+/* Returns whether a plain call may change the database. If so, counts a change. */
 static int may_change(Calls *calls)
 {
     if (!is_free(calls) || calls->reads)
@@ -152,7 +152,7 @@ struct text {
     PyObject *holder;
 };
 
-/* Whether the value is bytes or str. If so, sets *text, which the caller releases. */
+/* Returns whether a value is bytes or str. If so, sets *text, which the caller releases. */
 static int has_text(PyObject *value, struct text *text)
 {
     char *at;
@@ -180,7 +180,7 @@ static void let_go(struct text *text)
     Py_DECREF(text->holder);
 }
 
-/* Whether the value is an int of 64 bits. If so, sets *number. */
+/* Returns whether a value is an int from 0 to 2^64 - 1. If so, sets *number. */
 static int has_number(PyObject *value, uint64_t *number)
 {
     if (!PyLong_CheckExact(value))
@@ -289,7 +289,7 @@ static PyObject *leave(PyObject *method, PyObject *self, PyObject *words, PyObje
     return told;
 }
 
-/* Whether a subclass has its own __getitem__: its `get` must use that. */
+/* Returns whether a subclass has its own __getitem__, which `get` must then use. */
 static int has_own_look(PyObject *self)
 {
     return PyType_GetSlot(Py_TYPE(self), Py_mp_subscript) != (void *)(uintptr_t)calls_get_item;
@@ -320,7 +320,7 @@ struct run {
     uint32_t has_blank;
 };
 
-/* Whether an attribute is this object. */
+/* Returns whether the value of an attribute is this object. */
 static int is_attribute(PyObject *object, PyObject *name, PyObject *wanted)
 {
     PyObject *value = PyObject_GetAttr(object, name);
@@ -330,7 +330,7 @@ static int is_attribute(PyObject *object, PyObject *name, PyObject *wanted)
     return is_wanted;
 }
 
-/* Whether this database has accepted the program. If so, sets its number. */
+/* Returns whether this database has accepted the program. If so, sets *number to its number. */
 static int has_program(const Calls *calls, PyObject *program, uint64_t *number)
 {
     if ((PyObject *)Py_TYPE(program) != python.program || !is_attribute(program, python.name_of, calls->token))
@@ -342,7 +342,7 @@ static int has_program(const Calls *calls, PyObject *program, uint64_t *number)
     return has;
 }
 
-/* Sets the system's seconds. Returns 0 if time.time has been replaced. */
+/* Sets *now to the system's time in seconds. Returns 0 if time.time has been replaced. */
 static int has_seconds(uint64_t *now)
 {
     if (!is_attribute(python.clock, python.name_time, python.seconds))
@@ -403,8 +403,8 @@ static PyObject *ran(const struct run *run)
 enum { PROGRAM, KEY, ARG, BLANK, NOW, WORDS };
 static const char *const run_words[WORDS] = {"program", "key", "arg", "blank", "now"};
 
-/* Collects the arguments of a run, positional or by name; a missing one is NULL. Returns whether there are a program and a key, and no
- * unknown arguments. */
+/* Collects the arguments of a run, given by position or by name; a missing one is NULL. Returns 1 if program and key are given and there
+ * are no unknown arguments. */
 static int has_words(PyObject *words, PyObject *named, PyObject *given[WORDS])
 {
     Py_ssize_t count = PyTuple_Size(words), left = named != NULL ? PyDict_Size(named) : 0;
@@ -529,14 +529,14 @@ static PyType_Slot calls_slots[] = {
     {0, NULL},
 };
 
-/* Python 3.8 needs the tag; headers of 3.10 and later do not count it among the defaults. */
+/* Python 3.8 needs the version tag. Headers of 3.10 and later do not have it among the default flags. */
 static PyType_Spec calls_spec = {
     "_boddurci.Calls", sizeof(Calls), 0, Py_TPFLAGS_DEFAULT | Py_TPFLAGS_BASETYPE | Py_TPFLAGS_HAVE_VERSION_TAG, calls_slots,
 };
 
 /* ---- the module */
 
-/* Returns the address of a function of the library. On failure it sets an exception and returns 0. */
+/* Returns the address of a function of the library. On failure sets an exception and returns 0. */
 static uintptr_t address(PyObject *addresses, const char *name)
 {
     PyObject *value = PyMapping_GetItemString(addresses, name);

@@ -1,7 +1,9 @@
-"""Times calls from Python: N stores, fetches and increments of 16-byte keys and 8-byte values, by boddurci with ctypes and with its
+"""Measures calls from Python: N stores, fetches and increments of 16-byte keys and 8-byte values, by boddurci with ctypes and with its
 extension, by the modules of dbm in this Python, and by sqlite3. BODDURCI_LIBRARY names the shared object.
 
-usage: bench.py N [ROUNDS]     prints the nanoseconds of processor time of each, the minimum of the rounds; all take turns in a round
+usage: bench.py N [ROUNDS]     prints the nanoseconds of processor time of each call, the minimum of all rounds
+
+The stores take turns in each round.
 """
 
 import importlib

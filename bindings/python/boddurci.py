@@ -13,24 +13,28 @@ The methods `counter`, `lease`, `fenced_lease`, `semaphore` and `rate_limit` of 
 (docs/PROGRAMS.md), for a key that only one of them changes.
 
 `open` can replace `dbm.open`: keys and values are bytes, and a str is encoded as UTF-8. An open database is in memory. `sync` and `close`
-write its files, and a crash during them leaves the database before or after. One process at a time has it open for writing: `open` waits
-for that process, 5 seconds by default, and then raises Locked. An `open` for reading does not wait for it, and reads its last save. If a
-program that ignores the locks, such as Perl's SDBM_File, has changed the files meanwhile, `sync` and `close` raise ChangedError and write
-nothing. A `with` block that ends by an exception closes its database without a save: it drops the changes since the last `sync`, and leaves
-the files as they are. A database that is not closed is saved and closed when its object is destroyed, or at the latest when the interpreter
-exits; if that fails, a RuntimeWarning names it. Threads may share a database. A signal handler that interrupts a call may not use the
-database, but may raise. In a child of the process that opened it every call except `close` is an error, and nothing is saved.
+write its files. After a crash during one of them the files have either the old database or the new one.
 
-Several processes change one database with `open(.., shared=True)`: each call is one durable step, and forked children may use the object.
+One process at a time has a database open for writing. `open` waits for that process, 5 seconds by default, and then raises Locked. `open`
+for reading does not wait, and reads the last save. If a program that ignores the locks, such as Perl's SDBM_File, has changed the files
+meanwhile, `sync` and `close` raise ChangedError and write nothing. Several processes can change one database with `open(.., shared=True)`:
+each call is then one durable step, and forked children may use the object.
 
-The module needs the shared object that `./dbm --build-library` makes. It loads the first of these: the file that BODDURCI_LIBRARY names by
-its absolute path, libboddurci.so next to this file, the one in out/boddurci of the repository, that of the system. It ignores
-BODDURCI_LIBRARY in `python -I` and `python -E`, and if the effective user or group is not the real one. It calls the library by ctypes. If
-the extension `_boddurci` is built (`pip install bindings/python`), fetch, store, delete and run use it: several times as fast, with the
-same results.
+A `with` block saves and closes its database at its end. After an exception it closes without a save: it drops the changes since the last
+`sync`, and leaves the files unchanged. A database that is not closed is saved and closed when its object is destroyed, or at the latest
+when the interpreter exits. If that fails, a RuntimeWarning names the database.
 
-Verified core, tested bindings: the store behind the calls is proved, and so is the order of the calls that write a save (docs/PROOFS.md).
-This module, and the code in C that opens, locks and writes the files, are tested and not proved.
+Threads may share a database. A signal handler that interrupts a call may not use the database, but may raise. In a child of the process
+that opened the database, every call except `close` raises an error, and nothing is saved.
+
+The module needs the shared object that `./dbm --build-library` makes. It loads the first of these that exists: the file that
+BODDURCI_LIBRARY names by its absolute path, libboddurci.so next to this file, the one in out/boddurci of the repository, the one that the
+system finds. It ignores BODDURCI_LIBRARY in `python -I` and `python -E`, and if the effective user or group is not the real one. It calls
+the library by ctypes. If the extension `_boddurci` is built (`pip install bindings/python`), fetch, store, delete and run use the
+extension, which is several times as fast and has the same results.
+
+Verified core, tested bindings: the store is proved, and so is the order of the calls that write a save (docs/PROOFS.md). This module, and
+the C code that opens, locks and writes the files, are tested and not proved.
 """
 
 import atexit
@@ -52,7 +56,7 @@ from typing import NamedTuple
 __all__ = ["ChangedError", "Counter", "Database", "FencedLease", "Grant", "Lease", "Locked", "Program", "ProgramError", "Ran", "RateLimit"]
 __all__ += ["RecordError", "Semaphore", "SharedDatabase", "error", "open"]
 
-# Statuses of boddurci.h and boddurci_files.h, and the texts of some of them. The library has texts for all.
+# Statuses of boddurci.h and boddurci_files.h, and this module's texts for some of them. The library has texts for all.
 _DONE, _MISSING, _REFUSED, _BAD_TEXT, _CHANGED, _IS_CLOSED, _NO_STOCK, _LOCKED, _FORKED, _INTERRUPTED = 0, 1, 5, 6, 8, 16, 24, 33, 39, 41
 _EXISTS, _SHORT_ROOM, _BAD_FILES, _FILE_FAILED = 2, 4, 7, 32
 _WORDS = {
@@ -73,7 +77,7 @@ _VALUE_MOST = 8008
 _IMAGE_MOST = 32768
 _TIME_MOST, _SIZE_MOST = 2**64 - 1, ctypes.c_size_t(-1).value
 
-# Milliseconds. A call of a shared database waits as long for a lock, and then again.
+# In milliseconds. A call of a shared database waits this long for a lock, and then repeats the wait.
 _SLICE = 200
 
 # The number of pairs that an iteration reads at a time.
@@ -81,7 +85,7 @@ _AT_A_TIME = 1000
 
 
 class error(OSError):
-    """A refusal of the store, or a system error on its files; the latter has errno and the name of the file."""
+    """A call that the store refused, or a system error on its files, which has errno and the name of the file."""
 
     def __str__(self):
         return super().__str__() if self.errno is not None else "".join(map(str, self.args[:1]))
@@ -96,8 +100,8 @@ class ProgramError(error, ValueError):
 
 
 class Locked(error):
-    """Another process has had the database open for writing, or has used its files, for longer than the timeout of `open`. The text names
-    the process if the system reports it."""
+    """Another process had the database open for writing, or used its files, for longer than the timeout. The text names the process if the
+    system reports it."""
 
 
 class ChangedError(error):
@@ -118,8 +122,7 @@ class Ran(NamedTuple):
 
 
 class Program:
-    """A program that a database has accepted, with its number. Only this database object runs it: neither another one nor a later one
-    does."""
+    """A program that a database has accepted, and its number. Only the database object that accepted it runs it."""
 
     __slots__ = ("number", "_of")
 
@@ -151,7 +154,7 @@ class _Cursor(ctypes.Structure):
     _fields_ = [("page", ctypes.c_uint32), ("end", ctypes.c_uint32), ("pair", ctypes.c_size_t)]
 
 
-# The library's name for the loader of the system.
+# The name of the library for the system's loader.
 _SONAME = "libboddurci.so.2"
 
 
@@ -163,7 +166,7 @@ def _obeys_environment():
 
 
 def _path_of_library():
-    """Returns the path of the shared object. It never searches the working folder."""
+    """Returns the path of the shared object. Never searches the working folder."""
     named = os.environ.get("BODDURCI_LIBRARY") if _obeys_environment() else None
     if named and not os.path.isabs(named):
         raise ImportError(f"BODDURCI_LIBRARY is {named!r}: give the absolute path of the library")
@@ -232,7 +235,7 @@ def _error(status):
 
 
 def _bytes(value):
-    """Returns the bytes of a key, a value or an argument. A subclass may override its bytes and length, so it is copied."""
+    """Returns the bytes of a key, a value or an argument. Copies a subclass, which may override its bytes and length."""
     if type(value) is bytes:
         return value
     if isinstance(value, str):
@@ -255,7 +258,7 @@ class _Room:
 
 
 def _image_of(source):
-    """Returns the image of a program: of its text, or the image itself."""
+    """Returns the image of a program, assembled if the source is a text."""
     if not isinstance(source, str):
         return _bytes(bytes(source))
     text, image, told = _bytes(source), _Room(_IMAGE_MOST), _Room(_VALUE_MOST)
@@ -270,7 +273,7 @@ def _image_of(source):
 
 
 class _Taken:
-    """The mutex of a base, which its save takes too. A thread that waits for it releases the interpreter lock."""
+    """The mutex of a base, as a context. A save takes the mutex too. A thread that waits for it releases the interpreter lock."""
 
     def __init__(self, base):
         self._base = base
@@ -282,13 +285,13 @@ class _Taken:
         _call.give(self._base)
 
 
-# Handlers of signals run between steps of the interpreter, and may raise. So an action that must not be interrupted, such as opening a base
-# and storing it, is one step: `map` makes the call, and the step that drains it stores the result.
+# Signal handlers run between steps of the interpreter, and may raise. So an action that must not be interrupted, such as opening a base and
+# storing it, is one step: `map` makes the call, and the function that reads the `map` stores the result in the same step.
 
 
 def _open_base(held, name, flags, timeout):
-    """Opens a base once its locks are free, and adds it to the list `held`. After a signal it runs the handler, and then continues to
-    wait."""
+    """Opens a base once its locks are free, and adds it to the list `held`. After a signal the handler runs, and then the wait
+    continues."""
     fault, end = _Fault(), None if timeout is None else time.monotonic() + timeout
     while True:
         left = -1 if end is None else int(min(max(0.0, (end - time.monotonic()) * 1000), 2.0**52))
@@ -300,11 +303,11 @@ def _open_base(held, name, flags, timeout):
 
 
 class _Database(MutableMapping):
-    """All calls of a database. If the extension is loaded it makes the plain calls, and leaves the rest to these methods."""
+    """All calls of a database. If the extension is loaded, it makes the plain calls, and these methods make the rest."""
 
-    # The base: its address for calls, or None once it is closed; and a list with it until it is closed, in a child too.
+    # The address of the base for calls, or None once it is closed; and a list that contains it until it is closed, in a child too.
     _base, _held, _process = None, (), None
-    # True if `close` saves the base: not before it is opened completely.
+    # True if `close` saves the base, once the base is opened completely.
     _keeps = False
 
     def __init__(self, name, flags, timeout=None, limit=None):
@@ -320,13 +323,13 @@ class _Database(MutableMapping):
 
     def _set_up(self, flags):
         self._base = self._held[0]
-        # The number of changes, for iterators.
+        # The number of changes. Iterators compare it to notice a change.
         self._changes = 0
         # Threads exclude each other by a lock of this object, and during a save by the mutex of the base too.
         self._taken, self._token, self._stocks = _Taken(self._base), object(), {}
         self._set_locks()
         _databases[id(self)] = self
-        # The handle is always the same, so it is taken and given back once.
+        # The handle is always the same, so it is taken once and given back.
         self._db = _call.take(self._base)
         _call.give(self._base)
         self._reads = bool(flags & _READ_ONLY)
@@ -335,7 +338,7 @@ class _Database(MutableMapping):
         self._end, self._word = ctypes.c_uint64(), ctypes.c_uint64()
         names = ("_cursor", "_length", "_other", "_place", "_end", "_word")
         self._at = {name: ctypes.addressof(getattr(self, name)) for name in names}
-        # The arguments of a fetch after its key.
+        # The arguments of a fetch that follow its key.
         self._value = (self._room.at, _VALUE_MOST, self._at["_length"])
 
     def _set_locks(self):
@@ -343,8 +346,7 @@ class _Database(MutableMapping):
         self._beside = self._alone
 
     def _leave_to_parent(self):
-        """In a child: leaves the base open, for `_release` to free its memory. If a thread of the parent was in a call, the memory is not
-        freed."""
+        """Marks the base as closed, in a child. `_release` then frees its memory, unless a thread of the parent was in a call."""
         if not self._alone.acquire(blocking=False):
             self._held = []
         self._base = self._db = None
@@ -406,7 +408,8 @@ class _Database(MutableMapping):
             return self._length.value
 
     def _walk(self, keeps):
-        """Yields `keeps()` for each pair. It reads some pairs at a time, so it needs no list of all; a change in between is an error."""
+        """Yields `keeps()` for each pair. Reads _AT_A_TIME pairs at a time, so it needs no list of all. Raises if the database changes in
+        between."""
         cursor, changes = _Cursor(), None
         where, room = ctypes.addressof(cursor), (self._key.at, _VALUE_MOST, self._at["_other"], *self._value)
         while changes is None or found:
@@ -429,12 +432,12 @@ class _Database(MutableMapping):
         return self._room.taken(self._length.value)
 
     def _all(self, keeps):
-        """Returns `keeps()` for all pairs, at one time."""
+        """Returns a list of `keeps()` for all pairs, as of one time."""
         with self._lock:
             return list(self._walk(keeps))
 
     def keys(self):
-        """Returns a list of all keys. To avoid a list, iterate over the database; that raises RuntimeError if the database changes
+        """Returns a list of all keys. To avoid the list, iterate over the database, which raises RuntimeError if the database changes
         meanwhile."""
         return self._all(self._this_key)
 
@@ -451,7 +454,7 @@ class _Database(MutableMapping):
         return self._walk(self._this_key)
 
     def setdefault(self, key, default=b""):
-        """Returns the value of a key. If the key is missing it stores the default first."""
+        """Returns the value of a key. If the key is missing, stores the default first."""
         with self._lock:
             if key not in self:
                 self[key] = default
@@ -463,8 +466,8 @@ class _Database(MutableMapping):
                 del self[key]
 
     def program(self, source):
-        """Verifies a program from its text, a str, or its image, bytes, and returns it. ProgramError says why and at which place it is
-        refused."""
+        """Verifies a program, from its text (a str) or its image (bytes), and returns it. ProgramError says why it is refused and at which
+        place."""
         with self._lock, self._beside:
             self._need_open()
             image = _image_of(source)
@@ -480,7 +483,7 @@ class _Database(MutableMapping):
     def stock(self, name):
         """Returns the stock program of this name, for `run`: "counter", "bounded_add", "bounded_counter", "compare_and_set", "sequence",
         "lease", "fenced_lease", "rate_limit", "semaphore" or "token_bucket". docs/PROGRAMS.md has the record, argument, codes and reply
-        word of each. ProgramError lists the names if there is no such program."""
+        word of each. If there is no such program, raises ProgramError, which lists the names."""
         if not isinstance(name, str):
             raise TypeError(f"the name of a program is a str, not {type(name).__name__}")
         text, number = _bytes(name), ctypes.c_uint32()
@@ -512,7 +515,7 @@ class _Database(MutableMapping):
         return Semaphore(self, key, size)
 
     def rate_limit(self, key, count, seconds):
-        """Returns the limit on this key of `count` calls in each window of `seconds`; see RateLimit."""
+        """Returns the limit of `count` calls in each window of `seconds` on this key; see RateLimit."""
         return RateLimit(self, key, count, seconds)
 
     def run(self, program, key, arg=b"", blank=None, now=None):
@@ -549,8 +552,8 @@ class _Database(MutableMapping):
         raise _error(status)
 
     def sync(self, *, insist=False):
-        """Saves both files and makes them durable. Other threads may use the database meanwhile. If another program has changed the files
-        it raises ChangedError and writes nothing, unless `insist` is true. If a file cannot be written and only FILE.redo has the save, it
+        """Saves both files and makes the changes durable. Other threads may use the database meanwhile. If another program has changed the
+        files, raises ChangedError and writes nothing, unless `insist` is true. If a file cannot be written and only FILE.redo has the save,
         warns: the next opening or save completes it, and until then other programs may see half of it."""
         fault = _Fault()
         with self._saving:
@@ -571,8 +574,8 @@ class _Database(MutableMapping):
                 warnings.warn(str(_of_fault(fault, self._name)), RuntimeWarning, stacklevel=2)
 
     def close(self):
-        """Saves both files, unless the database was opened for reading, and releases the locks. If the save fails the database stays open.
-        In a child of the process that opened it nothing is written, and the locks stay."""
+        """Saves both files, unless the database was opened for reading, and releases the locks. If the save fails, the database stays open.
+        In a child of the process that opened it, writes nothing, and the parent keeps the locks."""
         self._close(saves=True)
 
     def _close(self, saves):
@@ -592,7 +595,7 @@ class _Database(MutableMapping):
             self._release()
 
     def _release(self):
-        """Closes the base without a save. The step that removes it from the list closes it, so it is closed once."""
+        """Closes the base without a save. The step that removes it from the list also closes it, so it is closed only once."""
         self._base = self._db = None
         if self._held:
             deque(map(_call.close_files, map(self._held.pop, (0,))), maxlen=0)
@@ -613,8 +616,8 @@ class _Database(MutableMapping):
         return self
 
     def __exit__(self, kind, *_):
-        """Saves and closes the database. After an exception, also KeyboardInterrupt or SystemExit, it closes without a save: the changes
-        since the last `sync` are dropped, since they may be half of those that the block was to make."""
+        """Saves and closes the database. After an exception, including KeyboardInterrupt and SystemExit, closes it without a save: the
+        changes since the last `sync` are dropped, since they may be only half of those that the block was to make."""
         self._close(saves=kind is None)
 
     def __del__(self):
@@ -626,8 +629,8 @@ _FORM = 1
 
 
 def _of_extension():
-    """Returns the extension's classes of databases and locks, or None if it is missing, is built for another library, or is in use by
-    another interpreter of the process."""
+    """Returns the extension's classes for databases and locks. Returns None if the extension is missing, is built for another library, or
+    is used by another interpreter of the process."""
     try:
         import _boddurci
     except ImportError:
@@ -648,18 +651,18 @@ def _new_lock():
 
 
 class SharedDatabase(MutableMapping):
-    """A database that several processes change at the same time: `open(.., shared=True)` returns it. It holds no lock and no pages between
-    its calls. Each fetch, store, delete and run is one durable step among all processes and threads, so there is nothing to save.
+    """A database that several processes change at the same time. `open(.., shared=True)` returns it. It holds no lock and no pages between
+    calls. Each fetch, store, delete and run is one durable step among all processes and threads, so there is nothing to save.
 
-    Iteration, `len`, `keys`, `values` and `items` open the database for reading, and find its state at that time. The methods of a mapping
-    that make several calls, such as `pop` and `update`, are several steps; `setdefault` never replaces a value. A child that is forked may
-    use the object, unless another thread was in a call on it during the fork."""
+    Iteration, `len`, `keys`, `values` and `items` open the database for reading, and see its state at that time. The methods of a mapping
+    that make several calls, such as `pop` and `update`, are several steps; `setdefault` never replaces a value. A forked child may use the
+    object, unless another thread was in a call on it during the fork."""
 
     _handle, _held = None, ()
 
     def __init__(self, name, flags, timeout, reads):
         self._held, self._name, self._flags, self._timeout, self._reads = [], name, flags, timeout, reads
-        # Calls of the stock programs' classes take this, and each is a step by itself.
+        # The classes of the stock programs take a lock. Here it does nothing, since each call is a step by itself.
         self._lock = contextlib.nullcontext()
         self._token, self._stocks = object(), {}
         self._set_guard()
@@ -668,16 +671,16 @@ class SharedDatabase(MutableMapping):
         if not self._held:
             raise _of_fault(fault, name)
         self._handle = self._held[0]
-        # A call returns now and then, so that handlers of signals run.
+        # A call that waits returns now and then, so that signal handlers run.
         _call.shared_wait(self._handle, 0 if flags & _NO_WAIT else _SLICE if timeout is None else int(min(_SLICE, timeout * 1000)))
         _shared[id(self)] = self
 
     def _set_guard(self):
-        """The number of calls that are under way: `close` waits for them. In a child there are none."""
+        """Sets the number of running calls, for which `close` waits, to 0. A child has no running calls."""
         self._guard, self._calls = threading.Condition(), 0
 
     def _made(self, call, *words):
-        """Makes a call that touches the files, again until the time is over if the files are locked. Returns its status."""
+        """Makes a call that touches the files, and returns its status. While the files are locked, repeats it until the timeout."""
         fault, end = _Fault(), None if self._timeout is None else time.monotonic() + self._timeout
         with self._using() as handle:
             while True:
@@ -739,7 +742,7 @@ class SharedDatabase(MutableMapping):
         self._store(key, value, 1)
 
     def setdefault(self, key, default=b""):
-        """Returns the value of a key. If the key is missing it stores the default."""
+        """Returns the value of a key. If the key is missing, stores the default."""
         while self._store(key, default, 0) == _EXISTS:
             try:
                 return self[key]
@@ -884,7 +887,7 @@ def _given(now):
 
 
 def _time(now):
-    """Replaces None by the system's time. Call it under the lock of the database: so no run has an earlier time than a run before it,
+    """Replaces None by the system's time. Call it under the lock of the database, so that no run has an earlier time than the run before,
     unless the system's time falls."""
     return int(time.time()) if now is None else now
 
@@ -892,7 +895,7 @@ def _time(now):
 class _Stocked:
     """A key of a database, and the stock program that runs on its record."""
 
-    # The program, and the number of bytes of a record that it uses.
+    # The name of the program, and the number of bytes of a record that it uses.
     _name, _size = "", 8
 
     def __init__(self, db, key):
@@ -902,7 +905,7 @@ class _Stocked:
         return f"{type(self).__name__}({self._key!r})"
 
     def _run(self, now, *numbers):
-        """Runs the program with these numbers as its argument. A result of 0 and 0 may say that the record is too short, which raises
+        """Runs the program with these numbers as its argument. If code and reply word are 0, the record may be too short; if so, raises
         RecordError."""
         arg = struct.pack(f"<{len(numbers)}Q", *numbers)
         with self._db._lock:
@@ -920,11 +923,11 @@ class _Stocked:
 
 
 class Counter(_Stocked):
-    """A number from `floor` to `ceiling`, in the first 8 bytes of a record, the lowest byte first; 0 if the key is missing.
-    `db.counter(key)` returns it, and it runs the stock program bounded_counter.
+    """A number from `floor` to `ceiling`, in the first 8 bytes of a record, the lowest byte first. It is 0 if the key is missing.
+    `db.counter(key)` returns it. It runs the stock program bounded_counter.
 
-    It is proved that each run adds its amount or changes nothing, and that a number within the bounds stays within them, if every run has
-    the same bounds and nothing else changes the key."""
+    Proved: each run adds its amount or changes nothing, and a number within the bounds stays within them, if every run has the same bounds
+    and nothing else changes the key."""
 
     _name = "bounded_counter"
 
@@ -934,7 +937,7 @@ class Counter(_Stocked):
         self._floor = _whole("floor", floor, most=self._ceiling)
 
     def add(self, amount=1):
-        """Adds an amount, which may be negative, and returns the new number. If that would be outside floor and ceiling it raises
+        """Adds an amount, which may be negative, and returns the new number. If that would be below the floor or above the ceiling, raises
         OverflowError and changes nothing."""
         amount = _whole("amount", amount, -(2**63), 2**63 - 1)
         end, number = self._run(None, amount % 2**64, self._floor, self._ceiling)
@@ -949,22 +952,22 @@ class Counter(_Stocked):
 
 
 class Lease(_Stocked):
-    """A lease, which one owner at a time has until it ends. `db.lease(key)` returns it, and it runs the stock program lease. An owner is a
+    """A lease, which one owner at a time holds until it ends. `db.lease(key)` returns it. It runs the stock program lease. An owner is a
     number below 2^64 that nobody else has, such as a random one.
 
-    It is proved that two owners never hold a lease at one time, if nothing else changes the key and the times of its runs never fall. So
-    pass `now` in no call, or in all of them from one clock. At the time at which a lease ends another owner may get it: stop before."""
+    Proved: two owners never hold a lease at one time, if nothing else changes the key and the times of its runs never fall. So pass `now`
+    in no call, or in all of them from one clock. When a lease ends, another owner may get it: stop before that time."""
 
     _name, _size = "lease", 16
 
     def acquire(self, owner, seconds, now=None):
         """Gives the lease to the owner, or renews it, for `seconds` from now. Returns the time at which it ends, or None if another owner
-        has it. A renewal may be for a shorter time."""
+        holds it. A renewal may shorten it."""
         ran = self._run(_given(now), _whole("owner", owner), _whole("seconds", seconds, least=1))
         return ran.word if ran.end == 1 else None
 
     def release(self, owner, now=None):
-        """Releases the lease. Returns whether the owner had it. The lease of another owner stays, unless it has ended."""
+        """Releases the lease. Returns whether the owner held it. The lease of another owner stays, unless it has ended."""
         owner, now = _whole("owner", owner), _given(now)
         with self._db._lock:
             now, record = _time(now), self._record()
@@ -976,16 +979,16 @@ class Lease(_Stocked):
 
 
 class FencedLease(Lease):
-    """A lease with a token. `db.fenced_lease(key)` returns it, and it runs the stock program fenced_lease. Each new owner gets a greater
-    token than all before, and a renewal keeps the token. Send the token with each request to the resource, and let the resource refuse a
-    token below the greatest that it has seen: so it refuses an owner that does not know that its lease has ended.
+    """A lease with a token. `db.fenced_lease(key)` returns it. It runs the stock program fenced_lease. Each new owner gets a greater token
+    than all owners before, and a renewal keeps the token. Send the token with each request to the resource, and let the resource refuse a
+    token below the greatest that it has seen. Then it refuses an owner that does not know that its lease has ended.
 
-    It is proved that tokens rise, even if times fall, if nothing else changes the key."""
+    Proved: tokens rise, even if times fall, if nothing else changes the key."""
 
     _name, _size = "fenced_lease", 24
 
     def acquire(self, owner, seconds, now=None):
-        """Gives the lease to the owner, or renews it, for `seconds` from now. Returns a Grant, or None if another owner has it.
+        """Gives the lease to the owner, or renews it, for `seconds` from now. Returns a Grant, or None if another owner holds it. Raises
         OverflowError if all 2^64 - 1 tokens are used up."""
         owner, seconds, now = _whole("owner", owner), _whole("seconds", seconds, least=1), _given(now)
         with self._db._lock:
@@ -997,10 +1000,10 @@ class FencedLease(Lease):
 
 
 class Semaphore(_Stocked):
-    """A semaphore with `size` permits. `db.semaphore(key, size)` returns it, and it runs the stock program semaphore. A permit does not end
-    by itself: if its holder dies, it is lost until somebody releases it.
+    """A semaphore with `size` permits. `db.semaphore(key, size)` returns it. It runs the stock program semaphore. A permit does not expire:
+    if its holder dies, it is lost until somebody releases it.
 
-    It is proved that there are never more holders than permits, if every run has this size and nothing else changes the key."""
+    Proved: there are never more holders than permits, if every run has this size and nothing else changes the key."""
 
     _name = "semaphore"
 
@@ -1009,20 +1012,20 @@ class Semaphore(_Stocked):
         self._permits = _whole("size", size, least=1)
 
     def acquire(self):
-        """Takes a permit. Returns False at once if none is free."""
+        """Takes a permit. Returns False, without waiting, if no permit is free."""
         return self._run(None, 1, self._permits).end == 1
 
     def release(self):
-        """Releases a permit. Returns False if nobody has one."""
+        """Releases a permit. Returns False if nobody holds a permit."""
         return self._run(None, 0, self._permits).end == 1
 
 
 class RateLimit(_Stocked):
-    """A limit of `count` calls in each window of `seconds`. `db.rate_limit(key, count, seconds)` returns it, and it runs the stock program
-    rate_limit. The first call after the end of a window begins the next one.
+    """A limit of `count` calls in each window of `seconds`. `db.rate_limit(key, count, seconds)` returns it. It runs the stock program
+    rate_limit. The first call after the end of a window begins the next window.
 
-    It is proved that a window admits at most its count, if every run has the same count and seconds, nothing else changes the key, the
-    times of its runs never fall, and the first is greater than `seconds`. A time before the beginning of the window begins a new one."""
+    Proved: a window admits at most `count` calls, if every run has the same count and seconds, nothing else changes the key, the times of
+    its runs never fall, and the first time is greater than `seconds`. A time before the beginning of the window begins a new window."""
 
     _name, _size = "rate_limit", 16
 
@@ -1041,12 +1044,12 @@ _shared = weakref.WeakValueDictionary()
 
 
 def _all_databases(databases=_databases):
-    """Returns a list of the open databases. It is made in one step, so another thread may open one meanwhile."""
+    """Returns a list of the open databases. Makes it in one step, since another thread may open a database meanwhile."""
     return [it for it in (ref() for ref in databases.valuerefs()) if it is not None]
 
 
 def _leave_all():
-    """In a child: leaves all databases to the parent."""
+    """Leaves all databases to the parent, in a child."""
     for database in _all_databases():
         database._leave_to_parent()
         database._release()
@@ -1055,8 +1058,8 @@ def _leave_all():
 
 
 def _finish_all():
-    """Closes the databases that are still open when the interpreter exits. Their objects may not be destroyed then: a daemon thread may
-    have them."""
+    """Closes the databases that are still open when the interpreter exits. Their objects may never be destroyed, for example if a daemon
+    thread has them."""
     with contextlib.ExitStack() as stack:
         for database in _all_databases():
             stack.callback(database._finish)
@@ -1067,7 +1070,7 @@ atexit.register(_finish_all)
 
 
 def _of_fault(fault, name):
-    """Returns the exception for a fault. Like a system error it has the name of the file."""
+    """Returns the exception for a fault. It has the name of the file, like a system error."""
     text, name = fault.text.decode("utf-8", "replace"), os.fsdecode(name)
     if fault.system:
         return error(fault.system, text, name)
@@ -1077,19 +1080,19 @@ def _of_fault(fault, name):
 
 
 def open(file, flag="r", mode=0o666, *, wide=False, unsigned_keys=False, any_size=False, wait=True, timeout=5, limit=None, shared=False):
-    """Opens FILE.dir and FILE.pag, as dbm.open does: 'r' reads only, 'w' also writes, 'c' makes missing files, 'n' begins with an empty
-    database. `wide` is for pages of 8,192 bytes, `unsigned_keys` for keys that hash by unsigned bytes; the files do not say which. With
-    `wide`, files that look like those of small pages are an error, unless `any_size` is true.
+    """Opens FILE.dir and FILE.pag, as dbm.open does. The flag 'r' only reads, 'w' also writes, 'c' makes missing files, and 'n' starts with
+    an empty database. Set `wide` if pages have 8,192 bytes, and `unsigned_keys` if keys are hashed as unsigned bytes: the files do not
+    say. With `wide`, files that look like those of small pages are an error, unless `any_size` is true.
 
-    One process at a time has a database open for writing. If another process has it open, `open` waits for `timeout` seconds, or without a
-    limit if that is None, and then raises Locked; if `wait` is false it tries once. 'r' does not wait for that process, and reads its last
-    save: it only waits, at most as long, for the end of a save.
+    One process at a time has a database open for writing. `open` waits for that process at most `timeout` seconds, or without a limit if
+    `timeout` is None, and then raises Locked. If `wait` is false, it tries once. With 'r' it waits only for the end of a save, at most as
+    long, and reads the last save.
 
-    A change that would make FILE.pag longer than `limit` bytes is an error and is not made; existing pages stay. 1 GiB is the default and
-    the most. Set a limit if strangers choose your keys: they can make FILE.pag as long as the limit.
+    A change that would make FILE.pag longer than `limit` bytes is not made and raises an error; existing pages stay. The default, 1 GiB, is
+    also the maximum. Set a limit if strangers choose your keys: they can make FILE.pag as long as the limit.
 
-    With `shared` several processes may have the database open for writing: see SharedDatabase. Then `timeout` and `wait` are for each call,
-    a `limit` is not possible, nor is 'n'."""
+    With `shared`, several processes may have the database open for writing: see SharedDatabase. `timeout` and `wait` then apply to each
+    call, and neither `limit` nor 'n' is possible."""
     if flag not in ("r", "w", "c", "n"):
         raise ValueError("flag must be 'r', 'w', 'c' or 'n'")
     name = os.fsencode(file)
@@ -1125,7 +1128,7 @@ def _open_shared(name, flag, flags, timeout, limit, mode):
 
 
 def _make_empty(name, mode):
-    """Makes empty files with the requested permissions, unless .pag exists. Returns whether it has made one."""
+    """Makes empty files with the requested permissions, unless .pag exists. Returns whether it made a file."""
     how, is_new = os.O_WRONLY | os.O_CREAT | os.O_EXCL | os.O_NOFOLLOW | os.O_CLOEXEC, False
     try:
         for ending in (b".pag", b".dir"):

@@ -1,5 +1,5 @@
-"""Builds the extension of boddurci.py; pyproject.toml has the rest. If it cannot be compiled it is left out, and the module uses ctypes. A
-missing header or a missing package wheel ends the build with a sentence."""
+"""Builds the extension of boddurci.py; pyproject.toml has the rest. If the extension cannot be compiled, it is left out, and the module
+uses ctypes. If the header or the package wheel is missing, the build ends with a message."""
 
 import importlib.util
 import pathlib

@@ -1,6 +1,6 @@
 """Tests of boddurci.py: a mapping in files, programs, stock programs, threads, the cases of CPython's own tests of dbm modules, and random
-calls that are compared with a dict. BODDURCI_LIBRARY names the shared object. BODDURCI_CALLS is the number of random calls (default
-100,000). BODDURCI_WAY is "ctypes", or "extension", which must be built then; by default the tests use the extension if it is built."""
+calls that are compared with a dict. BODDURCI_LIBRARY names the shared object. BODDURCI_CALLS is the number of random calls, by default
+100,000. BODDURCI_WAY is "ctypes", or "extension", which then must be built. By default the tests use the extension if it is built."""
 
 import ctypes
 import dbm
@@ -49,7 +49,7 @@ class Mapping(InFolder):
         self.assertEqual("extension" if boddurci._extension else "ctypes", WAY)
 
     def test_lengths(self):
-        """If a subclass of bytes has a wrong length, nothing is read after the bytes."""
+        """If a subclass of bytes returns a wrong length, no call reads past the bytes."""
 
         class Long(bytes):
             def __len__(self):
@@ -71,7 +71,7 @@ class Mapping(InFolder):
                 db.program(Itself(b"\0"))
 
     def test_no_handle(self):
-        """A call of the library with NULL as its handle says that it is closed."""
+        """A call of the library with NULL as its handle reports that the handle is closed."""
         for name in ("limit", "fetch", "store", "delete", "count", "submit", "submit_stock", "run", "first", "next"):
             call = getattr(boddurci._call, name)
             nothing = [None if kind in (ctypes.c_char_p, ctypes.c_void_p) else 0 for kind in call.argtypes]
@@ -83,7 +83,7 @@ class Mapping(InFolder):
         boddurci._call.close_files(None)
 
     def test_exception_in_a_block(self):
-        """A block that ends by an exception drops the changes since the last save, and gives the locks back."""
+        """A block that ends by an exception drops the changes since the last save, and releases the locks."""
         with boddurci.open(self.base, "c") as db:
             db[b"kept"] = b"1"
         for kind in (ValueError, KeyboardInterrupt, SystemExit, boddurci.error):
@@ -113,7 +113,7 @@ class Mapping(InFolder):
             self.assertEqual(db.items(), [(b"a", b"closed by the block itself")])
 
     def test_exception_in_a_process(self):
-        """The same, where the exception ends the interpreter: nothing saves the dropped changes later."""
+        """The exception ends the interpreter too. Nothing saves the dropped changes later."""
         text = """if True:
             import boddurci, sys
             with boddurci.open(sys.argv[1], "c") as db:
@@ -241,7 +241,7 @@ class Mapping(InFolder):
                 for more in {}, {"wait": False}, {"timeout": 60}:
                     with self.assertRaisesRegex(boddurci.error, "this thread has it open already"):
                         boddurci.open(self.base, flag, **more)
-            # Another thread waits, as another process does.
+            # Another thread waits for the lock, as another process does.
             seen = []
             other = threading.Thread(target=lambda: seen.append(boddurci.open(self.base, "w")[b"a"]))
             other.start()
@@ -307,7 +307,7 @@ class Mapping(InFolder):
         return subprocess.Popen(words, env=env, stdin=subprocess.PIPE, stdout=subprocess.PIPE, text=True)
 
     def test_four_workers(self):
-        """Only one of four workers gets the database. The error of the rest names its process after 5 seconds."""
+        """Only one of four workers gets the database. After 5 seconds the other workers get an error that names its process."""
         script = """
 start = time.monotonic()
 try:
@@ -378,7 +378,7 @@ for line in iter(sys.stdin.readline, ""):
             db[b"new"] = b"y"
             with self.assertRaisesRegex(RuntimeError, "changed during iteration"):
                 list(turns)
-            # Walks are independent.
+            # Iterations are independent.
             self.assertEqual(len([1 for _, _ in zip(db, db)]), 2501)
 
     def test_a_fault_names_the_file(self):
@@ -457,7 +457,7 @@ if len(sys.argv) > 3:
 
 
 class Library(InFolder):
-    """The library that is loaded. The file next to the module is right, and the one that the environment names is not a library."""
+    """Which library is loaded. The file next to the module is a library, and the one that the environment names is not."""
 
     def setUp(self):
         super().setUp()
@@ -536,7 +536,7 @@ class Saves(InFolder):
             self.assertEqual(len(reader), 101)
 
     def test_too_long(self):
-        """The last of these keys would need a page past the end of the longest .pag: it is refused, and the rest are saved."""
+        """The last of these keys is refused, since it would need a page past the end of the longest .pag. The other keys are saved."""
         keys = [b"far180463", b"far413", b"far192442", b"far4056234"]
         db = boddurci.open(self.base, "c")
         for key in keys[:3]:
@@ -554,7 +554,7 @@ class Saves(InFolder):
             self.assertEqual(reader.keys(), [keys[1]])
 
     def test_limit(self):
-        """The second key would need a page of the first MiB: a lower limit refuses it, and nothing changes, in memory or on the disk."""
+        """The second key would need the first MiB. Under a lower limit it is refused, and nothing changes, in memory or on the disk."""
         keys, value = [b"far180463", b"far413"], b"x" * 900
         for limit, fault in ((-1, ValueError), (2**64, ValueError), ("1", TypeError)):
             with self.assertRaises(fault):
@@ -652,7 +652,7 @@ class Saves(InFolder):
             os.rename(self.base + ".away", self.base + ".lock")
 
     def beside(self, script, *words):
-        """Runs Perl's own SDBM_File on the files, which ignores the lock, in another tick of the clock than the last save."""
+        """Runs Perl's own SDBM_File on the files. It ignores the locks, and runs in another clock tick than the last save."""
         if not shutil.which("perl") or subprocess.run(["perl", "-MSDBM_File", "-e", "1"], capture_output=True).returncode:
             self.skipTest("Perl has no SDBM_File")
         time.sleep(0.05)
@@ -661,7 +661,7 @@ class Saves(InFolder):
         return subprocess.run(words, capture_output=True, text=True, check=True).stdout
 
     def test_changed_by_perl(self):
-        """Data that Perl stores while a database is open is not overwritten, whether the database has changes or not, unless a save
+        """A save does not overwrite data that Perl stores while a database is open, whether the database has changes or not, unless it
         insists."""
         db = boddurci.open(self.base, "c")
         db[b"a"] = b"1"
@@ -684,7 +684,7 @@ class Saves(InFolder):
         self.assertEqual(self.beside('print join " ", sort keys %h'), "a b c")
 
     def test_one_key_changed_by_perl(self):
-        """A write that does not change the length, on a page that the database has changed too, and on one that it has not."""
+        """A write of the same length, on a page that the database has changed too, and on a page that it has not changed."""
         for own in (True, False):
             with boddurci.open(self.base, "n") as db:
                 db.update({b"%d" % i: b"x" * 20 for i in range(1000)})
@@ -710,14 +710,14 @@ class Saves(InFolder):
             os.link(self.base + ".pag", self.base + ".link")
             db[b"b"] = b"2"
             db.sync()
-            time.sleep(0.02)  # a save does not see a time of the same tick
+            time.sleep(0.02)  # a save does not see another time within its own clock tick
             os.utime(self.base + ".pag")
             db.sync()
             db[b"c"] = b"3"
         self.assertEqual(self.beside('print join " ", sort keys %h'), "a b c perl")
 
     def test_a_time_that_is_put_back(self):
-        """A write with its time set back is found by the comparison of pages."""
+        """If a write sets the time of the file back, the comparison of pages finds it."""
         with boddurci.open(self.base, "c") as db:
             db[b"a"] = b"1"
             db.sync()
@@ -730,7 +730,7 @@ class Saves(InFolder):
         self.assertEqual(self.beside("print $h{a}"), "1")
 
     def test_what_another_program_wrote_is_read_anew(self):
-        """After the fault, a killed process and a destroyed database object leave the data of the other program."""
+        """After the fault, the data of the other program stays if the process is killed or the database object is destroyed."""
         script = "import boddurci, os, subprocess, sys, time; db = boddurci.open(sys.argv[1], 'c'); db[b'a'] = b'1'; db.sync(); time.sleep(0.05); "
         script += "subprocess.run(sys.argv[3:], check=True); db[b'a'] = b'3'\n"
         script += "try: db.sync()\nexcept boddurci.ChangedError: os.kill(os.getpid(), 9) if sys.argv[2] == 'kill' else None\n"
@@ -773,7 +773,7 @@ class Saves(InFolder):
 
 class Children(InFolder):
     def in_child(self, work):
-        """Returns the result of `work` in a forked child, which ends by os._exit."""
+        """Returns the result of `work` in a forked child, which exits by os._exit."""
         reading, writing = os.pipe()
         child = os.fork()
         if child == 0:
@@ -791,7 +791,7 @@ class Children(InFolder):
         return told
 
     def refused(self, db, program):
-        """Returns the number of calls on a database of the parent that are refused."""
+        """Returns the number of refused calls on a database of the parent."""
         calls = (
             lambda: db[b"a"],
             lambda: db.update({b"a": b"child"}),
@@ -874,7 +874,7 @@ os.wait()
                     db[b"a"] = b"1"
                     db.sync()
 
-            # Forks then happen in the middle of the thread's calls.
+            # With this interval forks happen during the thread's calls.
             interval = sys.getswitchinterval()
             sys.setswitchinterval(1e-6)
             thread = threading.Thread(target=work)
@@ -1054,7 +1054,7 @@ class Stocks(InFolder):
         self.assertNotIn(b"door", self.db)
         self.assertIs(door.release(8, now=1026), False)
         self.assertNotIn(b"door", self.db)
-        # Nobody has a lease that has ended.
+        # Nobody holds a lease that has ended.
         self.assertEqual(door.acquire(7, 1, now=2000), 2001)
         self.assertIs(door.release(7, now=2001), False)
         self.assertNotIn(b"door", self.db)
@@ -1094,8 +1094,8 @@ class Stocks(InFolder):
         self.assertEqual(self.db[b"door"], packed(8, 1024, MOST))
 
     def test_leases_never_overlap(self):
-        """Random calls of three owners at times that never fall: a lease is granted exactly if no other owner has one that has not ended,
-        and tokens rise with each new owner."""
+        """Random calls of three owners at times that never fall. A lease is granted exactly if no other owner holds it, and tokens rise
+        with each new owner."""
         rng = random.Random(3)
         for lease in (self.db.lease("door"), self.db.fenced_lease("gate")):
             now, ends, token = 0, {}, 0
@@ -1139,7 +1139,7 @@ class Stocks(InFolder):
             self.assertIs(once.admit(), True)
 
     def test_times_are_those_of_the_runs(self):
-        """A thread that waits for its turn takes the time when it has its turn, so times do not fall."""
+        """A thread that waits for the lock reads the time once it has the lock, so times do not fall."""
         clock = [100]
         gate = self.db.fenced_lease("gate")
         gate.acquire(7, 1000, now=50)
@@ -1168,7 +1168,7 @@ class Stocks(InFolder):
         self.assertEqual(len(db), 0)
 
     def calls(self, key=b"it"):
-        """Each method of each class on a key, with the length of its record."""
+        """Returns each method of each class on a key, with the length of its record."""
         db, counter = self.db, self.db.counter(key)
         return (
             (8, counter.get),
@@ -1359,7 +1359,7 @@ class Shared(InFolder):
         db.flush(), db.sync()
 
     def test_exception_in_a_block(self):
-        """Each change is durable by itself, so an exception drops none."""
+        """Each change is durable by itself, so an exception drops no change."""
         with self.assertRaises(ValueError), self.shared() as db:
             db[b"a"] = b"1"
             raise ValueError

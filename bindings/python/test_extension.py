@@ -1,5 +1,6 @@
 """Tests of `_boddurci`, the extension of boddurci.py. It has the same results as the methods in Python, on random and on unusual calls. It
-passes a call to those methods when it must, and leaks no reference. test_boddurci.py tests the rest, with the extension and without."""
+passes calls that are not plain to those methods, and leaks no reference. test_boddurci.py tests the rest, with and without the
+extension."""
 
 import inspect
 import os
@@ -30,7 +31,7 @@ class Long(bytes):
 
 
 def outcome(call, *words, **named):
-    """Returns the outcome of a call: its value, or its exception with all attributes."""
+    """Returns the result of a call: its value, or its exception with all attributes."""
     try:
         value = call(*words, **named)
     except Exception as fault:
@@ -66,7 +67,7 @@ class Left(unittest.TestCase):
 
 @NEEDS
 class Beside(InFolder):
-    """Makes each call on a database with the extension, and on one without."""
+    """Makes each call on a database with the extension and on a database without it."""
 
     def setUp(self):
         super().setUp()
@@ -74,7 +75,7 @@ class Beside(InFolder):
         self.programs = [[db.program(text) for text in (COUNTER, LEASE)] for db in self.both]
 
     def same(self, call):
-        """Makes a call, which takes the database and its programs, on both, and compares the outcomes."""
+        """Makes a call on both databases, and compares the results. The call takes a database and its programs."""
         quick, plain = (outcome(call, *it) for it in zip(self.both, self.programs))
         self.assertEqual(quick, plain)
 
@@ -128,7 +129,7 @@ class Beside(InFolder):
         self.same(lambda db, _: sorted(db.items()))
 
     def test_words(self):
-        """Arguments that a call does not take, and some that it does."""
+        """Arguments that a call does not accept, and some that it accepts."""
         for call in (
             lambda db, programs: db.run(),
             lambda db, programs: db.run(programs[0]),
@@ -245,7 +246,7 @@ class Extension(InFolder):
             self.assertEqual(db[b"a"], b"meanwhile")
 
     def test_lists_beside_a_thread(self):
-        """A list of all pairs is consistent, although it is read in several steps."""
+        """A list of all pairs is consistent, although several steps read it."""
         db, is_over = self.opened(), threading.Event()
         db.update({b"%d" % i: b"x" for i in range(2500)})
 

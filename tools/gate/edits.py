@@ -14,7 +14,7 @@ from tree import SOURCES
 HEAD = re.compile(r'^( *)(?:pub(?:\([a-z]+\))? )?(?:unsafe )?(?:const )?(?:extern "C" )?fn (\w+)', re.M)
 OWNER = re.compile(r"^(?:impl|trait|pub trait)\b(.*)$", re.M)
 SAID = re.compile(r"^fn (\S+): (?:not proved|no proof(?!: it calls))", re.M)
-# The messages of a check about a source that it can't parse or resolve. Such a source is not a refused edit.
+# The messages of a check about a source that it can't parse or resolve, which does not count as a refused edit.
 UNREADABLE = "is not in scope|has no field|is no name|operand is missing|expected the end"
 UNREAD = re.compile(rf"^(?:\./)?(?:src|specs)/\S+:\d+:\d+: error: (?:[^`]|.*(?:{UNREADABLE}))", re.M)
 REFUSED, PROVED, BAD, NOTHING = range(4)
@@ -114,7 +114,7 @@ def checked(room, texts, new):
         return BAD, set()
     if status == 1 and re.search(r"^logic=not-proved", said, re.M):
         return REFUSED, {"::".join(name.split("::")[-2:]) for name in SAID.findall(said)}
-    # Status 3: the prover met a limit. That counts as a refusal, with no function named.
+    # Status 3: the prover reached a limit, which counts as a refusal that names no function.
     return {0: PROVED, 3: REFUSED}.get(status, NOTHING), set()
 
 

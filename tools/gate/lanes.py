@@ -37,7 +37,8 @@ def chains(tasks):
 
 
 def jobs_for(task, chain, rest, spare):
-    """Returns the number of jobs of a task: one and the places that no other task can use, or two if the rest ends before its chain."""
+    """Returns the number of jobs of a task: one, plus the places that no other task can use; at least two if the rest ends before its
+    chain."""
     return 1 if task.fills else min(MOST_JOBS, max(1 + spare, 1 + (chain > rest)))
 
 

@@ -8,8 +8,8 @@ import tempfile
 
 from rooms import Room
 
-# The verdict of a crate must have none of these: functions of C, values that hide a contract, calls that end the program or never return, and
-# failures of the prover.
+# The verdict of a crate must not have these words: functions of C, values that hide a contract, calls that end the program or never return,
+# and failures of the prover.
 REFUSED = ("foreign", "hides", "partial", "may-abort", "may-serve", "bugs")
 SECONDS = 120
 CHANGED = "its files, or those of a crate below, were changed meanwhile"
@@ -36,7 +36,7 @@ def of_interest(said):
 
 
 def prove(crate, jobs):
-    """Proves a crate whose crates below are proved, and builds its library or its program. Returns what is wrong, or None."""
+    """Proves a crate whose crates below are proved, and builds its library or its program. Returns an error message, or None."""
     made = crate.name if crate.is_program else f"lib{crate.name}.a" if "staticlib" in crate.words else "rlib/stamp"
     if crate.has_passed("proof", crate.sum):
         date(crate, made)
@@ -52,12 +52,12 @@ def prove(crate, jobs):
 
 
 def date(crate, made):
-    """Sets the time of the result of a crate: ./dbm takes it for newer than the sources, except those that are changed meanwhile."""
+    """Sets the time of a crate's result, so that it is newer than the sources, except for sources that were changed meanwhile."""
     os.utime(crate.out / made, (crate.tree.began, crate.tree.began))
 
 
 def test(crate, jobs):
-    """Proves the tests of a crate, and runs them as built by both compilers. Returns what is wrong, or None."""
+    """Proves the tests of a crate, and runs them as built by both compilers. Returns an error message, or None."""
     if crate.has_passed("tests", crate.sum):
         return None
     with Room(crate, "tests") as room:
@@ -69,7 +69,7 @@ def test(crate, jobs):
 
 
 def build_otherwise(crate, jobs):
-    """Builds a proved program by Rattle's own compiler, in addition to LLVM. Returns what is wrong, or None."""
+    """Builds a proved program by Rattle's own compiler, in addition to LLVM. Returns an error message, or None."""
     made = f"{crate.name}.by-rattle"
     if crate.has_passed("program", crate.sum):
         return None
@@ -82,7 +82,7 @@ def build_otherwise(crate, jobs):
 
 
 def run(crate, program):
-    """Runs a program in a new folder with the input and arguments of its crate. Returns what is wrong, or None."""
+    """Runs a program in a new folder with the input and arguments of its crate. Returns an error message, or None."""
     given = {name: (crate.folder / name).read_bytes() for name in ("stdin", "stdout", "args", "status") if (crate.folder / name).exists()}
     words = given.get("args", b"").decode().splitlines()
     with tempfile.TemporaryDirectory(prefix="program-") as room:
@@ -108,7 +108,7 @@ def first_difference(wrote, wanted):
 
 
 def run_both(crate, jobs):
-    """Runs a proved program as built by each of the two compilers. Returns what is wrong, or None."""
+    """Runs a proved program as built by each of the two compilers. Returns an error message, or None."""
     why = build_otherwise(crate, jobs)
     for name, compiler in ((crate.name, "LLVM"), (f"{crate.name}.by-rattle", "Rattle's own compiler")):
         told = None if why else run(crate, crate.out / name)
@@ -117,7 +117,7 @@ def run_both(crate, jobs):
 
 
 def in_format(crates, rattle):
-    """Returns for each crate with files that rt fmt would change its output."""
+    """Returns the output of rt fmt for each crate that has files which rt fmt would change."""
     found = {}
     for crate in crates:
         files = [str(it) for it in crate.files() if it.suffix in (".rt", ".antt")]

@@ -23,7 +23,7 @@ def linked(one, other):
 
 
 def linked_work(one, other):
-    """The same for work in out/. Only proofs are linked: other files may be written into."""
+    """Links or copies a file of work in out/. Only proofs are linked, since other files may be written into."""
     (linked if str(one).endswith(".oantt") else shutil.copy2)(one, other)
 
 
@@ -36,7 +36,7 @@ def copy_part(one, other, copy):
 
 
 class Room:
-    """A room for one crate. With `takes_out` the crate's own out/ is moved into it, and back at the end; otherwise it has a copy of the
+    """A room for one crate. With `takes_out` it takes the crate's own out/, and moves it back at the end. Otherwise it has a copy of the
     work of checks."""
 
     def __init__(self, crate, purpose, takes_out=False):
@@ -116,7 +116,7 @@ def stop(*_):
 
 
 def lock(tree):
-    """Locks the crates against other runs of rt, after those that are running. Returns the descriptors that hold the locks."""
+    """Locks the crates against other runs of rt, once the running ones have ended. Returns the descriptors that hold the locks."""
     held = [os.open(it.folder, os.O_RDONLY) for it in tree.crates.values()]
     for crate, it in zip(tree.crates.values(), held):
         try:

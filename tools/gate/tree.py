@@ -1,4 +1,4 @@
-"""The crates of crates.txt, and the sums that show what has passed."""
+"""The crates of crates.txt, and the checksums that show which tasks have passed."""
 
 import functools
 import hashlib
@@ -10,7 +10,7 @@ import shutil
 import subprocess
 import time
 
-# The folders of a crate that a proof reads, and the files that the build of a program reads in addition.
+# The folders of a crate that a proof reads, and the files that a program's build reads in addition.
 SOURCES = ("src", "specs", "proofs", "c")
 NOTED = ("args", "status")
 TEST = re.compile(r"^\s*#\[test\]", re.M)
@@ -67,7 +67,7 @@ class Crate:
         return self.load + 5 * self.code
 
     def own_sum(self):
-        """Returns a sum of the present state of its files."""
+        """Returns the checksum of its files in their present state."""
         told = hashlib.sha256(self.line.encode())
         for path in self.files():
             told.update(f"\n{path.relative_to(self.folder)}\n".encode() + path.read_bytes())
@@ -75,12 +75,12 @@ class Crate:
 
     @functools.cached_property
     def began(self):
-        """Its own sum at the first request."""
+        """The checksum of its files at the first request."""
         return self.own_sum()
 
     @functools.cached_property
     def sum(self):
-        """A sum of all inputs of its proof: the kit, the handles, its files and those of the crates below."""
+        """The checksum of all inputs of its proof: the kit, the handles, its files and those of the crates below."""
         return summed(self.tree.kit, self.tree.handles_line, self.began, *[it.sum for it in self.uses])
 
     @functools.cached_property
@@ -88,7 +88,7 @@ class Crate:
         return summed(self.sum, *[f"{it.name}\n{it.read_text(encoding='utf-8')}" for it in self.edits])
 
     def passed(self):
-        """Returns its tasks that have passed, by name: the sum of the inputs, and the sums of the results."""
+        """Returns its tasks that have passed, by name, each with the checksums of its inputs and of its results."""
         try:
             return json.loads((self.out / "passed.json").read_text())
         except (OSError, ValueError):
@@ -101,7 +101,7 @@ class Crate:
         return kept.get("sum") == standing_on and all(file_sum(self.out / name) == it for name, it in made.items())
 
     def note_passed(self, what, standing_on, made=()):
-        """Notes that a task has passed, unless its inputs were changed meanwhile. Returns whether it is noted."""
+        """Records that a task has passed, unless its inputs were changed meanwhile. Returns whether it did."""
         if any(it.own_sum() != it.began for it in [self, *self.below]):
             return False
         with self.tree.noting:

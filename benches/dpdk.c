@@ -1,8 +1,10 @@
-/* Runs programs by DPDK's interpreter. Each line of standard input is ROUNDS RECORD ARGUMENT IMAGE, the last three in hex, with "." for no
- * bytes. The answer is the nanoseconds of a run. Each run begins with that record, like `MACHINE image` of crates/test_machine.
+/* Measures runs of programs by DPDK's interpreter. Each line of standard input is ROUNDS RECORD ARGUMENT IMAGE, the last three in hex, with
+ * "." for no bytes. The answer is the nanoseconds per run. Each run begins with a fresh copy of the record, as in `MACHINE image` of
+ * crates/test_machine.
  *
- * It calls the interpreter without DPDK's loader, which refuses valid programs of ours. The interpreter sets only R1, so three instructions
- * before the program set R2 to R4, and the five helpers are functions of the host. The layout of a loaded program is that of DPDK 22.11.
+ * This program calls the interpreter without DPDK's loader, which refuses programs that our verifier accepts. The interpreter sets only R1,
+ * so three instructions before the program set R2 to R4. The five helpers are functions of the host. The layout of a loaded program is that
+ * of DPDK 22.11.
  *
  * build: cc -O2 dpdk.c -o dpdk $(pkg-config --cflags --libs libdpdk)      (Debian: libdpdk-dev, pkg-config) */
 #include <rte_bpf.h>
@@ -11,7 +13,7 @@
 #include <string.h>
 #include <time.h>
 
-/* The first fields of the loader's result. The interpreter reads only these: the instructions and the helpers. */
+/* The first fields of the loader's result. The interpreter reads only the instructions and the helpers, which are among these fields. */
 struct loaded {
     struct rte_bpf_prm parameters;
     char more[256];

@@ -1,10 +1,10 @@
-/* Measures durable answers: threads increment counters, and each increment is on the disk before its thread begins the next one.
+/* Measures durable increments of counters by threads. Each increment is on the disk before its thread begins the next one.
  *
  * cc -O2 -DHAVE_GDBM .. benches/durable.c -lgdbm .. -pthread -o durable, with one -DHAVE_ for the store (benches/run does it)
  * usage: durable PATH THREADS SECONDS
  *
- * It makes a store of COUNTERS counters at PATH, and prints the increments per second. Then it closes the store and opens it again. The
- * status is 5 unless the counters add up to the number of increments. */
+ * It makes a store of COUNTERS counters at PATH, increments random counters for SECONDS, closes the store and opens it again. It prints the
+ * increments per second. The status is 5 if the sum of the counters cannot be read or is not the number of increments. */
 #define _GNU_SOURCE
 #include "pairs.h"
 #include <fcntl.h>
@@ -16,8 +16,8 @@
 
 enum { COUNTERS = 10000, MOST_THREADS = 64 };
 
-/* Each store has four functions, which return 0 on success. `begins` makes the store, with all counters 0, and opens it for the threads.
- * `increments` is one durable increment by a thread. `closes` closes it. `sums` opens it again, adds the counters up, and closes it. */
+/* Each store has four functions, which return 0 on success. `begins` makes the store with all counters at 0, and opens it for the threads.
+ * `increments` makes one durable increment. `closes` closes the store. `sums` opens it again, adds the counters up, and closes it. */
 #ifdef HAVE_BODDURCI
 #include "boddurci_files.h"
 
@@ -79,7 +79,7 @@ static int sums(const char *path, uint64_t *sum)
 }
 #endif
 
-/* A session of the program dbm through pipes. HAVE_SESSION is the path of the program. */
+/* A session of dbm, connected by pipes. HAVE_SESSION is the path of the program. */
 #ifdef HAVE_SESSION
 #include <sys/wait.h>
 
@@ -283,8 +283,7 @@ static int sums(const char *path, uint64_t *sum)
 }
 #endif
 
-/* The threads share one connection under a mutex. With separate connections they are slower, since a thread sleeps while the file is
- * locked. */
+/* The threads share one connection under a mutex. Separate connections are slower, since a thread that finds the file locked sleeps. */
 #ifdef HAVE_SQLITE
 #include <sqlite3.h>
 
@@ -340,8 +339,8 @@ static int sums(const char *path, uint64_t *sum)
 }
 #endif
 
-/* Only the flush: overwrites a block in place and calls fdatasync. The file and its blocks exist before, and each block belongs to one
- * thread. A block begins with the number of times that it was written. */
+/* Measures the flush alone: an increment overwrites a block in place and calls fdatasync. All blocks of the file exist before the
+ * measurement, and each block belongs to one thread. A block begins with the number of its writes. */
 #ifdef HAVE_FLUSH
 enum { BLOCK = 4096, BLOCKS = 256 };
 

@@ -1,5 +1,5 @@
-/* Measures the growth of a database, for N pairs of 16-byte keys and 8-byte values: the time per store and fetch, the length of .pag and
- * the memory per pair.
+/* Measures a database of N pairs with 16-byte keys and 8-byte values: the time per store and per fetch, and the length of .pag and the
+ * memory per pair.
  *
  * cc -O2 -I out/boddurci benches/growth.c out/boddurci/libboddurci.a -pthread -o growth
  * usage: growth N [wide]     prints: N nanoseconds_a_store nanoseconds_a_fetch bytes_of_pag_a_pair bytes_of_memory_a_pair */
@@ -17,7 +17,7 @@ static double now(void)
     return (double)t.tv_sec + (double)t.tv_nsec * 1e-9;
 }
 
-/* Returns the bytes of memory that the process uses. */
+/* Returns the resident memory of the process in bytes, or 0 if it is unknown. */
 static double memory(void)
 {
     long all, used = 0;

@@ -1,4 +1,4 @@
-/* Prints the nanoseconds to make a key as bindings/c/bench.c and peers.c do.
+/* Prints the nanoseconds that bindings/c/bench.c and peers.c need to make a key.
  * usage: keys N */
 #include <stdio.h>
 #include <stdlib.h>

@@ -1,5 +1,5 @@
-/* Runs a command, and prints the milliseconds that it took and its greatest memory in KiB. This program is small, since a child begins with
- * the memory of its parent.
+/* Runs a command, and prints its time in milliseconds and its peak memory in KiB. The peak of a child includes the memory of its
+ * parent at the start of the child, so this program is small.
  * usage: most COMMAND WORD ..      the status is that of the command */
 #include <spawn.h>
 #include <stdio.h>

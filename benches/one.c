@@ -1,5 +1,5 @@
-/* Stores or fetches one pair in a process, like a command of a shell, with other stores that a user might choose. A stored pair is on the
- * disk when the process ends.
+/* Stores or fetches one pair in a process, as a shell command would, with another store than Boddurci. A stored pair is on the disk when
+ * the process ends.
  *
  * cc -O2 -DHAVE_GDBM .. benches/one.c -lgdbm .. -o one, with one -DHAVE_ for the installed store (benches/run does it)
  * usage: one FILE fill N       stores N pairs of 16-byte keys and 100-byte values

@@ -1,5 +1,5 @@
-/* Does the work of bindings/c/bench.c with other stores that a user might choose: N stores, N fetches and N increments (fetch, add, store)
- * of 16-byte keys and 8-byte values, in files of a folder. It syncs nothing.
+/* Does the work of bindings/c/bench.c with other stores than Boddurci: N stores, N fetches and N increments (fetch, add, store) of 16-byte
+ * keys and 8-byte values, in files of a folder. It syncs nothing.
  *
  * cc -O2 -DHAVE_GDBM .. benches/peers.c -lgdbm .. -o peers, with one -DHAVE_ for each installed store (benches/run does it)
  * usage: peers STORE FOLDER N     prints: STORE stores fetches increments, each per second */
@@ -13,7 +13,7 @@
 
 enum { KEY_BYTES = 16, VALUE_BYTES = 8 };
 
-/* A store: functions that open it, and store and fetch one pair. `tick` is called after each write. */
+/* A store: functions that open the store, and that store and fetch one pair. `tick` is called after each write. */
 typedef struct {
     const char *name;
     int (*open)(const char *path);

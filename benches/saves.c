@@ -1,8 +1,8 @@
-/* Measures saves of a store that stays open in a process: without a change, with one change, and with a hundred. Each save is on the disk
- * when it ends.
+/* Measures saves of a store that stays open: after no change, after one change, and after a hundred changes. Each save is on the disk when
+ * its call returns.
  *
  * cc -O2 -DHAVE_GDBM .. benches/saves.c -lgdbm .. -o saves, with one -DHAVE_ for the installed store (benches/run does it)
- * usage: saves FILE N ROUNDS   prints three medians in microseconds, for a store of pairs 0 to N - 1 of benches/pairs.h */
+ * usage: saves FILE N ROUNDS   prints three medians in microseconds; FILE is a store with the pairs 0 to N - 1 of benches/pairs.h */
 #include "pairs.h"
 #include <stdio.h>
 #include <stdlib.h>
@@ -125,7 +125,7 @@ static int by_size(const void *one, const void *other)
     return (a > b) - (a < b);
 }
 
-/* Returns the median time of a save after `changes` changes. Each round changes other pairs. */
+/* Returns the median time of a save after `changes` changes. Each round changes different pairs. */
 static double median(unsigned changes, unsigned n, unsigned rounds)
 {
     double times[MOST_ROUNDS];

@@ -1,11 +1,11 @@
-/* Measures durable answers of processes that share one store: each increments counters, and each increment is on the disk before its
- * process begins the next one. A process opens the store once.
+/* Measures durable increments of counters by processes that share one store. Each increment is on the disk before its process begins the
+ * next one. Each process opens the store once.
  *
  * cc -O2 -DHAVE_LMDB benches/shared.c -llmdb -o shared, with one -DHAVE_ for the store (benches/run does it)
  * usage: shared PATH PROCESSES SECONDS
  *
- * It makes a store of COUNTERS counters at PATH, and prints the increments per second of all processes. The status is 5 unless the counters
- * add up to the number of increments. */
+ * It makes a store of COUNTERS counters at PATH, and prints the increments per second of all processes together. The status is 5 if the sum
+ * of the counters is not the number of increments. */
 #define _GNU_SOURCE
 #include "pairs.h"
 #include <fcntl.h>
@@ -18,8 +18,8 @@
 
 enum { COUNTERS = 20000, MOST_PROCESSES = 64 };
 
-/* Each store has five functions, which return 0 on success. `begins` makes the store, with all counters 0, and closes it. A process `opens`
- * it, `increments` counters, each durably, and `closes` it. `sums` opens it, adds the counters up, and closes it. */
+/* Each store has five functions, which return 0 on success. `begins` makes the store with all counters at 0, and closes it. A process calls
+ * `opens`, then `increments` once per durable increment, and then `closes`. `sums` opens the store, adds the counters up, and closes it. */
 #ifdef HAVE_BODDURCI
 #include "boddurci_files.h"
 
@@ -279,7 +279,7 @@ static double now(void)
     return (double)t.tv_sec + (double)t.tv_nsec * 1e-9;
 }
 
-/* Increments random counters for some seconds. Returns the number of increments, or UINT64_MAX on failure. */
+/* Increments random counters for `seconds`. Returns the number of increments, or UINT64_MAX on failure. */
 static uint64_t work(const char *path, unsigned process, double seconds)
 {
     uint64_t count = 0;

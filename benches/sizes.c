@@ -3,8 +3,9 @@
  * cc -O2 -I out/boddurci benches/sizes.c out/boddurci/libboddurci.a -pthread -o sizes (benches/run does it)
  * usage: sizes PATH PAIRS CALLS
  *
- * It makes a base of PAIRS counters at PATH, and prints six numbers: the bytes of .pag and of .dir, and the median microseconds of CALLS
- * openings, first fetches after an opening, later fetches, and durable increments. The status is 5 if a value is wrong. */
+ * It makes a base of PAIRS counters at PATH, and prints six numbers. The first two are the lengths of .pag and .dir in bytes. The others
+ * are medians in microseconds, over CALLS calls each: for opening the base, for the first fetch after that, for a later fetch, and for a
+ * durable increment. The status is 5 if a call fails. */
 #define _GNU_SOURCE
 #include "boddurci_files.h"
 #include "pairs.h"
@@ -41,7 +42,7 @@ static int fills(const char *path, unsigned pairs)
     return bad;
 }
 
-/* Fetches a counter, and sets *took to the time in microseconds. */
+/* Fetches a counter, and sets *took to the time of the fetch in microseconds. Returns 0 on success. */
 static int fetches(boddurci_shared *shared, unsigned i, double *took)
 {
     uint64_t count;
@@ -63,7 +64,7 @@ static int increments(boddurci_shared *shared, uint32_t program, unsigned i, dou
     return status != BODDURCI_DONE || end != 1;
 }
 
-/* Makes one call of each kind, on random counters. */
+/* Makes one call of each kind, on random counters. Returns 0 on success. */
 static int calls(const char *path, unsigned pairs, unsigned call)
 {
     uint32_t program;

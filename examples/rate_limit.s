@@ -6,15 +6,15 @@
 ;
 ; Code 1: admitted. The reply word is the number of further calls that the window admits.
 ; Code 0: not admitted. The reply word is the remaining time of the window. If no window is open and
-; the argument admits no calls, it is the duration of a window, and no window begins; if a length is
-; too short, it is 0.
+; the argument admits no calls, it is the duration of a window, and no window begins.
+; Code 4: the record or the argument is too short.
 ;
 ; If no window is open, a call begins one at the time of the run. So it does after the end of the
 ; last window, and also if that window began later than now: a caller whose clock is a little behind
 ; begins a new window too, and the count starts at 0 again.
 
-    jlt r2, 16, leave       ; R2 is the record's length
-    jlt r4, 16, leave       ; R4 is the argument's length
+    jlt r2, 16, short       ; R2 is the record's length
+    jlt r4, 16, short       ; R4 is the argument's length
     mov r6, r1              ; a call leaves R1 to R5 unset
     ldxdw r7, [r3]          ; the duration of a window
     ldxdw r8, [r3+8]        ; the number of calls that it admits
@@ -48,6 +48,6 @@ full:
     mov r0, 0               ; change nothing
     exit
 
-leave:
-    mov r0, 0
+short:
+    mov r0, 4               ; change nothing
     exit

@@ -5,13 +5,14 @@
 ; Argument, 16 bytes: 0 to release a permit, anything else to take one; and the number of permits.
 ;
 ; Code 1: taken or released. The reply word is the new number of holders.
-; Code 0: no permit is free, or there is no holder to release one, and the reply word is the number
-; of holders; or a length is too short, and the word is 0.
+; Code 0: no permit is free, or there is no holder to release one. The reply word is the number of
+; holders.
+; Code 4: the record or the argument is too short.
 ;
 ; A permit does not end by itself: its holder has to release it.
 
-    jlt r2, 8, leave        ; R2 is the record's length
-    jlt r4, 16, leave       ; R4 is the argument's length
+    jlt r2, 8, short        ; R2 is the record's length
+    jlt r4, 16, short       ; R4 is the argument's length
     mov r6, r1              ; a call leaves R1 to R5 unset
     ldxdw r7, [r6]          ; the number of holders
     ldxdw r8, [r3]          ; 0 releases
@@ -38,6 +39,6 @@ refuse:
     mov r0, 0               ; change nothing
     exit
 
-leave:
-    mov r0, 0               ; change nothing
+short:
+    mov r0, 4               ; change nothing
     exit

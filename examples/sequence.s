@@ -4,11 +4,12 @@
 ; the lowest first. Zeros are no message.
 ; Argument, 24 bytes: the number and the text of the new message. Numbers begin at 1.
 ;
-; Code 1: the message is newer, and is stored. Code 0: it is old, or a length is too short.
-; The reply word is the number of the message that is stored after the run.
+; Code 1: the message is newer, and is stored. Code 0: it is old. The reply word is the number of the
+; message that is stored after the run.
+; Code 4: the record or the argument is too short.
 
-    jlt r2, 24, leave       ; R2 is the record's length
-    jlt r4, 24, leave       ; R4 is the argument's length
+    jlt r2, 24, short       ; R2 is the record's length
+    jlt r4, 24, short       ; R4 is the argument's length
     ldxdw r6, [r1]          ; the number of the stored message
     ldxdw r7, [r3]          ; the number of the new message
     jle r7, r6, old
@@ -26,6 +27,6 @@ old:
     mov r0, 0               ; change nothing
     exit
 
-leave:
-    mov r0, 0
+short:
+    mov r0, 4               ; change nothing
     exit

@@ -25,29 +25,30 @@
  * The library is built for x86-64 with SSE4.1 (x86-64-v2).
  *
  * A handle is one database in memory with its programs. The library keeps no global state, takes no lock, starts no thread, and reads and
- * writes no file. The caller reads both files before boddurci_open, and writes them after boddurci_files.
+ * writes no file. The caller reads both files before boddurci_open, and writes both files after boddurci_files.
  *
- * Handles. Initialize a handle with BODDURCI_CLOSED. Never copy, compare or write its contents. Only one call at a time may use it, from
- * any thread: to share a handle, protect it by a mutex. Two handles are independent. Do not call the library in a signal handler, nor in
- * the forked child of a process that has threads.
+ * Handles. Initialize a handle with BODDURCI_CLOSED. Never copy, compare or write the contents of a handle. Any thread may use a handle,
+ * but only one call at a time: to share a handle, protect it by a mutex. Two handles are independent. Do not call the library in a signal
+ * handler, nor in the forked child of a process that has threads.
  *
- * NULL. A handle, a reading and a ticket may be NULL. If the handle or the reading is NULL, each call returns IS_CLOSED, including
- * boddurci_open. If the ticket is NULL, the call returns NO_TICKET. boddurci_is_open returns 0, and a call without a result does nothing.
+ * NULL. A handle, a reading and a ticket may be NULL. If the handle or the reading is NULL, a call returns IS_CLOSED, even boddurci_open.
+ * If the ticket is NULL, a call returns NO_TICKET. There are two exceptions: boddurci_is_open returns 0, and a call without a result does
+ * nothing.
  *
- * Long programs. boddurci_run needs your mutex for as long as its program runs: usually less than a microsecond, and some 60 for the
- * longest program. If that is too long, run by a ticket, in three calls: boddurci_ask under the mutex, boddurci_work without it,
- * boddurci_finish under it. Together they do the same as boddurci_run, in one step at the time of boddurci_finish.
+ * Long programs. boddurci_run needs your mutex while its program runs: usually less than a microsecond, and some 60 microseconds for the
+ * longest program. If that is too long, run the program by a ticket, in three calls: boddurci_ask under the mutex, boddurci_work without
+ * the mutex, boddurci_finish under the mutex. Together these calls do the same as boddurci_run, in one step at the time of boddurci_finish.
  *
  * Bytes. A key, a value, an argument and an image are each a pointer and a length. No other pointer may be NULL, even if its length is 0:
- * pass BODDURCI_NO_BYTES for no bytes. Arguments that a call only reads may overlap. Memory that it writes (buffers, lengths, numbers, the
- * handle) must not overlap any other argument.
+ * pass BODDURCI_NO_BYTES for no bytes. Arguments that a call only reads may overlap. Memory that a call writes (buffers, lengths, numbers,
+ * the handle) must not overlap any other argument.
  *
  * Results. The caller passes a buffer for a result, with its size as the argument `.._room`. The call always sets `*.._length` to the
- * length of the result, but writes the result only if it fits; otherwise the buffer is unchanged. A text does not end in a zero byte. If
- * there is no memory for the text of a fault, the call returns NO_MEMORY instead of the fault, and the length of the text is 0.
+ * length of the result. It writes the result if the result fits, and otherwise leaves the buffer unchanged. A text does not end in a zero
+ * byte. If there is no memory for the text of a fault, the call returns NO_MEMORY instead of the fault, and the length of the text is 0.
  *
- * Statuses. Each call returns a status. The comment on a call names the statuses that it may return besides DONE, without BODDURCI_. After
- * CHANGED and every greater status the handle, the ticket and all results are unchanged, unless the comment says otherwise.
+ * Statuses. Each call returns a status. The comment on a call names the statuses that the call may return besides DONE, without BODDURCI_.
+ * After CHANGED and every greater status the handle, the ticket and all results are unchanged, unless the comment says otherwise.
  *
  * Memory comes from malloc. Each call that allocates may return NO_MEMORY. */
 #ifndef BODDURCI_H
@@ -67,7 +68,8 @@ typedef struct boddurci_ticket {
     void *at;
 } boddurci_ticket;
 
-/* A .pag that is read in pieces. The rules for handles apply, but only the thread that began a reading may use it. */
+/* A .pag that is read in pieces. The rules for handles apply to readings too, except that only the thread that began a reading may use
+ * it. */
 typedef struct boddurci_reading {
     void *at;
 } boddurci_reading;
@@ -79,7 +81,7 @@ typedef struct boddurci_cursor {
     size_t pair;
 } boddurci_cursor;
 
-/* The version of this header, and that of the library. They are equal if both were built together. */
+/* The version of this header, and the version of the library. The versions are equal if both were built together. */
 #define BODDURCI_VERSION "2.0.0"
 const char *boddurci_version(void);
 
@@ -123,7 +125,7 @@ enum boddurci_status {
 #define BODDURCI_STOCKS \
     "counter, bounded_add, bounded_counter, compare_and_set, sequence, lease, fenced_lease, rate_limit, semaphore, token_bucket"
 
-/* Returns the text of a status of this header. boddurci_files_text of boddurci_files.h knows the statuses of both headers. */
+/* Returns the text of a status of this header. boddurci_files_text of boddurci_files.h returns the text of a status of either header. */
 static inline const char *boddurci_text(uint32_t status)
 {
     switch (status) {
@@ -151,20 +153,21 @@ static inline const char *boddurci_text(uint32_t status)
 }
 
 /* Opens a closed handle on the database in the bytes of both files. If there are no bytes, the database is empty. Pages have 8,192 bytes if
- * `wide` is not 0, and 1,024 otherwise. Keys are hashed as unsigned bytes if `unsigned_keys` is not 0, and as signed bytes otherwise, as on
- * x86-64. The files contain neither setting. IS_OPEN, NO_MEMORY (the text may be set), BAD_FILES with a text, for example "Page(3,
- * Offsets)". */
+ * `wide` is not 0, and 1,024 otherwise. Keys are hashed as unsigned bytes if `unsigned_keys` is not 0, and otherwise as signed bytes, as
+ * sdbm does on x86-64. The files contain neither of these settings. IS_OPEN, NO_MEMORY (the text may be set), BAD_FILES with a text, for
+ * example "Page(3, Offsets)". */
 uint32_t boddurci_open(boddurci *db, const uint8_t *dir, size_t dir_length, const uint8_t *pag, size_t pag_length, uint32_t wide,
                        uint32_t unsigned_keys, uint8_t *text, size_t text_room, size_t *text_length);
 
-/* Sets *looks_small to 1 if files that are to be opened with wide pages look like a database with small ones, and to 0 otherwise. If it is
- * 0, they are not a database with small pages, unless all bytes are zeros. Small pages can be valid wide ones by chance, and a change would
- * destroy them. Needs no handle. boddurci_open_files makes this check, and boddurci_open does not. NO_MEMORY. */
+/* Sets *looks_small to 1 if the bytes of both files look like a database with small pages, and to 0 otherwise. Call this before opening
+ * files with wide pages: small pages can be valid wide pages by chance, and a change would destroy them. If *looks_small is 0, the files
+ * are not a database with small pages, unless all their bytes are zeros. Needs no handle. boddurci_open_files makes this check, and
+ * boddurci_open does not. NO_MEMORY. */
 uint32_t boddurci_looks_small(const uint8_t *dir, size_t dir_length, const uint8_t *pag, size_t pag_length, uint32_t unsigned_keys,
                               uint32_t *looks_small);
 
-/* The same without all bytes of .pag in memory: pass them in pieces, then open the reading. The reading keeps only pages, so it takes as
- * much memory as the open database, and none for a piece of zeros.
+/* The same without all bytes of .pag in memory: pass the bytes in pieces, then open the reading. A reading stores only pages, so it takes
+ * as much memory as the open database, and no memory for a piece of zeros.
  *
  *     boddurci_reading reading = BODDURCI_UNREAD;
  *     uint32_t status = BODDURCI_DONE;
@@ -175,13 +178,14 @@ uint32_t boddurci_looks_small(const uint8_t *dir, size_t dir_length, const uint8
  *     boddurci_end_reading(&reading);
  *
  * boddurci_read reads the next piece. Each piece except the last must consist of whole pages; 262,144 bytes are a good length. `wide` of
- * the first piece sets the page size, and that of later pieces is ignored. BAD_FILES if the earlier pieces end inside a page, FILE_TOO_LONG
- * for 2^63 bytes or more: the reading is then unchanged. After NO_MEMORY the reading is unread.
+ * the first piece sets the page size; `wide` of later pieces is ignored. BAD_FILES if the earlier pieces end inside a page, FILE_TOO_LONG
+ * for 2^63 bytes or more. After these two statuses the reading is unchanged. After NO_MEMORY the reading is unread.
  *
  * boddurci_reading_looks_small is boddurci_looks_small for the bytes that were read. NO_MEMORY.
  *
  * boddurci_open_reading is boddurci_open for the bytes that were read, with the same statuses. An unread reading is an empty .pag. After
- * DONE the reading is unread; after any other status it is unchanged. If the pieces had the other page size, the call copies all bytes.
+ * DONE the reading is unread; after any other status it is unchanged. If the pieces were passed with the other page size, the call copies
+ * all bytes.
  *
  * boddurci_end_reading frees the reading, which may be unread. */
 uint32_t boddurci_read(boddurci_reading *reading, uint32_t wide, const uint8_t *piece, size_t piece_length);
@@ -194,17 +198,17 @@ void boddurci_end_reading(boddurci_reading *reading);
 /* Returns 1 if the handle is open, and 0 otherwise. */
 uint32_t boddurci_is_open(boddurci *db);
 
-/* Closes the handle, which may be closed, and frees its memory. Saves nothing. */
+/* Closes the handle and frees its memory. Saves nothing. Does nothing if the handle is closed. */
 void boddurci_close(boddurci *db);
 
 /* Sets the greatest length of .pag in bytes that a command may cause while the handle is open. The default, 1 GiB, is also the maximum. A
- * command that needs a page above the limit returns FILE_TOO_LONG; existing pages stay. Set a limit if strangers choose your keys: at
- * little cost they can make .pag as long as the limit, since a page far out leaves holes before it, and every later opening takes time for
- * the whole length. IS_CLOSED. */
+ * command that needs a page above the limit returns FILE_TOO_LONG; existing pages stay. Set a limit if untrusted users choose your keys.
+ * With a few keys these users can make .pag as long as the limit, since a page far out leaves holes before it. Then every opening takes
+ * time for the whole length. IS_CLOSED. */
 uint32_t boddurci_limit(boddurci *db, size_t bytes);
 
-/* Fetches the value of a key, which may have any length. Allocates no memory. MISSING, which leaves *value_length unchanged; SHORT_ROOM,
- * IS_CLOSED. */
+/* Fetches the value of a key, which may have any length. Allocates no memory. SHORT_ROOM, IS_CLOSED, and MISSING, which leaves
+ * *value_length unchanged. */
 uint32_t boddurci_fetch(boddurci *db, const uint8_t *key, size_t key_length, uint8_t *value, size_t value_room, size_t *value_length);
 
 /* Sets the value of a key. If the key exists, replaces its value, or returns EXISTS if `replace` is 0. CROWDED, FILE_TOO_LONG,
@@ -223,30 +227,30 @@ uint32_t boddurci_count(boddurci *db, size_t *count);
 uint32_t boddurci_assemble(const uint8_t *source, size_t source_length, uint8_t *image, size_t image_room, size_t *image_length,
                            size_t *line, uint8_t *text, size_t text_room, size_t *text_length);
 
-/* Verifies the image of a program, 8 bytes a unit, and gives it a number, from 0, which is valid until the handle is closed. The same image
- * always gets the same number. IS_CLOSED, NO_MEMORY (the unit is BODDURCI_NOWHERE, and the text may be set), REFUSED with a text, for
- * example "Verify(OutOfRecord(3))", and the offending unit, here 3, or BODDURCI_NOWHERE. */
+/* Verifies the image of a program, which has 8 bytes a unit, and gives the program a number. Numbers begin at 0, and are valid until the
+ * handle is closed. The same image always gets the same number. IS_CLOSED, NO_MEMORY (the unit is BODDURCI_NOWHERE, and the text may be
+ * set), REFUSED with a text, for example "Verify(OutOfRecord(3))", and the offending unit, here 3, or BODDURCI_NOWHERE. */
 uint32_t boddurci_submit(boddurci *db, const uint8_t *image, size_t image_length, uint32_t *number, size_t *unit, uint8_t *text,
                          size_t text_room, size_t *text_length);
 
-/* Submits a stock program by its name, one of BODDURCI_STOCKS, for example "counter". Sets *number as boddurci_submit does for the image,
- * so a program that was submitted before keeps its number. docs/PROGRAMS.md says what each program does, which is proved. NO_STOCK,
- * IS_CLOSED and NO_MEMORY leave *number unchanged. REFUSED if there are 4,096 programs. boddurci_submit_stock takes a name that does not
- * end in a zero byte. */
+/* Submits a stock program by its name, one of BODDURCI_STOCKS, for example "counter". Sets *number as boddurci_submit does for the image of
+ * the program, so a program that was submitted before keeps its number. docs/PROGRAMS.md says what each program does; that is proved.
+ * NO_STOCK, IS_CLOSED and NO_MEMORY leave *number unchanged. REFUSED if there are 4,096 programs. boddurci_submit_stock takes a name that
+ * does not end in a zero byte. */
 uint32_t boddurci_stock(boddurci *db, const char *name, uint32_t *number);
 uint32_t boddurci_submit_stock(boddurci *db, const uint8_t *name, size_t name_length, uint32_t *number);
 
 /* Runs program `number` on the record of a key, as one step. If the key does not exist and `has_blank` is not 0, runs it on a record of
  * `blank` zeros. The program can read the time `now` and the argument. *end is the program's result: 1 saves the record, 2 deletes the
- * pair, and any other number changes nothing. *word is its reply word. After MISSING and CROWDED both are 0; after any other status except
- * DONE they are unchanged. MISSING if the key does not exist and `has_blank` is 0, CROWDED, FILE_TOO_LONG, IS_CLOSED, NO_MEMORY. If several
- * of NO_PROGRAM, PAIR_TOO_LARGE and ARG_TOO_LONG apply, it returns the first of them. */
+ * pair, and any other number changes nothing. *word is its reply word. After MISSING and CROWDED, *end and *word are 0; after any other
+ * status except DONE they are unchanged. MISSING if the key does not exist and `has_blank` is 0, CROWDED, FILE_TOO_LONG, IS_CLOSED,
+ * NO_MEMORY. NO_PROGRAM, PAIR_TOO_LARGE, ARG_TOO_LONG; if several of these three apply, the call returns the first one in this order. */
 uint32_t boddurci_run(boddurci *db, uint32_t number, const uint8_t *key, size_t key_length, const uint8_t *arg, size_t arg_length,
                       uint32_t has_blank, size_t blank, uint64_t now, uint64_t *end, uint64_t *word);
 
 /* Adds an amount to the number in the first 8 bytes of a record, the lowest byte first, as one step. If the key does not exist, the number
- * is 0. Runs the stock program bounded_counter. *end is 1 if the amount was added, and 0 if the number would be below `least` or above
- * `greatest`: then nothing changes. *number is the number after the call. The statuses are those of boddurci_stock and boddurci_run. */
+ * is 0. Runs the stock program bounded_counter. *end is 1 if the amount was added. It is 0, and nothing changes, if the new number would be
+ * below `least` or above `greatest`. *number is the number after the call. The statuses are those of boddurci_stock and boddurci_run. */
 static inline uint32_t boddurci_add(boddurci *db, const uint8_t *key, size_t key_length, int64_t amount, uint64_t least,
                                     uint64_t greatest, uint64_t *end, uint64_t *number)
 {
@@ -278,17 +282,18 @@ static inline uint32_t boddurci_add(boddurci *db, const uint8_t *key, size_t key
  *     } while (status == BODDURCI_CHANGED);
  *     boddurci_abandon(&ticket);
  *
- * boddurci_ask puts the run and the present page of its key into the ticket, and drops an earlier run in it. It runs nothing, so MISSING,
- * CROWDED and FILE_TOO_LONG come from boddurci_finish. It returns the other statuses of boddurci_run, and then leaves the ticket unchanged.
+ * boddurci_ask puts the run and the present page of its key into the ticket, and drops an earlier run in the ticket. It does not run the
+ * program, so boddurci_finish returns MISSING, CROWDED and FILE_TOO_LONG. boddurci_ask may return the other statuses of boddurci_run; after
+ * these the ticket is unchanged.
  *
- * boddurci_work runs the program on that page. It needs no handle, so another thread may use the handle meanwhile. NO_TICKET if the ticket
- * has no run, NO_MEMORY.
+ * boddurci_work runs the program on that page. It does not use the handle, so another thread may use the handle meanwhile. NO_TICKET if the
+ * ticket has no run, NO_MEMORY.
  *
  * boddurci_finish does the same as boddurci_run, with the same results, if the page has not changed since boddurci_ask. The ticket is free
- * afterwards. CHANGED if any pair of the page has changed, or the page was split; a page of 1,024 bytes has some 25 pairs of 24 bytes.
- * IS_CLOSED, NO_TICKET. After FILE_TOO_LONG and NO_MEMORY it may be called again.
+ * afterwards. CHANGED if any pair of the page has changed or the page was split. (A page of 1,024 bytes has room for some 25 pairs of 24
+ * bytes.) IS_CLOSED, NO_TICKET. After FILE_TOO_LONG and NO_MEMORY it may be called again.
  *
- * boddurci_abandon drops the run of a ticket, which may be free. */
+ * boddurci_abandon drops the run of a ticket, if the ticket has one. */
 uint32_t boddurci_ask(boddurci *db, boddurci_ticket *ticket, uint32_t number, const uint8_t *key, size_t key_length, const uint8_t *arg,
                       size_t arg_length, uint32_t has_blank, size_t blank, uint64_t now);
 uint32_t boddurci_work(boddurci_ticket *ticket);
@@ -296,43 +301,43 @@ uint32_t boddurci_finish(boddurci *db, boddurci_ticket *ticket, uint64_t *end, u
 void boddurci_abandon(boddurci_ticket *ticket);
 
 /* Iterates over all pairs. The order is stable until a store, a delete or a run; after a change begin again. The caller owns the cursor,
- * and there may be any number of cursors. boddurci_first sets a cursor before the first pair: IS_CLOSED. boddurci_next returns the next
- * pair and moves the cursor after it: MISSING if no pair is left, SHORT_ROOM if the key or the value does not fit, which does not move the
- * cursor, IS_CLOSED. */
+ * and there may be any number of cursors. boddurci_first sets a cursor before the first pair. IS_CLOSED. boddurci_next returns the next
+ * pair and moves the cursor after it. MISSING if no pair is left; SHORT_ROOM if the key or the value does not fit, and then the cursor does
+ * not move; IS_CLOSED. */
 uint32_t boddurci_first(boddurci *db, boddurci_cursor *cursor);
 uint32_t boddurci_next(boddurci *db, boddurci_cursor *cursor, uint8_t *key, size_t key_room, size_t *key_length, uint8_t *value,
                        size_t value_room, size_t *value_length);
 
-/* Returns the bytes of both files. SHORT_ROOM if either does not fit, and then it writes neither: call it first with buffers of length 0.
- * IS_CLOSED, NO_MEMORY. */
+/* Returns the bytes of both files. SHORT_ROOM if the bytes of either file do not fit: then the call writes neither, so call it first with
+ * buffers of length 0 to get the lengths. IS_CLOSED, NO_MEMORY. */
 uint32_t boddurci_files(boddurci *db, uint8_t *dir, size_t dir_room, size_t *dir_length, uint8_t *pag, size_t pag_room,
                         size_t *pag_length);
 
-/* Lists the pages of .pag that may have changed since the handle was opened, or since its last plan: their numbers, from 0, in any order,
- * and their count. If the list is empty, nothing has changed. A page whose bytes differ from those that the library would write, for
+/* Lists the numbers of the pages of .pag that may have changed since the handle was opened or since its last plan. Page numbers begin at 0.
+ * The list has no order. If the list is empty, nothing has changed. A page whose bytes differ from those that the library would write, for
  * example by garbage in its free bytes, is listed from the opening on. Allocates no memory. SHORT_ROOM, IS_CLOSED. */
 uint32_t boddurci_changed(boddurci *db, uint32_t *numbers, size_t room, size_t *count);
 
 /* Plans a save: the changes that make the files equal to the database. Pass the bytes of .dir, the length of .pag in bytes, and the bytes
  * of the pages with these numbers, one page after the other, with zeros past the end of the file. The numbers must include all pages that
- * boddurci_changed lists. The plan assumes that every other page in the file is unchanged since it was last written or opened. If that may
- * be wrong, for example since another program may have changed the files, pass all pages of the file and of the database.
+ * boddurci_changed lists. The plan assumes that every other page in the file is unchanged since it was last written or opened. If other
+ * pages may have changed, for example because another program may have written the files, pass all pages of the file and of the database.
  *
- * The plan has a change for each differing block of 1,024 bytes, first of .dir, then of the pages: the part that differs, extended to
- * multiples of 128 bytes. The plan is empty if nothing differs. After DONE no page counts as changed: if you do not carry out the plan,
- * pass the numbers to boddurci_mark. STALE if a page that may have changed is not among the numbers, or if `pages_length` is not the length
- * of `count` pages; SHORT_ROOM; FILE_TOO_LONG also for more than 2^22 numbers; IS_CLOSED, NO_MEMORY. After each of these the handle is
- * unchanged.
+ * The plan has a change for each differing block of 1,024 bytes, first for the blocks of .dir, then for those of the pages. A change covers
+ * the differing part of its block, extended to multiples of 128 bytes. The plan is empty if nothing differs. After DONE no page counts as
+ * changed: if you do not carry out the plan, pass the numbers to boddurci_mark. STALE if a page that may have changed is not among the
+ * numbers, or if `pages_length` is not the length of `count` pages; SHORT_ROOM; FILE_TOO_LONG also for more than 2^22 numbers; IS_CLOSED,
+ * NO_MEMORY. After each of these the handle is unchanged.
  *
- * A byte 1 and the plan are a redo file, which dbm and boddurci_files.h recover. The plan is 8 bytes "sdbmred2"; the new lengths of .pag
- * and of .dir, and their present lengths; the number of changes; and for each change its file (a byte, 0 for .pag and 1 for .dir), its
- * offset, its length, its bytes, and the present bytes there, with zeros past the end of the file. Numbers have 4 bytes, the lowest
- * first. */
+ * A byte 1 followed by the plan is a redo file, from which dbm and boddurci_files.h recover the files. The plan is 8 bytes "sdbmred2"; the
+ * new lengths of .pag and of .dir, and their present lengths; the number of changes; and for each change its file (a byte, 0 for .pag and 1
+ * for .dir), its offset, its length, its bytes, and the present bytes there, with zeros past the end of the file. Numbers have 4 bytes, the
+ * lowest first. */
 uint32_t boddurci_plan(boddurci *db, const uint8_t *dir, size_t dir_length, size_t pag_length, const uint32_t *numbers, size_t count,
                        const uint8_t *pages, size_t pages_length, uint8_t *plan, size_t plan_room, size_t *plan_length);
 
-/* Marks pages as changed, for a plan that was not carried out. Takes a byte of memory for each number up to the largest, so pass only
- * numbers from boddurci_changed. IS_CLOSED, NO_MEMORY. */
+/* Marks pages as changed, for a plan that was not carried out. Takes a byte of memory for each number up to the largest one, so pass only
+ * numbers that come from boddurci_changed. IS_CLOSED, NO_MEMORY. */
 uint32_t boddurci_mark(boddurci *db, const uint32_t *numbers, size_t count);
 
 #ifdef __cplusplus

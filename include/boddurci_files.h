@@ -11,44 +11,45 @@
  *         fprintf(stderr, "visits: %s\n", fault.text);
  *     boddurci_close_files(base);
  *
- * An open database is in memory. Its changes are in the files once boddurci_save has returned, and not before: the caller chooses when.
- * Threads share a base: boddurci_take waits for its mutex, boddurci_give releases it, and boddurci_save takes it by itself. Threads that
- * save at the same time share saves.
+ * An open database is in memory. Changes reach the files only by boddurci_save: the caller decides when to save. Threads share a base:
+ * boddurci_take waits for the mutex of the base, boddurci_give releases the mutex, and boddurci_save takes it by itself. Threads that save
+ * at the same time share saves.
  *
  * The log. A save appends a record to the log in BASE.redo and syncs that file once, which makes the save durable. Then it writes BASE.pag
- * and BASE.dir without a sync. BASE.redo belongs to these two files and stays next to them. Its first byte, the mark, is 1 while BASE.redo
- * has saves that may not be on the disk in both files. Closing the base syncs both files and clears the mark. After a kill or the loss of
- * power the next opening of the base recovers it. A program that does not know the log, such as Perl's SDBM_File, sees each save at once.
- * But after the loss of power it may see old or mixed pages, until this library or dbm has opened the base for writing once.
+ * and BASE.dir without a sync. BASE.redo belongs to these two files: keep all three together. Its first byte, the mark, is 1 while
+ * BASE.redo has saves that may not be on the disk in both files. Closing the base syncs both files and clears the mark. After a kill or a
+ * loss of power the next opening of the base recovers both files. A program that does not know the log, such as Perl's SDBM_File, sees each
+ * save at once. But after a loss of power such a program may see old or mixed pages, until this library or dbm has opened the base for
+ * writing once.
  *
- * Writers. One process at a time has a base open for writing, by this library or by the program dbm. It holds a flock on BASE.writer. Other
- * processes wait for it as long as they request, and then get LOCKED; the text names the process if the system reports it. Several
- * processes may change one database by shared bases (boddurci_open_shared, at the end of this header), which hold the locks only during a
- * call.
+ * Writers. One process at a time has a base open for writing, by this library or by the program dbm. This process holds a flock on
+ * BASE.writer. Other processes wait for the lock as long as they request, and then get LOCKED. The text of the fault names the process that
+ * holds the lock, if the system reports it. Several processes may change one database by shared bases (boddurci_open_shared, at the end of
+ * this header), which hold the locks only during a call.
  *
- * Readers. An opening with BODDURCI_READ_ONLY does not wait for the writer, and reads its last save. Readers and writers share the files by
- * a flock on BASE.lock: a writer holds it while it opens the base, during each save and while it closes the base, and a reader while it
- * reads. So a save waits for active readers, but calls in memory do not. A writer keeps BASE.lock while there is no complete save for
- * readers: after a save that could not be written, until the next one succeeds; before the first save of a new database; and if it cannot
- * mark BASE.redo when it opens the base (no room, no permission), until it can. Versions of this library that do not know the log do not
- * write while the mark is set.
+ * Readers. Opening a base with BODDURCI_READ_ONLY does not wait for the writer, and reads the writer's last save. Readers and writers share
+ * the files by a flock on BASE.lock: a writer holds that lock while it opens the base, during each save and while it closes the base, and a
+ * reader holds it while it reads. So a save waits for active readers, but calls in memory do not. In three cases a writer keeps BASE.lock
+ * between its calls, since readers would find no complete save: after a save that could not be written, until the next save succeeds;
+ * before the first save of a new database; and, if it cannot mark BASE.redo when it opens the base (no room, no permission), until it can.
+ * Versions of this library that do not know the log do not write while the mark is set.
  *
- * Other programs. A program that knows neither lock, such as Perl, does not wait. If it has written, the next save returns CHANGED and
- * overwrites nothing, unless the save insists.
+ * Other programs. A program that does not know these locks, such as Perl, does not wait. If such a program has written, the next save
+ * returns CHANGED and overwrites nothing, unless the save insists.
  *
  * Names. If both data files are symbolic links to those of another base, the locks are those of that base. boddurci_open_files resolves the
- * names once, and keeps the folder open. So neither a chdir nor a changed link in the path leads a save into other files. If BASE.lock,
- * .writer, .pag or .dir is no longer the file that was opened, a save returns MOVED.
+ * names once, and keeps the folder open. So a save goes to the same files after a chdir or a change of a link in the path. If the name
+ * BASE.lock, .writer, .pag or .dir no longer leads to the file that was opened, a save returns MOVED.
  *
  * Owners. BASE.redo, BASE.lock and BASE.writer must be files with one name, owned by you, by root or by the owner of BASE.pag, and writable
- * only by users who may write BASE.pag. Otherwise the call returns UNSAFE. (A reader ignores a BASE.writer that is not such a file.) A lock
- * may also belong to a user who may write BASE.pag, by its group or because all may. After UNSAFE find out who made the file, and remove it
- * if you do not trust that user. If a redo file belongs to a user you trust, let that user's next command recover it, or give it to the
- * owner of BASE.pag: the data files may contain half of its saves. Closing a base removes a redo file that could not get the owner, the
- * group and the permissions of BASE.pag, so only a killed process leaves one.
+ * only by users who may write BASE.pag. Otherwise the call returns UNSAFE. (But a reader ignores a BASE.writer that breaks this rule.) A
+ * lock may also belong to a user who may write BASE.pag, by its group or because all may. After UNSAFE, find out who made the file, and
+ * remove the file if you do not trust that user. If a redo file belongs to a user you trust, let that user's next command recover it, or
+ * give it to the owner of BASE.pag: the data files may contain half of its saves. Closing a base removes a redo file that could not get the
+ * owner, the group and the permissions of BASE.pag, so only a killed process leaves one.
  *
- * Forks. A base belongs to the process that opened it. In a child that this process forks, boddurci_save returns FORKED, boddurci_take
- * returns NULL, boddurci_give does nothing, and boddurci_close_files only frees memory: the parent keeps the locks.
+ * Forks. A base belongs to the process that opened it. In a forked child, boddurci_save returns FORKED, boddurci_take returns NULL,
+ * boddurci_give does nothing, and boddurci_close_files only frees memory: the parent keeps the locks.
  *
  * NULL. Pass NULL as the fault if you do not need it. If the base is NULL, a save returns IS_CLOSED, boddurci_take returns NULL, and
  * boddurci_give and boddurci_close_files do nothing. If the name is NULL, an opening fails with BAD_NAME.
@@ -81,31 +82,31 @@ enum boddurci_flags {
 
 /* Flags of boddurci_save_with. */
 enum boddurci_save_flags {
-    BODDURCI_INSIST = 128 /* overwrite the changes of another program in the files. If threads share a save, one that insists is enough */
+    BODDURCI_INSIST = 128 /* overwrite the changes of another program in the files. A shared save insists if one of its calls does */
 };
 
 /* Statuses in addition to those of boddurci.h. */
 enum boddurci_files_status {
-    BODDURCI_FILE_FAILED = 32, /* a system call failed, and fault.system is its errno; or links lead to two bases, and it is 0 */
+    BODDURCI_FILE_FAILED = 32, /* a system call failed: fault.system is its errno. If it is 0, the links of a base lead to two bases */
     BODDURCI_LOCKED = 33,      /* another process has the database open for writing, or a reader or writer uses its files */
-    BODDURCI_BAD_REDO = 34,    /* BASE.redo is marked, and does not belong to these files: no save has left it, an older copy of them was
-                                  put back, or another program wrote them. Or a record in the middle of its log is damaged; the text says
-                                  so. To use the data files unchanged, move BASE.redo away */
+    BODDURCI_BAD_REDO = 34,    /* BASE.redo is marked, and does not belong to these files: no save has left it, an older copy of the
+                                  files was put back, or another program wrote the files. Or a record in the middle of its log is damaged;
+                                  the text says so. To use the data files unchanged, move BASE.redo away */
     BODDURCI_NO_SAVE = 35,     /* the base was opened for reading only */
     BODDURCI_TOO_LONG = 36,    /* a file is longer than allowed: 1 GiB for .pag, 256 MiB for .dir */
     BODDURCI_UNSAFE = 37,      /* BASE.redo, .lock or .writer may belong to a user who may not write the base; the text says why. Control
                                   characters, invalid UTF-8 and bidirectional controls in the name are escaped */
-    BODDURCI_MOVED = 38,       /* BASE.lock, .writer, .pag, .dir or .redo is no longer the file that was opened, or links lead elsewhere */
+    BODDURCI_MOVED = 38,       /* BASE.lock, .writer, .pag, .dir or .redo is not the file that was opened, or a link leads elsewhere */
     BODDURCI_FORKED = 39,      /* a parent of this process opened the base */
     BODDURCI_BAD_NAME = 40,    /* the name is NULL or empty, . or .., or ends in one of these after a / */
     BODDURCI_INTERRUPTED = 41, /* a signal was handled during the wait for a lock */
-    BODDURCI_OPEN_HERE = 42,   /* this thread already has the base open: it would wait for itself */
+    BODDURCI_OPEN_HERE = 42,   /* this thread already has the base open, so it would wait for itself */
     BODDURCI_OTHER_SIZE = 43   /* with WIDE: .pag looks like a file of small pages, which a change would destroy. Open it without WIDE, or
                                   make its pages wide with `dbm widen`. If they are wide nevertheless, add ANY_SIZE */
 };
 
-/* A failure: its status, the errno of the system call that failed or 0, and a text that ends in a zero byte. A save that is DONE may also
- * report a failed system call. */
+/* A failure: its status, the errno of the failed system call or 0, and a text that ends in a zero byte. A save that returns DONE may report
+ * a failed system call too. */
 typedef struct boddurci_fault {
     uint32_t status;
     int system;
@@ -115,73 +116,79 @@ typedef struct boddurci_fault {
 /* Returns the text of a status of either header. */
 const char *boddurci_files_text(uint32_t status);
 
-/* Opens the database in BASE.dir and BASE.pag. Either file may be missing. On failure returns NULL and sets *fault. Nothing has changed
- * then, except that the files may be recovered and lock files may exist. FILE_FAILED, LOCKED (only with NO_WAIT), BAD_REDO, TOO_LONG,
- * UNSAFE, MOVED, BAD_NAME, OPEN_HERE, OTHER_SIZE, and BAD_FILES and NO_MEMORY of boddurci.h.
+/* Opens the database in BASE.dir and BASE.pag. Either file may be missing. On failure returns NULL and sets *fault. Then nothing has
+ * changed, except that the files may have been recovered and lock files may have been made. FILE_FAILED, LOCKED (only with NO_WAIT),
+ * BAD_REDO, TOO_LONG, UNSAFE, MOVED, BAD_NAME, OPEN_HERE, OTHER_SIZE, and BAD_FILES and NO_MEMORY of boddurci.h.
  *
- * If BASE.redo is marked, the call first recovers the files, even if another user or a version without the log has saved. A read-only
- * opening writes nothing: it syncs BASE.redo, and reads the files as the saves in it would have left them. While another process has the
- * base open for writing, it reads only the data files. An opening for writing marks BASE.redo, which takes some syncs. It waits for the
- * locks without a limit, even after a signal. A user who may not write an existing .pag makes no lock files.
+ * If BASE.redo is marked, the call first recovers the files, even from a save of another user or of a version without the log. A read-only
+ * opening writes nothing: it syncs BASE.redo, reads the data files, and applies the saves in BASE.redo in memory. While another process has
+ * the base open for writing, a read-only opening reads only the data files. An opening for writing marks BASE.redo, which takes some syncs.
+ * The call waits for the locks without a limit, and continues to wait after a signal. A user who may not write an existing .pag makes no
+ * lock files.
  *
- * Memory: that of the open database, the data of .dir, one piece of .pag, and the bytes of each page whose free bytes differ from those
- * that the library writes. An opening that recovers also needs the data of .pag and BASE.redo. Holes take no memory. */
+ * Memory: the call needs memory for the open database, the data of .dir, one piece of .pag, and the bytes of each page whose free bytes
+ * differ from those that the library writes. To recover the files, it also needs memory for the data of .pag and BASE.redo. Holes take no
+ * memory. */
 boddurci_base *boddurci_open_files(const char *base, uint32_t flags, boddurci_fault *fault);
 
 /* Like boddurci_open_files, but waits for the locks at most `milliseconds`, and then fails with LOCKED. 0 tries once, and -1 waits without
  * a limit. INTERRUPTED if a signal was handled meanwhile: call it again to continue. */
 boddurci_base *boddurci_open_files_within(const char *base, uint32_t flags, int64_t milliseconds, boddurci_fault *fault);
 
-/* boddurci_take waits for the mutex, and returns the handle, which is yours until boddurci_give. Never close it, and never pass it to
- * boddurci_plan: the changes would then count as saved. boddurci_take returns NULL if `base` is NULL, and in a child of the process that
- * opened the base. Calls with that NULL return IS_CLOSED, and boddurci_give does nothing. */
+/* boddurci_take waits for the mutex, and returns the handle, which you may use until boddurci_give. Never close the handle, and never pass
+ * it to boddurci_plan: the changes would then count as saved. boddurci_take returns NULL if `base` is NULL, and in a child of the process
+ * that opened the base. Calls with that NULL return IS_CLOSED, and boddurci_give does nothing. */
 boddurci *boddurci_take(boddurci_base *base);
 void boddurci_give(boddurci_base *base);
 
-/* Saves: makes the files equal to the database in memory. boddurci_save is boddurci_save_with without flags. A save appends the changes to
- * the log in BASE.redo, syncs it, and then writes them in place, so the files keep their owner, permissions and links. A new .dir gets
- * those of .pag. If nothing has changed, a save writes and makes nothing. IS_CLOSED if `base` is NULL; FORKED, NO_SAVE, MOVED, UNSAFE,
- * BAD_REDO, TOO_LONG, FILE_FAILED, and CHANGED, FILE_TOO_LONG and NO_MEMORY of boddurci.h.
+/* Saves: makes the files equal to the database in memory. boddurci_save does the same as boddurci_save_with without flags. A save appends
+ * the changes to the log in BASE.redo, syncs the log, and then writes the changes to the data files in place, so these files keep their
+ * owners, permissions and links. A new .dir gets the owner and the permissions of .pag. If nothing has changed, a save writes and makes
+ * nothing. IS_CLOSED if `base` is NULL; FORKED, NO_SAVE, MOVED, UNSAFE, BAD_REDO, TOO_LONG, FILE_FAILED, and CHANGED, FILE_TOO_LONG and
+ * NO_MEMORY of boddurci.h.
  *
- * Crashes. After a crash at any time the next opening reads the database from before the save or from after it, and from after it once the
- * save has returned. After a fault it reads the database from before the save. If the text says that BASE.redo cannot be written, it may
- * read either one, and the next save or opening finds out. A fault leaves the base open and unchanged, so you can save again.
+ * Crashes. After a crash at any time the next opening finds the database from before the save or the one from after the save. Once the save
+ * has returned DONE, it finds the one from after the save. If the save has returned a fault, the next opening finds the database from
+ * before the save, with one exception: if the text says that BASE.redo cannot be written, the save may be committed or not, and the next
+ * save or opening finds out. A fault leaves the base open and unchanged, so you can save again.
  *
- * Costs. A save is one sync and a few writes. The opening has opened the log, with room for 1 MiB, or 64 KiB if the disk or the process has
- * no more. A log that saves fill within a second gets 4 MiB, if there is room. A save takes some more syncs if it finds the log full and
- * empties it, if .pag or .dir gets shorter, or if it is the first of a new database. It reads .dir and the pages that may have changed, so
- * its cost depends on the changes, not on the size of the base. But it reads and compares both files whole if a time of a file is not the
- * one that this base left or read, or if the base was opened with EMPTY. A page may have changed if a program ran on it, even if the
- * program saved nothing. The save holds the mutex while it compares pages, and not while it reads and writes them. (If other threads change
- * more pages than it can follow, three times in succession, it reads once under the mutex.) Changes that other threads make meanwhile are
- * in the next save.
+ * Costs. A save is one sync and a few writes. The log has room for 1 MiB, or for 64 KiB if the disk or the process's limit allows no more.
+ * A log that saves fill within a second gets 4 MiB, if there is room. A save takes some more syncs in three cases: it finds the log full
+ * and empties it, .pag or .dir gets shorter, or it is the first save of a new database. A save reads .dir and the pages that may have
+ * changed, so its cost depends on the changes and not on the size of the base. But it reads and compares the whole files if a time of a
+ * file is not the one that this base has left or read, or if the base was opened with EMPTY. A page may have changed if a program ran on
+ * it, even if the program saved nothing. The save holds the mutex while it compares pages, and not while it reads and writes pages.
+ * (Exception: if other threads have changed further pages during the reads, three times in succession, it reads once under the mutex.)
+ * Changes that other threads make meanwhile are in the next save.
  *
  * CHANGED: another program has changed a data file since this base read or saved it. The save writes neither file, and the base does not
  * change. The text says what was found: another length, a file that was made, a later write, or a page with other bytes. Each later save
- * returns CHANGED too, until boddurci_save_with overwrites the files by INSIST. To keep the data of the other program, close the base and
- * open it again. Nothing is merged. A new empty file, another owner, mode or link does not count as a change, nor does a new time alone
- * (touch) if this base has changed no page. A write during the sync of a save makes the next save return CHANGED. A save may not see a
- * write within the same tick of the clock (some milliseconds) as a save of this base. On a file system that takes its times from elsewhere,
- * such as NFS, SMB and FUSE, saves compare pages and not times, so they do not see a write on a page that this base has changed too.
+ * returns CHANGED too, until boddurci_save_with with INSIST overwrites the files. To keep the data of the other program, close the base and
+ * open it again. Nothing is merged. A new empty file, or another owner, mode or link, does not count as a change. Nor does a new time alone
+ * (touch), if this base has changed no page. After a write during the sync of a save, the next save returns CHANGED. A write within the
+ * same tick of the clock (some milliseconds) as a save of this base may remain unnoticed. On a file system whose times are set elsewhere,
+ * such as NFS, SMB and FUSE, a save compares pages and not times, so it does not notice a write on a page that this base has changed too.
  *
  * Threads may save at the same time, each after its own changes. A call returns the result of a save that began after the call, so its
  * changes are in that save. A save waits for readers that hold BASE.lock. Calls that come during a save wait until it has ended. Then one
- * of them saves for all that wait, and all of them return the status and the fault of that save: after a fault each may save again. No
- * thread is served twice while another one waits. A single thread never waits for other threads. A cancellation takes effect only after the
- * call. While saves take less than half a millisecond, a waiting thread polls for the end and yields the processor, for twice as long as
- * the last save took; then it sleeps. Under SCHED_FIFO a thread yields only to threads of the same priority.
+ * of these calls saves for all of them, and all of them return the status and the fault of that save. After a fault each caller may save
+ * again. No thread is served twice while another one waits. A single thread never waits for other threads. If a thread is cancelled during
+ * the call, the cancellation takes effect after the call. While saves take less than half a millisecond, a waiting thread polls and yields
+ * the processor for twice as long as the last save took, and then sleeps. Under SCHED_FIFO a thread yields only to threads of the same
+ * priority.
  *
  * Full disks. Before a save is committed, both files get the blocks that they need, if the file system can allocate them. So a save on a
- * full disk returns FILE_FAILED, and nothing has changed. So does a save that would make one of the three files longer than the process may
- * (RLIMIT_FSIZE); it raises no SIGXFSZ. If a file cannot be written nevertheless, the save is DONE, fault->system is not 0, and the text
- * says which file. The save is then durable in BASE.redo, and the next save or opening for writing writes it to both files. Until then a
- * program that does not know BASE.redo, such as Perl's SDBM_File, may see half of it. */
+ * full disk returns FILE_FAILED, and nothing has changed. A save also returns FILE_FAILED if it would make one of the three files longer
+ * than the process may (RLIMIT_FSIZE); it raises no SIGXFSZ. If a file cannot be written although the save is committed, the save returns
+ * DONE, fault->system is not 0, and the text names the file. The save is then durable in BASE.redo, and the next save or opening for
+ * writing writes it to both files. Until then a program that does not know BASE.redo, such as Perl's SDBM_File, may see half of the
+ * save. */
 uint32_t boddurci_save(boddurci_base *base, boddurci_fault *fault) BODDURCI_IS_LOOKED_AT;
 uint32_t boddurci_save_with(boddurci_base *base, uint32_t flags, boddurci_fault *fault) BODDURCI_IS_LOOKED_AT;
 
-/* Syncs both data files, closes the log, and releases the locks and the memory. Saves nothing. If a sync fails, the next opening recovers
- * the base. `base` may be NULL. No thread may use the base meanwhile, or later. In a child of the process that opened the base, the call
- * only frees memory. */
+/* Syncs both data files, closes the log, releases the locks and frees the memory. Saves nothing. If a sync fails, the next opening recovers
+ * the base. `base` may be NULL. No thread may use the base during the call or later. In a child of the process that opened the base, the
+ * call only frees memory. */
 void boddurci_close_files(boddurci_base *base);
 
 /* ---- shared bases: several processes change one database
@@ -198,58 +205,59 @@ void boddurci_close_files(boddurci_base *base);
  *     boddurci_close_shared(shared);
  *
  * A shared base holds no lock and no pages between its calls. Each boddurci_shared_fetch, _store, _delete and _run is one atomic step among
- * all processes and threads that use the base, including commands of dbm. It takes the locks, reads the page of its key, makes the change,
- * and saves it. A change that returns DONE is durable. No separate save is needed, and no call returns CHANGED.
+ * all processes and threads that use the base, including commands of dbm. A call takes the locks, reads the page of its key, makes its
+ * change, and saves the change. A change that returns DONE is durable. No separate save is needed, and no call returns CHANGED.
  *
- * Locks. A change takes BASE.lock and BASE.writer as an opening for writing does; a fetch takes only BASE.lock, shared. It waits for them
- * at most 5 seconds, or as long as boddurci_shared_wait sets, and then returns LOCKED, with nothing changed; the text names the process if
- * the system reports it. The wait continues after a signal. While a process has the base open by boddurci_open_files, or by a session of
- * dbm, each change returns LOCKED, and a fetch reads the last save of that process.
+ * Locks. A change takes BASE.lock and BASE.writer as an opening for writing does; a fetch takes only BASE.lock, shared. A call waits for
+ * its locks at most 5 seconds, or as long as boddurci_shared_wait sets, and then returns LOCKED, with nothing changed. The text names the
+ * process that holds the lock, if the system reports it. The wait continues after a signal. While a process has the base open by
+ * boddurci_open_files, or by a session of dbm, each change returns LOCKED, and a fetch reads the last save of that process.
  *
  * Costs. A call reads all of .dir, and only a few pages of .pag, even of a long one. It also checks .dir, which takes some 14 microseconds
- * for each KiB; with 900,000 pairs .dir has 60 KiB. A change appends its record to the log in BASE.redo and syncs it under the locks, so it
- * costs one sync. The log stays open between the calls of all processes, with its mark. A note in its header tells the next call its end.
- * These calls take longer, and as much memory as opening the base:
+ * for each KiB; with 900,000 pairs .dir has 60 KiB. A change appends its record to the log in BASE.redo and syncs the log while it holds
+ * the locks, so it costs one sync. The log stays open between the calls of all processes, with its mark. A note in the header of the log
+ * has the end of the records, for the next call. These calls take longer, and as much memory as opening the base:
  *
- * - a change for which one page is not enough, or after which the last page of .pag would be empty: it opens the whole base. So does any
- *   call on files that this library has not written, or that have a .dir of more than 256 KiB;
- * - the first call after a process was killed during a call, or after the system was started: it recovers the log. A change after a command
- *   of dbm, a service or Perl begins a new log, with some syncs;
+ * - a change for which one page is not enough, or after which the last page of .pag would be empty, and any call on files that this library
+ *   has not written or whose .dir has more than 256 KiB: such a call opens the whole base;
+ * - the first call after a process was killed during a call, or after the system was started: it recovers the log;
  * - a change by a user who may write .pag and does not own it, if BASE.redo is missing: it makes BASE.redo and removes it again. This user
  *   cannot give it to the owner of .pag, and other users would not accept it.
  *
- * Otherwise a handle takes less than 1 MiB and the memory of its programs.
+ * Other calls take less than 1 MiB and the memory of the handle's programs. A change after a command of dbm, a service or Perl begins a new
+ * log, which takes some syncs.
  *
- * Threads may share a handle. It has a mutex, for which a call waits at most as long as for a lock. In a child of the process that opened
- * the handle, the handle opens its files again by itself, so a server may open it before it forks. If another thread was in a call on it
- * during the fork, or if the child was not made by fork of the C library, each call in the child returns FORKED.
+ * Threads may share a handle. The handle has a mutex, for which a call waits at most as long as for a lock. In a child of the process that
+ * opened the handle, the handle opens its files again by itself, so a server may open a handle before it forks. If another thread was in a
+ * call on it during the fork, or if the child was not made by fork of the C library, each call in the child returns FORKED.
  *
  * Other programs. A program that does not know the locks, such as Perl's SDBM_File, may write between two calls, and the next call reads
- * what it wrote. It must not write during a call: that is not noticed, or only after the commit. Nor is a write of the same length within
- * the same tick of the clock as the last call (some milliseconds, on systems without fine-grained times).
+ * the written data. It must not write during a call: the call does not notice the write, or only after its commit. A write that keeps the
+ * lengths, within the same tick of the clock as the last call, may remain unnoticed too. (A tick has some milliseconds on systems without
+ * fine-grained times.)
  *
- * Time. `now` of a run is set before the wait for the locks, so it may be some time ago. */
+ * Time. The caller sets `now` of a run before the call waits for the locks, so `now` may be in the past when the program runs. */
 typedef struct boddurci_shared boddurci_shared;
 
 /* Opens a shared base. The flags are WIDE, UNSIGNED_KEYS, MUST_EXIST, ANY_SIZE, and NO_WAIT, with which each call tries a lock only once.
  * Other flags are ignored. With MUST_EXIST the call checks that the database exists. With WIDE and without ANY_SIZE it reads the database
- * once as a reader does, to find out whether its pages look small. Otherwise it reads no file. Returns NULL and sets *fault if that fails,
- * or if the name is invalid or the folder is missing. */
+ * once, as a reader, to find out whether its pages look small. Otherwise it reads no file. Returns NULL and sets *fault if one of these
+ * checks fails, the name is invalid or the folder is missing. */
 boddurci_shared *boddurci_open_shared(const char *base, uint32_t flags, boddurci_fault *fault);
 
-/* Closes the handle and frees its memory. `shared` may be NULL. No thread may use it meanwhile, or later. The log stays open for other
- * processes, even after the last handle, since a process that changes one pair would otherwise need several syncs instead of one. Opening
- * the base for writing by boddurci_open_files closes the log. */
+/* Closes the handle and frees its memory. `shared` may be NULL. No thread may use the handle during the call or later. The log stays open
+ * for other processes, even if no handle is left, since a process that changes one pair would otherwise need several syncs instead of one.
+ * Opening the base for writing by boddurci_open_files closes the log. */
 void boddurci_close_shared(boddurci_shared *shared);
 
 /* Sets how many milliseconds each later call waits for the locks: 0 tries once, and -1 waits without a limit. IS_CLOSED if `shared` is
  * NULL. */
 uint32_t boddurci_shared_wait(boddurci_shared *shared, int64_t milliseconds);
 
-/* The calls of boddurci.h, each as one durable step, with their results and statuses; and FORKED, LOCKED, MOVED, UNSAFE, BAD_REDO,
- * TOO_LONG, FILE_FAILED, OTHER_SIZE, OPEN_HERE and BAD_FILES as above. After any status except DONE the database and all results are
- * unchanged, except as boddurci.h says of SHORT_ROOM, MISSING and CROWDED. If the text says that BASE.redo cannot be written, the change
- * may be saved or not. DONE with fault->system not 0 reports a system call that failed after the commit, as boddurci_save does. */
+/* Make the calls of boddurci.h, each as one durable step, with the same results and statuses. In addition FORKED, LOCKED, MOVED, UNSAFE,
+ * BAD_REDO, TOO_LONG, FILE_FAILED, OTHER_SIZE, OPEN_HERE and BAD_FILES, as above. After any status except DONE the database and all results
+ * are unchanged, except as boddurci.h says of SHORT_ROOM, MISSING and CROWDED. If the text says that BASE.redo cannot be written, the
+ * change may be saved or not. DONE with fault->system not 0 reports a system call that failed after the commit, as boddurci_save does. */
 uint32_t boddurci_shared_fetch(boddurci_shared *shared, const uint8_t *key, size_t key_length, uint8_t *value, size_t value_room,
                                size_t *value_length, boddurci_fault *fault);
 uint32_t boddurci_shared_store(boddurci_shared *shared, const uint8_t *key, size_t key_length, const uint8_t *value, size_t value_length,
@@ -259,7 +267,7 @@ uint32_t boddurci_shared_run(boddurci_shared *shared, uint32_t number, const uin
                              size_t arg_length, uint32_t has_blank, size_t blank, uint64_t now, uint64_t *end, uint64_t *word,
                              boddurci_fault *fault) BODDURCI_IS_LOOKED_AT;
 
-/* Submit a program to the handle, as boddurci_submit and boddurci_stock do. They use no file. */
+/* Submit a program to the handle, as boddurci_submit and boddurci_stock do, without using a file. */
 uint32_t boddurci_shared_submit(boddurci_shared *shared, const uint8_t *image, size_t image_length, uint32_t *number, size_t *unit,
                                 uint8_t *text, size_t text_room, size_t *text_length);
 uint32_t boddurci_shared_stock(boddurci_shared *shared, const char *name, uint32_t *number);

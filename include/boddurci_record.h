@@ -7,13 +7,13 @@
  *         uint64_t *count = record;
  *         (void)argument, (void)argument_length;
  *         if (record_length < sizeof *count)
- *             return KEEP;
+ *             return BODDURCI_TOO_SHORT;
  *         *count += 1;
  *         return SAVE;
  *     }
  *
- * `tools/bpfcc counter.c` makes its image, counter.bin. A compiler for the host takes the same file. A test includes it, sets
- * boddurci_host, calls program, and checks the record and boddurci_host.word. It needs neither a library nor another header. */
+ * `tools/bpfcc counter.c` makes its image, counter.bin. A compiler for the host takes the same file. A test includes counter.c, sets
+ * boddurci_host, calls program, and checks the record and boddurci_host.word. The test needs neither a library nor another header. */
 #ifndef BODDURCI_RECORD_H
 #define BODDURCI_RECORD_H
 
@@ -25,7 +25,7 @@
 #include <string.h>
 #endif
 
-/* Unrolls the next loop, which may end early. `turns` is a literal number, the most times that the loop repeats. */
+/* Unrolls the next loop, which may end early. `turns` is a literal number, the greatest number of iterations. */
 #ifdef __clang__
 #define UNROLL(turns) BODDURCI_PRAGMA(unroll(turns))
 #define BODDURCI_PRAGMA(words) _Pragma(#words)
@@ -33,15 +33,17 @@
 #define UNROLL(turns)
 #endif
 
-/* The result of a program, which says what happens to the record. Any other number means KEEP. */
+/* The result of a program, which says what happens to the record. Any other number changes nothing, like KEEP, and may have a separate
+ * meaning: the stock programs return BODDURCI_TOO_SHORT if the record or the argument is too short. */
 enum {
-    KEEP = 0,  /* the record is unchanged, even if the program wrote to it; a new record is not stored */
-    SAVE = 1,  /* the record is stored as the program left it */
-    DELETE = 2 /* the pair is deleted; a new record is not stored */
+    KEEP = 0,              /* the record is unchanged, even if the program wrote to it; a new record is not stored */
+    SAVE = 1,              /* the record is stored as the program left it */
+    DELETE = 2,            /* the pair is deleted; a new record is not stored */
+    BODDURCI_TOO_SHORT = 4 /* the record is unchanged, as by KEEP */
 };
 
 /* The program. The record has 0 to 8,008 bytes, which the program may write; those of a new record are zeros. The argument has 0 to 1,024
- * bytes, which the program may not write. Numbers have the lowest byte first. Test each length before you rely on it. */
+ * bytes, which the program may not write. Numbers have the lowest byte first. Test the lengths before you read or write. */
 uint64_t program(void *record, uint64_t record_length, const void *argument, uint64_t argument_length);
 
 /* Inlined code gets no line numbers, so a refusal names the line of the call. */
@@ -53,7 +55,8 @@ uint64_t program(void *record, uint64_t record_length, const void *argument, uin
 
 #ifdef __bpf__
 
-/* Sets the reply word, which the caller gets together with the program's result. The last call counts. Without a call the word is 0. */
+/* Sets the reply word, which the caller gets together with the program's result. If a program calls this several times, the last call
+ * counts. Without a call the word is 0. */
 BODDURCI_HELPER void boddurci_reply(uint64_t word)
 {
     ((uint64_t(*)(uint64_t))1)(word);
@@ -78,7 +81,7 @@ BODDURCI_HELPER uint64_t boddurci_who(void)
 }
 
 /* Copies at most 1,024 bytes, as memmove does, to the record or a local variable, from one of these or the argument. The verifier must be
- * able to see the greatest value of `count`, and that both sides have that many bytes. A constant is best. */
+ * able to see the greatest value of `count`, and that source and target have at least that number of bytes. A constant is best. */
 BODDURCI_HELPER void boddurci_copy(void *to, const void *from, uint64_t count)
 {
     ((uint64_t(*)(void *, const void *, uint64_t))5)(to, from, count);

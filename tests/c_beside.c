@@ -1,5 +1,5 @@
-/* Tests, from C, of data files that another program changes while a base is open: the changes for which boddurci_files.h refuses a save,
- * and saves that insist. tests/c_library builds and runs it. The argument is a folder. */
+/* Tests, from C, data files that another program changes while a base is open: the changes after which a save is refused, and saves that
+ * insist. tests/c_library builds and runs it. The argument is a folder. */
 #define _GNU_SOURCE
 #include "boddurci_files.h"
 #include <fcntl.h>
@@ -56,7 +56,7 @@ static boddurci_base *opened(const char *name, uint32_t flags)
     return base;
 }
 
-/* Returns whether a redo file has its mark: its saves may not be synced in the data files. */
+/* Returns whether a redo file has its mark, so that it may have saves that are not synced in the data files. */
 static int is_marked(const char *name)
 {
     FILE *file = fopen(name, "rb");
@@ -154,8 +154,8 @@ static int insists(boddurci_base *base)
     return boddurci_save_with(base, BODDURCI_INSIST, &fault) == BODDURCI_DONE && fault.status == BODDURCI_DONE && fault.system == 0;
 }
 
-/* A save is refused if another program has written the files, even if the base has changed nothing. A save that insists replaces all files
- * by those of the base, even if the base was opened with EMPTY. */
+/* A save is refused if another program has written the files, even if the base has changed nothing. A save that insists replaces the
+ * contents of both files by those of the base, even if the base was opened with EMPTY. */
 static void test_written_beside(void)
 {
     boddurci_base *base = opened("visits", 0);
@@ -191,7 +191,7 @@ static void test_written_beside(void)
     boddurci_close_files(base);
 }
 
-/* `put_byte` writes one byte of a file, as another program does, and `byte_at` reads one. */
+/* `put_byte` writes one byte of a file, as another program would, and `byte_at` reads one. */
 static void put_byte(const char *name, off_t at, char byte)
 {
     int file = open(name, O_WRONLY);
@@ -206,8 +206,8 @@ static char byte_at(const char *name, off_t at)
     return byte;
 }
 
-/* Another program writes a byte on each kind of page, with or without setting its time back: which changes are found, and which data
- * stays. */
+/* Tests which changes are noticed, and which data stays, if another program writes a byte on a page of each kind and may then set the time
+ * of the file back. */
 static void test_bytes_beside(void)
 {
     struct stat found;
@@ -237,7 +237,8 @@ static void test_bytes_beside(void)
     boddurci_close_files(base);
 }
 
-/* Replaces the function of the C library, for the library too. If it is not NULL, another program writes this file during a sync. */
+/* Replaces the function of the C library, for Boddurci too. If `written_in_sync` is not NULL, simulates another program that writes this
+ * file during a sync. */
 static const char *written_in_sync;
 static int omits_syncs;
 
@@ -273,7 +274,7 @@ static void test_during(void)
     boddurci_close_files(base);
 }
 
-/* Replaces the function of the C library, for the library too, and counts its calls. */
+/* Replaces the function of the C library, for Boddurci too, and counts its calls. */
 static unsigned looks;
 
 int statx(int folder, const char *restrict name, int how, unsigned mask, struct statx *restrict found)
@@ -282,8 +283,8 @@ int statx(int folder, const char *restrict name, int how, unsigned mask, struct 
     return (int)syscall(SYS_statx, folder, name, how, mask, found);
 }
 
-/* Saves until a save makes few calls of statx, since it is in the same clock tick as the save before it. That save reads the time of the
- * folder by another call, and looks twice at each data file. */
+/* Saves until a save makes few calls of statx, since it is in the same clock tick as the previous save. Such a save reads the time of the
+ * folder by another call, and the state of each data file twice. */
 static void save_quickly(boddurci_base *base)
 {
     unsigned least = 100;
@@ -296,8 +297,8 @@ static void save_quickly(boddurci_base *base)
     EXPECT(least <= 4);
 }
 
-/* If a file loses its name right after a quick save, the next save notices it, also if the name then leads to another file. Other names in
- * the folder do not matter. */
+/* If a file loses its name right after a quick save, the next save notices that, even if the name leads to another file by then. Other
+ * names in the folder do not matter. */
 static void test_names(void)
 {
     static const char *const names[] = {"looks.pag", "looks.dir", "looks.lock", "looks.writer"};
@@ -362,7 +363,7 @@ static void test_not_changed(void)
     }
 }
 
-/* A save that insists and fails has overwritten nothing, so the next one must insist again. */
+/* A save that insists and fails has overwritten nothing, so the next save must insist too. */
 static void test_insisting_in_vain(void)
 {
     struct rlimit all, few;
@@ -387,7 +388,7 @@ struct saver {
     boddurci_fault fault;
 };
 
-/* Stores and saves, with pauses of some ticks: a save never takes its own base's writes for those of another program, in any tick. */
+/* Stores and saves, with pauses of some ticks. In no tick does a save take writes of its own base for writes of another program. */
 static void *save_often(void *given)
 {
     struct saver *saver = given;
@@ -404,7 +405,7 @@ static void *save_often(void *given)
     return NULL;
 }
 
-/* Threads save a base for some ticks while it is opened again and again. No save is refused. */
+/* Threads save a base for some ticks, in several rounds, each on a newly opened base. No save is refused. */
 static void test_own(void)
 {
     pthread_t threads[SAVERS];

@@ -71,7 +71,8 @@ static void *open_and_end(void *name)
     return opened(name, 0);
 }
 
-/* A base that was opened by a thread which has ended does not count for a new thread, even if the system reuses the thread's number. */
+/* If a thread that has a base open has ended, the base does not count as open in a new thread, even if the system gives the new thread the
+ * same number. */
 static void test_ended_thread(void)
 {
     pthread_t thread;
@@ -117,7 +118,7 @@ static int is_there(const char *name)
     return lstat(name, &found) == 0;
 }
 
-/* Returns whether a redo file has its mark: its saves may not be synced in the data files. */
+/* Returns whether a redo file has its mark, so that it may have saves that are not synced in the data files. */
 static int is_marked(const char *name)
 {
     FILE *file = fopen(name, "rb");
@@ -237,7 +238,7 @@ static void test_ends(void)
     EXPECT(stat("visits.dir", &found) == 0 && found.st_size == before[1].st_size);
 }
 
-/* A save without a change touches no file, neither after another save nor after a store of an existing pair. */
+/* A save without a change writes no file, neither after another save nor after a store of an existing pair. */
 static void test_untouched(void)
 {
     struct stat pages, directory, redo, folder;
@@ -266,7 +267,7 @@ static size_t value_of(boddurci_base *base, const char *key)
     return length;
 }
 
-/* The linker puts this before boddurci_mark, to check that no pointer argument of the library is NULL. */
+/* The linker replaces boddurci_mark by this, to check that no pointer argument of the call is NULL. */
 uint32_t __real_boddurci_mark(boddurci *db, const uint32_t *numbers, size_t count);
 uint32_t __wrap_boddurci_mark(boddurci *db, const uint32_t *numbers, size_t count);
 
@@ -279,7 +280,7 @@ uint32_t __wrap_boddurci_mark(boddurci *db, const uint32_t *numbers, size_t coun
     return __real_boddurci_mark(db, numbers, count);
 }
 
-/* Replaces the function of the C library, for the library too. After a number of calls it limits files to 1,024 bytes. */
+/* Replaces the function of the C library, for Boddurci too. After a number of calls it limits the length of files to 1,024 bytes. */
 static int syncs_until_limit;
 
 static void set_limit(rlim_t most)
@@ -305,8 +306,8 @@ static boddurci_base *with_many(const char *name, int from)
     return base;
 }
 
-/* Saves in a child that SIGXFSZ would kill. The limit on the length of files is set at the sync with this number, or before the save if it
- * is 0. Returns the status of the save, or -1 if a signal killed the child. The signal mask must not change. */
+/* Saves in a child that SIGXFSZ would kill. The limit on the length of files is set at the sync with this number, or before the save if the
+ * number is 0. Returns the status of the save, or -1 if a signal killed the child. The signal mask must not change. */
 static int save_in_child(const char *name, int sync, int was_held)
 {
     int status;
@@ -333,8 +334,8 @@ static int save_in_child(const char *name, int sync, int was_held)
     return WIFEXITED(status) ? WEXITSTATUS(status) : -1;
 }
 
-/* A limit on the length of files is set at any time during a save. Then the save fails with nothing changed, or it is durable in the redo
- * file, and no process is killed. If an interrupted save cannot be recovered under the limit, the opening fails. */
+/* A limit on the length of files is set at some time during a save. The save fails and changes nothing, or it is durable in the redo file.
+ * No process is killed. If an interrupted save cannot be recovered under the limit, the opening fails. */
 static void test_limited(void)
 {
     int seen[3] = {0, 0, 0};
@@ -358,7 +359,7 @@ static void test_limited(void)
         EXPECT(unlink("limited.pag") == 0 && (unlink("limited.dir") == 0 || errno == ENOENT));
     }
     EXPECT(seen[0] != 0 && seen[1] != 0 && seen[2] != 0);
-    /* No page has changed, but the first save fails: there is no page to mark. */
+    /* The first save fails, although no page has changed: there is no page to mark. */
     boddurci_base *base = with_many("limited", 0);
     EXPECT(boddurci_save(base, &fault) == BODDURCI_DONE);
     boddurci_close_files(base);
@@ -372,7 +373,7 @@ static void test_limited(void)
     boddurci_close_files(base);
 }
 
-/* Changes that a save has planned and could not write are in the next save. */
+/* If a save has planned changes and could not write them, the next save has these changes. */
 static void test_written_later(void)
 {
     struct rlimit all, few;
@@ -484,7 +485,7 @@ static void test_bytes(void)
     boddurci_close_files(base);
 }
 
-/* A database of small pages, of any number, is not opened with wide pages, and does not change. A wide database is opened. */
+/* A database of small pages, whatever their number is, is not opened with wide pages, and does not change. A wide database is opened. */
 static void test_other_size(void)
 {
     char key[16];
@@ -579,7 +580,7 @@ static void test_permissions(void)
     EXPECT(boddurci_save(base, &fault) == BODDURCI_DONE && stat("beside.dir", &found) == 0 && (found.st_mode & 07777) == 0620);
     EXPECT(stat("beside.redo", &found) == 0 && (found.st_mode & 07777) == 0620);
     boddurci_close_files(base);
-    /* An existing redo file gets the permissions of .pag when it is opened. It is removed at the end if it has other permissions. */
+    /* An existing redo file gets the permissions of .pag when it is opened. If it has other permissions, it is removed at the end. */
     EXPECT(chmod("beside.pag", 0660) == 0);
     base = opened("beside", 0);
     store_one(base, PAIRS);
@@ -626,7 +627,7 @@ static void test_made_anew(void)
     boddurci_close_files(base);
 }
 
-/* Neither a chdir nor a renamed folder leads a save into other files. */
+/* After a chdir, or if the folder is renamed, a save still goes to the same files. */
 static void test_folder(void)
 {
     EXPECT(mkdir("one", 0777) == 0 && mkdir("two", 0777) == 0 && symlink("one", "link") == 0);
@@ -654,7 +655,7 @@ static int in_child(boddurci_base *base)
     int is_refused = boddurci_save(base, &fault) == BODDURCI_FORKED && boddurci_take(base) == NULL;
     boddurci_give(base);
     boddurci_close_files(base);
-    /* The child does not hold its parent's locks, but it holds those that it takes itself. */
+    /* The child does not hold its parent's locks, but it holds the locks that it takes itself. */
     alarm(60);
     for (int i = 0; i < 3 && is_refused; i++) {
         boddurci_base *first = opened("first", 0), *second = opened("second", 0);
@@ -723,7 +724,7 @@ static void test_within(void)
     double start = seconds();
     EXPECT(boddurci_open_files_within("visits", 0, 100, &fault) == NULL && fault.status == BODDURCI_LOCKED);
     EXPECT(seconds() - start > 0.09 && boddurci_open_files_within("visits", 0, 0, &fault) == NULL && fault.status == BODDURCI_LOCKED);
-    /* A signal before the wait has no effect, so a signal comes every second. */
+    /* A signal before the wait would have no effect, so the test sends one every second. */
     const struct itimerval each = {{1, 0}, {1, 0}}, never = {{0, 0}, {0, 0}};
     EXPECT(sigaction(SIGALRM, &action, NULL) == 0 && setitimer(ITIMER_REAL, &each, NULL) == 0);
     for (int milliseconds = -1; milliseconds < 60000; milliseconds += 60000)

@@ -1,7 +1,7 @@
 /* Tests threads that save one base at the same time: the number of saves for their calls, the data on the disk when a call returns, faults,
- * order, pages that change meanwhile, signals, cancelled threads and a fork. The first argument is a folder. A second argument is the
- * number of changes of each of 64 threads; then it prints the number of their saves. If it is greater than 2, two threads must share saves.
- * tests/c_library builds and runs it.
+ * order, pages that change meanwhile, signals, cancelled threads and a fork. The first argument is a folder. If there is a second argument,
+ * it is the number of changes that each of 64 threads makes, and the program prints the number of saves for these changes. If the argument
+ * is greater than 2, two threads must share saves. tests/c_library builds and runs it.
  *
  * This program replaces fdatasync. Each call takes a millisecond and copies its file. The copies are the files that a loss of power would
  * leave. */
@@ -48,7 +48,7 @@ static void rest(void)
 
 /* ---- a disk */
 
-/* The state of a file at its last flush. Zeros follow the bytes that it uses. */
+/* The bytes of a file at its last flush, followed by zeros. */
 struct kept {
     const char *ending;
     size_t length, used;
@@ -60,8 +60,8 @@ static struct kept disk[3] = {{.ending = ".pag"}, {.ending = ".dir"}, {.ending =
 static pthread_mutex_t disk_mutex = PTHREAD_MUTEX_INITIALIZER, writing = PTHREAD_MUTEX_INITIALIZER;
 static atomic_ulong flushes;
 
-/* The saves of the first thread, or those of the other threads, stop at the next flush until they may continue. `fails_at` is the number of
- * the flush of the other threads that fails. */
+/* The saves of the first thread, or of the other threads, stop at their next flush until the test lets them continue. `fails_at` is the
+ * number of a flush: of the flushes by the other threads, this one fails. */
 static _Thread_local int is_first;
 static atomic_int stops_first, stops_others, is_stopped, fails_at;
 
@@ -75,7 +75,7 @@ static void keep(int file, struct kept *kept)
         kept->used--;
 }
 
-/* Replaces the function of the C library, for the library too. No two threads may write the files at the same time. */
+/* Replaces the function of the C library, for Boddurci too. No two threads may write the files at the same time. */
 int fdatasync(int file)
 {
     char link[64], name[4096];
@@ -110,8 +110,8 @@ int fsync(int file)
     return fdatasync(file);
 }
 
-/* Replaces the function of the C library that reads without waiting for the disk. If `is_uncached` is set it fails, as if the bytes were
- * only on the disk. */
+/* Replaces the function of the C library that reads without waiting for the disk. If `is_uncached` is set, it fails, as if the bytes were
+ * only on the disk and not in the page cache. */
 static int cached, is_uncached;
 
 ssize_t preadv2(int file, const struct iovec *pieces, int count, off_t at, int flags)
@@ -125,9 +125,9 @@ ssize_t preadv2(int file, const struct iovec *pieces, int count, off_t at, int f
 
 /* ---- threads that wait */
 
-/* The linker puts these before sem_wait and sem_post. A call that waits in sem_wait is in the list for the next save. On request, a thread
- * that is not the first stops before its second post. Its first post is for the next save, and the later ones are for the calls that its
- * own save serves. */
+/* The linker replaces sem_wait and sem_post by these. A call that waits in sem_wait is in the list for the next save. On request, a thread
+ * that is not the first stops before its second post. The first post of a thread starts the next save, and the later posts wake the calls
+ * that its own save has served. */
 int __real_sem_wait(sem_t *turn);
 int __wrap_sem_wait(sem_t *turn);
 int __real_sem_post(sem_t *turn);
@@ -212,7 +212,7 @@ static int left_value(int number)
     return value;
 }
 
-/* The first thread delays its second call until the save of the other threads has begun. A thread can only be cancelled in a save. */
+/* The first thread delays its second call until the save of the other threads has begun. A thread can be cancelled only during a save. */
 static void *save_each(void *given)
 {
     struct saver *saver = given;
@@ -248,7 +248,7 @@ static void join(struct saver *saver)
     EXPECT(pthread_join(saver->thread, &result) == 0 && result == NULL);
 }
 
-/* Starts the first saver, whose save stops at a flush, and then the other savers, whose calls wait for that save. */
+/* Starts the first saver, whose save stops at a flush. Then starts the other savers, whose calls wait for that save. */
 static void start_behind(struct saver *savers, boddurci_base *base, int changes)
 {
     stops_first = 1;
@@ -319,8 +319,8 @@ static void *save_only(void *given)
     return NULL;
 }
 
-/* Two threads that save repeatedly share most saves: a thread that has the turn waits for the one that was just served. Otherwise they
- * would take turns, as they may under a sanitizer, which makes threads slow. */
+/* Two threads that save repeatedly share most saves: a thread that has the turn waits for the thread that was just served. Without this
+ * wait they would save alternately. Under a sanitizer, which makes threads slow, they may do so. */
 static void test_pair(int is_quick)
 {
     static struct saver savers[2];
@@ -339,8 +339,8 @@ static void test_pair(int is_quick)
     boddurci_close_files(base);
 }
 
-/* If the flush of a save fails, only the calls that wait for this save get the fault. The disk then has none of their changes, and the next
- * save has them. */
+/* If the flush of a save fails, only the calls that wait for this save get the fault. Then the disk has no change of these calls, and the
+ * next save has all of these changes. */
 static void fail_once(struct saver *savers, boddurci_base *base, int value)
 {
     start_behind(savers, base, 1);
@@ -426,7 +426,7 @@ static void test_slow(void)
     boddurci_close_files(base);
 }
 
-/* The linker puts this before pread. On request each of the next calls first changes two keys, as other threads may while a save reads. */
+/* The linker replaces pread by this. On request each of the next calls first changes two keys, as other threads may while a save reads. */
 ssize_t __real_pread(int file, void *room, size_t size, off_t at);
 ssize_t __wrap_pread(int file, void *room, size_t size, off_t at);
 
@@ -483,7 +483,7 @@ static void hear(int number)
     heard++;
 }
 
-/* A signal does not end a wait. A cancelled thread finishes its call first. A child takes no part in the saves of its parent. */
+/* A signal does not end a wait. A cancelled thread first finishes its call. A child does not take part in the saves of its parent. */
 static void test_disturbed(void)
 {
     struct saver savers[FEW + 1];
@@ -501,7 +501,7 @@ static void test_disturbed(void)
     if (child == 0) {
         int is_refused = boddurci_save(base, &savers[0].fault) == BODDURCI_FORKED && boddurci_take(base) == NULL;
         boddurci_close_files(base);
-        _exit(is_refused ? kill(getpid(), SIGKILL) : 1); /* without a check for leaks: the child lacks the stacks of its parent's threads */
+        _exit(is_refused ? kill(getpid(), SIGKILL) : 1); /* no check for leaks: the child lacks the stacks of its parent's threads */
     }
     EXPECT(child > 0 && waitpid(child, &status, 0) == child && WIFSIGNALED(status));
     AWAIT(heard == FEW && waiting == FEW);

@@ -1,6 +1,7 @@
-/* Runs a program in C on the host, for tests/c_programs, which passes its file as SOURCE. A line of standard input has the record, the
- * argument, the time, and whether the key exists. Bytes are in hex, and . is no bytes. An answer has the code, the word and the record. The
- * record and the argument are separate blocks of exactly their lengths, so that a sanitizer finds an access past their ends. */
+/* Runs a program in C on the host, for tests/c_programs, which passes the file of the program as SOURCE. A line of standard input has the
+ * record, the argument, the time, and whether the key exists. Bytes are in hex, and . means no bytes. An answer has the code, the word and
+ * the record. The record and the argument are in separate blocks of memory of exactly their lengths, so that a sanitizer finds any access
+ * past their ends. */
 #include SOURCE
 #include <inttypes.h>
 #include <stdio.h>

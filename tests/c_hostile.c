@@ -1,5 +1,5 @@
-/* Bases whose names lead elsewhere before they are saved, and children of a process, for tests/hostile_library. Each command first stores
- * the pair `a` `1` in BASE, and at the end prints the result of the save.
+/* Saves bases whose names lead elsewhere by then, and saves in a child, for tests/hostile_library. Each command first stores the pair `a`
+ * `1` in BASE, and at the end prints the result of the save.
  *
  *     c_hostile chdir BASE FOLDER       goes to another folder before it saves
  *     c_hostile swap BASE LINK TARGET   makes a link lead elsewhere before it saves

@@ -1,7 +1,7 @@
-/* Measures saves of one changed pair and of a hundred, in a base whose .pag has 1 MiB and in one with a sparse 1 GiB. tests/c_library
- * builds and runs it. The argument is a folder. It prints milliseconds. The status is 1 if one change, or a hundred, takes on the larger
- * base more than twenty times as long as on the smaller one, plus 5 milliseconds; if a save without a change takes a millisecond; or if an
- * opening of the larger base takes more than 64 MiB, since holes must take no memory. */
+/* Measures saves of one changed pair and of a hundred changed pairs, in a base whose .pag has 1 MiB and in a base whose .pag is a sparse 1
+ * GiB. tests/c_library builds and runs it. The argument is a folder. It prints milliseconds. The status is 1 in three cases: a save of one
+ * change or of a hundred changes takes on the larger base more than 5 milliseconds plus twenty times the time on the smaller base; a save
+ * without a change takes a millisecond; or opening the larger base takes more than 64 MiB, although holes must take no memory. */
 #define _POSIX_C_SOURCE 200809L
 #include "boddurci_files.h"
 #include <stdio.h>
@@ -41,7 +41,7 @@ static uint32_t hash(const char *key)
     return n;
 }
 
-/* Makes the first key, with a number of at least `from`, whose hash ends in these bits. */
+/* Makes the first key from the number `from` on whose hash ends in these bits. */
 static void find_key(char *key, unsigned from, uint32_t mask, uint32_t bits)
 {
     do
@@ -63,8 +63,8 @@ static double save(boddurci_base *base)
     return now() - from;
 }
 
-/* Makes a base whose last page number consists of `depth` one bits. It uses pairs that do not fit on one page, since a store splits at most
- * ten times. */
+/* Makes a base whose last page has the number 2^depth - 1. For each ten splits it stores pairs that do not fit on one page, since one store
+ * splits a page at most ten times. */
 static boddurci_base *made(const char *name, unsigned depth)
 {
     static uint8_t value[600];
@@ -113,7 +113,7 @@ static double middle(boddurci_base *base, unsigned changes)
     return times[ROUNDS / 2];
 }
 
-/* Returns the time of an opening in a new process, and sets *memory to its greatest memory in KiB. */
+/* Opens the base in a new process. Returns the time, and sets *memory to the peak memory of that process in KiB. */
 static double open_alone(const char *name, long *memory)
 {
     int ends[2], status;

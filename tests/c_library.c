@@ -230,7 +230,7 @@ static void test_crowded(void)
     boddurci_close(&db);
 }
 
-/* Four keys whose hashes agree in their lowest 9, 19 and 20 bits. The last would need a page past the end of the longest .pag. */
+/* Four keys whose hashes agree in their lowest 9, 19 and 20 bits. The last key would need a page past the end of the longest .pag. */
 static const char *const keys[] = {"far180463", "far413", "far192442", "far4056234"};
 #define KEY(i) (const uint8_t *)keys[i], strlen(keys[i])
 
@@ -255,7 +255,7 @@ static void test_too_long(void)
     EXPECT(boddurci_finish(&db, &ticket, &end, &word) == BODDURCI_FILE_TOO_LONG);
     EXPECT(boddurci_count(&db, &count) == BODDURCI_DONE && count == 3);
     EXPECT(boddurci_fetch(&db, KEY(3), room, sizeof room, &length) == BODDURCI_MISSING);
-    /* An existing pair may change, also by a ticket, and a small pair fits next to it. */
+    /* An existing pair may change, even by a ticket, and a small pair fits next to it. */
     EXPECT(boddurci_store(&db, KEY(0), value, 899, 1) == BODDURCI_DONE);
     EXPECT(boddurci_store(&db, KEY(3), value, 90, 1) == BODDURCI_DONE);
     EXPECT(boddurci_delete(&db, KEY(3)) == BODDURCI_DONE);
@@ -306,7 +306,8 @@ static void test_limit(void)
     boddurci_close(&db);
 }
 
-/* A directory with a path of 26 splits to a missing page past the longest .pag. A refused store or run takes no memory for that page. */
+/* A directory that has 26 splits on the path to a page past the end of the longest .pag. A refused store or run takes no memory for that
+ * page. */
 static void test_deep(void)
 {
     enum { DEPTH = 26, BYTES_OF_DIRECTORY = 1 << (DEPTH - 2) };
@@ -362,7 +363,8 @@ static void test_programs(void)
     boddurci_close(&db);
 }
 
-/* A program for the reply word, the time and the argument. It replies the time plus the number in the argument, and saves nothing. */
+/* A program that uses the reply word, the time and the argument. Its reply word is the time plus the number in the argument. It saves
+ * nothing. */
 static void test_arguments(void)
 {
     static const char source[] = "jlt r4, 8, none\nldxdw r6, [r3]\ncall 2\nadd r0, r6\nmov r1, r0\ncall 1\nnone:\nmov r0, 7\nexit\n";
@@ -426,7 +428,7 @@ static void test_tickets(void)
     EXPECT(boddurci_finish(&db, &ticket, &end, &word) == BODDURCI_NO_TICKET && boddurci_work(&ticket) == BODDURCI_NO_TICKET);
     EXPECT(ask(&db, &ticket, "none", 0) == BODDURCI_DONE && boddurci_work(&ticket) == BODDURCI_DONE);
     EXPECT(boddurci_finish(&db, &ticket, &end, &word) == BODDURCI_MISSING && end == 0);
-    /* A new ask replaces an earlier one. */
+    /* boddurci_ask replaces an earlier run in the ticket. */
     EXPECT(ask(&db, &ticket, "other", 1) == BODDURCI_DONE && boddurci_work(&ticket) == BODDURCI_DONE);
     EXPECT(ask(&db, &ticket, "hits", 1) == BODDURCI_DONE && boddurci_finish(&db, &ticket, &end, &word) == BODDURCI_NO_TICKET);
     EXPECT(boddurci_work(&ticket) == BODDURCI_DONE && boddurci_finish(&db, &ticket, &end, &word) == BODDURCI_DONE);
@@ -435,7 +437,7 @@ static void test_tickets(void)
     boddurci_close(&db);
 }
 
-/* Other calls come meanwhile: on the page, on the handle, and on other pages. */
+/* Meanwhile there are other calls: on the page, on the handle, and on other pages. */
 static void test_meanwhile(void)
 {
     boddurci db = BODDURCI_CLOSED, wide = BODDURCI_CLOSED, twin = BODDURCI_CLOSED;
@@ -454,7 +456,7 @@ static void test_meanwhile(void)
     EXPECT(ask(&db, &ticket, "hits", 1) == BODDURCI_DONE && boddurci_work(&ticket) == BODDURCI_DONE);
     EXPECT(boddurci_store(&db, BYTES("beside"), BYTES("it"), 1) == BODDURCI_DONE);
     EXPECT(boddurci_finish(&db, &ticket, &end, &word) == BODDURCI_CHANGED);
-    /* Two other handles: one whose page differs, and one whose page is the same. */
+    /* Two other handles: one with a different page, and one with the same page. */
     EXPECT(ask(&db, &ticket, "new", 1) == BODDURCI_DONE && boddurci_work(&ticket) == BODDURCI_DONE);
     open_empty(&wide, 1, 0);
     EXPECT(boddurci_finish(&wide, &ticket, &end, &word) == BODDURCI_CHANGED);
@@ -476,8 +478,8 @@ static void test_meanwhile(void)
     boddurci_abandon(&second);
 }
 
-/* Many concurrent tickets have the same results and files as the same runs on another handle. Tickets are worked and finished in another
- * order than they were asked. */
+/* Many concurrent tickets have the same results and files as the same runs on another handle. The order of boddurci_work and
+ * boddurci_finish differs from the order of boddurci_ask. */
 static void test_many_tickets(void)
 {
     enum { OPEN = 40, ROUNDS = 60 };
@@ -647,7 +649,7 @@ struct worker {
 static void *work(void *given)
 {
     struct worker *worker = given;
-    /* Run at least once, since a thread may get the mutex late on a busy machine. */
+    /* Run at least once, since on a busy machine a thread may wait long for the mutex. */
     do {
         if (worker->by_ticket) {
             worker->again += run_by_ticket(worker->key);
@@ -698,7 +700,7 @@ static uint32_t with_text(uint32_t status, const size_t *length)
     return status;
 }
 
-/* Plans the changes against empty files. */
+/* Plans a save of all changes into empty files. */
 static uint32_t plan_changed(boddurci *db, uint8_t *plan, size_t room)
 {
     static const uint8_t zeros[65536];
@@ -748,7 +750,7 @@ static uint32_t do_step(boddurci *db, boddurci_ticket *ticket, int step)
     }
 }
 
-/* Makes one step. The nth allocation, counted from the first step on, may fail in it. The step then succeeds nevertheless, or it does
+/* Makes one step. The nth allocation, counted from the first step on, may fail in it. If so, the step succeeds nevertheless, or it changes
  * nothing and is repeated. Returns whether the allocation was reached. */
 static int refuse_in_step(boddurci *db, boddurci_ticket *ticket, int step, unsigned long nth, uint32_t expected)
 {
@@ -774,7 +776,7 @@ static int refuse_in_step(boddurci *db, boddurci_ticket *ticket, int step, unsig
     return was_met;
 }
 
-/* Makes all steps. The nth allocation fails, or none if n is 0. Returns whether it was reached. */
+/* Makes all steps. The nth allocation fails, or no allocation if n is 0. Returns whether the nth allocation was reached. */
 static int refuse_in_steps(unsigned long nth, uint32_t *expected, struct files *made)
 {
     boddurci db = BODDURCI_CLOSED;

@@ -33,7 +33,7 @@ void free_files(struct files files);
 void test_plans(uint32_t wide);
 void test_marks(void);
 
-/* Tests of files that are passed in pieces. `reads_in_memory` returns whether an allocation failed. */
+/* Tests of files that are passed in pieces. `reads_in_memory` returns whether an allocation has failed. */
 void test_readings(void);
 int reads_in_memory(struct files files);
 

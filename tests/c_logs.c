@@ -1,4 +1,4 @@
-/* Tests redo files, from C: those that no save can leave; those in the format from before the log; and logs, whole, torn and damaged. Also
+/* Tests redo files, from C: files that no save can leave; files in the format from before the log; and logs, whole, torn and damaged. Also
  * tests a limit on the length of .dir. tests/c_library builds and runs it. The argument is a folder. */
 #define _DEFAULT_SOURCE
 #include "boddurci_files.h"
@@ -13,7 +13,7 @@
 #include <time.h>
 #include <unistd.h>
 
-/* TICK is in microseconds, longer than a tick of the clock. Within a tick a base does not see writes of another program. */
+/* TICK is a time in microseconds, longer than a tick of the clock. Within a tick a base does not notice writes of another program. */
 enum { PAIRS = 100, HEADER = 4096, LOG = HEADER + 1048576, GROWN = HEADER + 4194304, SAVES = 3, FAST = 20, TICK = 20000 };
 
 static unsigned long looked;
@@ -87,7 +87,7 @@ static void store_one(boddurci_base *base, int i)
 
 /* ---- redo files of one save */
 
-/* Writes a marked redo file without changes: the new lengths of .pag and .dir, and the old ones. */
+/* Writes a marked redo file without changes. It has the new lengths of .pag and .dir, and their old lengths. */
 static void write_redo(const char *name, const uint32_t lengths[4])
 {
     char redo[29] = "\1sdbmred2";
@@ -101,7 +101,8 @@ static int is_bad_redo(const char *name)
     return fails(name, 0, BODDURCI_BAD_REDO) && fails(name, BODDURCI_READ_ONLY, BODDURCI_BAD_REDO) && strstr(fault.text, "is not of these files");
 }
 
-/* Redo files: one that no save can leave, one in an older format, one of other files, and one without a mark. */
+/* Tests redo files: one that no save can leave, one in an older format, one of other files, two with lengths over the limit, and one without a
+ * mark. */
 static void test_redo(void)
 {
     static const uint32_t other[4] = {1024, 0, 2048, 0}, long_file[4] = {1073742848, 0, 0, 0}, long_dir[4] = {0, 268435457, 0, 0};
@@ -128,7 +129,7 @@ static void test_redo(void)
     boddurci_close_files(base);
 }
 
-/* An interrupted save of an empty database. A reader finds the database empty and writes nothing, and a writer recovers it. */
+/* An interrupted save of an empty database. A reader finds the database empty and writes nothing, and a writer recovers the files. */
 static void test_cut_off(void)
 {
     static const uint32_t lengths[4] = {0, 0, 1024, 0};
@@ -145,7 +146,8 @@ static void test_cut_off(void)
     boddurci_close_files(base);
 }
 
-/* Plans whose block in the file is half written, is written, or has other bytes, and a plan with two changes of one place. */
+/* Tests a plan with two changes that overlap in one byte. It is accepted if the file has an old or a new byte of either change there, and
+ * refused for any other byte. */
 static void test_known(void)
 {
     static const uint8_t head[29] = {1, 's', 'd', 'b', 'm', 'r', 'e', 'd', '2', 0, 4, 0, 0, 0, 0, 0, 0, 0, 4, 0, 0, 0, 0, 0, 0, 2};
@@ -203,7 +205,8 @@ static size_t end_of(const uint8_t *bytes, size_t at)
     return at + 8 + length;
 }
 
-/* The next opening recovers the saves of a log that was left, both on the present data files and on those from before all saves. */
+/* The next opening recovers the saves of a log that a killed process has left, both on the present data files and on those from before all
+ * saves. */
 static void test_left(void)
 {
     leave_log("left", 0, SAVES);
@@ -227,7 +230,8 @@ static int is_damaged(const char *name)
     return fails(name, BODDURCI_READ_ONLY, BODDURCI_BAD_REDO) && strstr(fault.text, "is damaged") != NULL;
 }
 
-/* If the last record lacks a byte, it was never committed. If an earlier record lacks a byte, it is damaged, and the log is refused. */
+/* If a byte of the last record is still 0, the record was never committed. If a byte of an earlier record was set to 0, the record is
+ * damaged, and the log is refused. */
 static void test_damaged(void)
 {
     size_t length, ends[SAVES + 1] = {HEADER};
@@ -253,7 +257,7 @@ static void test_damaged(void)
     EXPECT(found_in("torn") == SAVES);
 }
 
-/* A save that is longer than the log makes the log longer, and the next opening uses that log. A full log is emptied. */
+/* A save that does not fit into the log makes the log longer, and the next opening uses the longer log. A full log is emptied. */
 static void test_long(void)
 {
     boddurci_base *base = opened("long", 0);
@@ -282,7 +286,7 @@ static void move_locks(int is_back)
 }
 
 /* A program that does not take the lock empties the log of an open base, and writes its pages. The next save is refused and closes the log.
- * A save that insists begins a new log, also after saves within one clock tick. */
+ * A save that insists begins a new log, even after saves within one clock tick. */
 static void test_written_beside(void)
 {
     size_t count = 1;
@@ -349,7 +353,7 @@ static void store_empty_key(boddurci_base *base, const char *value)
     boddurci_give(base);
 }
 
-/* The length of .dir counts even if a change is only in .pag. The hash of the empty key is 0, so its page is the first one at any depth of
+/* A save checks the length of .dir against the limit on file sizes, even if it changes only .pag. The hash of the empty key is 0, so its page is the first one at any depth of
  * the directory. */
 static void test_limited_directory(void)
 {
@@ -380,7 +384,8 @@ static void test_limited_directory(void)
     boddurci_close_files(base);
 }
 
-/* Replaces the function of the C library, for the library too. A disk that syncs slowly would not fill a log within a second. */
+/* Replaces the function of the C library, for Boddurci too. If `omits_syncs` is 1, it does nothing: with a disk that syncs slowly, saves
+ * would not fill a log within a second. */
 static int omits_syncs;
 
 int fdatasync(int file)
@@ -388,7 +393,8 @@ int fdatasync(int file)
     return omits_syncs ? 0 : fsync(file);
 }
 
-/* Saves one key with values that fill a log of 1 MiB once. Returns 1 if that took too long for the log to grow, as under valgrind. */
+/* Saves values of one key until they have filled a log of 1 MiB once. Returns 1 if that took too long for the log to grow, as under
+ * valgrind. */
 enum { FILLS = 900, LONG = 700 };
 
 static int fills_slowly(boddurci_base *base)
@@ -417,8 +423,8 @@ static int first_byte_of(const char *name, const char *key)
     return value[0];
 }
 
-/* A log that fills within a second gets 4 MiB, once, and keeps them. A log that fills more slowly, or that may not be longer, stays
- * unchanged. No save fails, and the last one is found, also after a kill. */
+/* A log that fills within a second gets 4 MiB, once, and keeps this room. A log that fills more slowly, or that may not become longer,
+ * keeps its room. No save fails, and the last save is found, even after a kill. */
 static void test_grown(void)
 {
     enum { SLOW, LIMITED, KILLED, CASES };

@@ -1,5 +1,5 @@
 /* Tests every call of both headers that takes a handle, a reading, a ticket or a base, with NULL for it. The call must return the right
- * status and write nothing. tests/c_library builds and runs it, and checks that it has all calls. */
+ * status and write nothing. tests/c_library builds and runs it, and checks that no call is missing. */
 #define _POSIX_C_SOURCE 200809L
 #include "boddurci_files.h"
 #include <stdio.h>
@@ -72,6 +72,7 @@ static void test_programs(boddurci *none)
     CLOSED(boddurci_stock(none, "counter", &told.number));
     CLOSED(boddurci_submit_stock(none, BYTES("counter"), &told.number));
     CLOSED(boddurci_run(none, 0, BYTES("a"), BODDURCI_NO_BYTES, 1, 8, 0, &told.end, &told.word));
+    CLOSED(boddurci_add(none, BYTES("a"), 1, 0, 8, &told.end, &told.word));
     CLOSED(boddurci_ask(none, &ticket, 0, BYTES("a"), BODDURCI_NO_BYTES, 1, 8, 0));
     CLOSED(boddurci_ask(none, NULL, 0, BYTES("a"), BODDURCI_NO_BYTES, 1, 8, 0));
     CLOSED(boddurci_finish(none, &ticket, &told.end, &told.word));

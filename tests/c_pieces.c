@@ -1,7 +1,7 @@
-/* Tests openings of files that are read in pieces: their memory and time, files that become shorter meanwhile, odd lengths and the greatest
- * one. tests/c_library builds and runs it, with pread wrapped. The argument is a folder. It prints memory in KiB and milliseconds. The
- * status is 1 if an opening takes more than 1.25 times the memory of the open database, or if an opening of a sparse 1 GiB takes more than
- * 8 MiB or a second of processor time. */
+/* Tests opening bases whose files are read in pieces: memory and time, files that become shorter meanwhile, odd lengths and the greatest
+ * length. tests/c_library builds and runs it, with pread wrapped. The argument is a folder. It prints memory in KiB and time in
+ * milliseconds. The status is 1 if opening a base takes more than 1.25 times the memory of the open database, or if opening a sparse 1 GiB
+ * takes more than 8 MiB or a second of processor time. */
 #define _GNU_SOURCE
 #include "boddurci_files.h"
 #include <malloc.h>
@@ -79,7 +79,7 @@ static void make(const char *name, uint32_t flags, unsigned pairs, size_t bytes)
 
 /* ---- memory and time */
 
-/* Returns the memory of this process in KiB, present or greatest. */
+/* Returns the present memory or the peak memory of this process in KiB. */
 static long memory(const char *which)
 {
     char line[200];
@@ -101,7 +101,8 @@ static double processor(void)
     return (double)(used.ru_utime.tv_sec + used.ru_stime.tv_sec) * 1e3 + (double)(used.ru_utime.tv_usec + used.ru_stime.tv_usec) * 1e-3;
 }
 
-/* Prints the memory that an opening takes, and the memory that stays in use. Returns whether it is too much. */
+/* Prints the peak memory of opening a base, the memory that stays in use, and the processor time. Returns whether the peak or the time is
+ * too high. */
 static int measured(const char *what, const char *name, uint32_t flags, size_t pairs, int is_sparse)
 {
     long before = memory("VmRSS:");
@@ -117,7 +118,7 @@ static int measured(const char *what, const char *name, uint32_t flags, size_t p
     return is_sparse ? most > 8192 || time > 1000 : most * 4 > stays * 5;
 }
 
-/* Does the same in a new process, which has no memory yet. */
+/* Calls `measured` in a new process, which has not allocated memory yet. */
 static void measure(const char *what, const char *name, uint32_t flags, size_t pairs, int is_sparse)
 {
     char words[3][24];
@@ -160,7 +161,7 @@ static void refuses(const char *name, uint32_t flags, uint32_t status, const cha
     NEED(strcmp(fault.text, text) == 0);
 }
 
-/* Files that are one hole: of the greatest length, of one byte more, and of lengths that are not whole pages. */
+/* Files that consist of one hole: of the greatest length, of one byte more, and of lengths that are not whole pages. */
 static void test_holes(void)
 {
     static const char bad[] = "bad files: PagLength";
@@ -178,7 +179,7 @@ static void test_holes(void)
     refuses("hole", BODDURCI_WIDE, BODDURCI_BAD_FILES, bad);
 }
 
-/* A pair at the end of a long hole, and a pair at its start. */
+/* A file with a pair at the end of a long hole, and one with a pair at the start of the hole. */
 static void test_sparse(void)
 {
     make("sparse", 0, 50, 100);

@@ -61,7 +61,7 @@ static size_t changed_in(boddurci *db)
     return count;
 }
 
-/* Checks that the plan makes the old files equal to those of a database. Returns the length of the plan. */
+/* Checks that the plan makes the old files equal to the files of a database. Returns the length of the plan. */
 static size_t plan_from(boddurci *db, struct files old, size_t page)
 {
     uint8_t none[1];
@@ -104,7 +104,7 @@ void test_plans(uint32_t wide)
     EXPECT(boddurci_store(&db, BYTES("7"), BYTES("another"), 1) == BODDURCI_DONE && changed_in(&db) == 1);
     size_t one = plan_from(&db, full, page) - PLAN_HEAD;
     EXPECT(one >= CHANGE_HEAD + PART && one <= BLOCK * page / 1024 && (wide || (one - CHANGE_HEAD) % PART == 0));
-    /* A change in place covers whole parts of 128 bytes, with the old and the new bytes. */
+    /* A change consists of whole parts of 128 bytes, with the old and the new bytes. */
     struct files grown = files_of(&db);
     EXPECT(boddurci_store(&db, BYTES("7"), BYTES("0ther"), 1) == BODDURCI_DONE && plan_from(&db, grown, page) > 0);
     free_files(grown);
@@ -121,7 +121,7 @@ void test_plans(uint32_t wide)
     boddurci_close(&db);
 }
 
-/* Which pages count as changed, and plans with and without them. */
+/* Tests which pages count as changed, and plans with these pages and without. */
 void test_marks(void)
 {
     static uint8_t pages[2048], plan[8192];

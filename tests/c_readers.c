@@ -1,6 +1,7 @@
 /* Tests readers while a process has a base open for writing: the data that they find, their waits, and the locks. tests/c_library builds
- * and runs it. The first argument is a folder. The second, a number of seconds, lets a reader read in a loop next to a service that saves
- * without a pause, and prints the figures. The third is the pause of that reader after each reading, in microseconds. */
+ * and runs it. The first argument is a folder. If there is a second argument, a number of seconds, a reader reads in a loop for that time
+ * next to a service that saves without a pause, and the program prints figures. A third argument is the pause of that reader after each
+ * reading, in microseconds. */
 #define _GNU_SOURCE
 #include "boddurci_files.h"
 #include <errno.h>
@@ -86,7 +87,7 @@ static int is_marked(const char *name)
     return first == 1;
 }
 
-/* Returns whether the file of a lock can be locked now. */
+/* Returns whether the lock on a lock file is free now. */
 static int is_free(const char *name)
 {
     int lock = open(name, O_RDWR), is_free = lock >= 0 && flock(lock, LOCK_EX | LOCK_NB) == 0;
@@ -102,7 +103,7 @@ struct service {
     int orders, answers;
 };
 
-/* Opens a base, and saves a number at the key `a` for each order, until the orders end. The order -1 kills the process. */
+/* Opens a base, and saves the number in each order at the key `a`, until there are no more orders. The order -1 kills the process. */
 static void serve(const char *name, int orders, int answers)
 {
     long order;
@@ -239,7 +240,7 @@ static void test_shorter(void)
 
 /* ---- writers that take turns, and are killed */
 
-/* Shared by writers and readers: the last number that is certainly saved, and whether the readers are to end. */
+/* Shared by writers and readers: the last number that is certainly saved, and whether the readers must end. */
 struct counted {
     atomic_long saved;
     atomic_int is_over;
@@ -267,7 +268,7 @@ static void count_up(boddurci_base *base)
     counted->saved = number;
 }
 
-/* Reads repeatedly: both numbers are from one save, which is not older than the last save before the reading. */
+/* Reads repeatedly. Both numbers must be from one save, which must not be older than the last save before the reading. */
 static void read_until_over(void)
 {
     while (!counted->is_over) {
@@ -292,7 +293,7 @@ static pid_t forked(void (*child)(void))
 
 enum { WRITERS = 4, TURNS_EACH = 10, KILLS = 60 };
 
-/* Opens the base for each of its turns, and makes one save and two saves alternately. */
+/* Opens the base for each turn. Makes one save in a turn and two saves in the next, alternately. */
 static void take_turns(void)
 {
     for (int turn = 0; turn < TURNS_EACH; turn++) {
@@ -353,7 +354,7 @@ static void test_turns(void)
 
 /* ---- a save that is interrupted in the data files */
 
-/* Replaces the function of the C library, for the library too. On request the second call on .pag kills the process. */
+/* Replaces the function of the C library, for Boddurci too. On request the second call on .pag kills the process. */
 static int writes_until_kill;
 
 ssize_t pwrite(int file, const void *bytes, size_t count, off_t at)
@@ -391,8 +392,8 @@ static void save_half(const char *name)
     _exit(0);
 }
 
-/* A process that gets BASE.lock while the writer is being killed must not see half of the save. BASE.writer does not show that the files
- * are complete then. The system may release the locks in any order. */
+/* A process that gets BASE.lock while the writer is being killed must not see half of the save. In this case BASE.writer does not show
+ * whether the files are complete, since the system may release the two locks in any order. */
 static void test_half(void)
 {
     enum { TIMES = 60 };
@@ -412,7 +413,7 @@ static void test_half(void)
         pid_t writer = fork();
         if (writer == 0)
             save_half("half");
-        /* The service saves as soon as it has opened the base. A reader that does not sleep comes before all locks are released. */
+        /* The service saves as soon as it has opened the base. A reader that does not sleep reads before all locks are released. */
         for (long number = 0; number != i;) {
             boddurci_base *reader = boddurci_open_files("half", BODDURCI_READ_ONLY | BODDURCI_NO_WAIT, &fault);
             EXPECT(reader != NULL || fault.status == BODDURCI_LOCKED);
@@ -433,7 +434,7 @@ static void *read_here(void *name)
     return (void *)(intptr_t)found(name);
 }
 
-/* A thread can read while it has the base open, and so can other threads. Nobody can open it twice for writing. */
+/* A thread can read while it has the base open for writing, and so can other threads. The base cannot be opened twice for writing. */
 static void test_here(void)
 {
     void *number;
@@ -473,7 +474,7 @@ static void test_forked(void)
 
 /* ---- the files of the locks */
 
-/* Releases the lock of a reader after a while. A save waits for a reader, and for nobody else. */
+/* Releases the lock of a reader after a while. A save waits only for readers. */
 static void *release(void *given)
 {
     usleep(100000);
@@ -513,7 +514,8 @@ static void *look(void *writer)
     return NULL;
 }
 
-/* A process that is stopped while it checks BASE.writer does not block saves. Readers use the log meanwhile, and nobody else writes. */
+/* A process that is stopped while it checks BASE.writer does not block saves. Readers use the log meanwhile, and no other process
+ * writes. */
 static void test_stopped(void)
 {
     long number = 40;
@@ -570,7 +572,7 @@ static void test_locks(void)
     boddurci_close_files(opened("here", 0));
 }
 
-/* If the redo file cannot be marked, the writer keeps BASE.lock until a save can mark it. Root may make files everywhere, so the test
+/* If the redo file cannot be marked, the writer keeps BASE.lock until a save can mark the file. Root may make files everywhere, so the test
  * becomes another user first. */
 static void test_unmarked(void)
 {
@@ -593,8 +595,8 @@ static void test_unmarked(void)
 
 /* ---- a reader in a loop */
 
-/* Shared by the service and its reader: the number of the last save that began, that of the last save that ended, and whether the service
- * is to end. */
+/* Shared by the service and its reader: the number of the last save that has begun, the number of the last save that has ended, and whether
+ * the service must end. */
 struct shared {
     atomic_long begun, done;
     atomic_int is_over;
@@ -707,8 +709,9 @@ static void take_turn(int turn, struct shared *shared, useconds_t rest, struct f
     }
 }
 
-/* The turns change often, so that they compare saves at nearly the same time: without a reader; with a reader of another database, which
- * takes as much processor time; and with a reader of the same database, which waits without a limit or for 5 seconds. */
+/* There are several kinds of turns: without a reader; with a reader of another database, which takes the same processor time; and with a
+ * reader of the same database, which waits without a limit or for 5 seconds. The turns change often, so that the kinds are compared at
+ * nearly the same time. */
 static void loop(double length, useconds_t rest)
 {
     struct shared *shared = mmap(NULL, sizeof *shared, PROT_READ | PROT_WRITE, MAP_SHARED | MAP_ANONYMOUS, -1, 0);

@@ -38,7 +38,7 @@ static uint32_t open_read(boddurci *db, boddurci_reading *reading, struct files 
     return boddurci_open_reading(db, reading, files.dir, files.dir_length, wide, 0, text->room, sizeof text->room, &text->length);
 }
 
-/* Opening a reading has the same result as opening the bytes: the same database, or the same fault. */
+/* Tests that opening a reading has the same result as opening the bytes: the same database, or the same fault. */
 static void test_alike(struct files files, uint32_t read_wide, uint32_t wide, size_t piece)
 {
     boddurci whole = BODDURCI_CLOSED, pieces = BODDURCI_CLOSED;
@@ -92,7 +92,7 @@ static void test_pieces(uint32_t wide)
     free_files(files);
 }
 
-/* The calls after a piece; the state of a reading before the first piece and after an opening. */
+/* Tests the calls after a piece, and the state of a reading before the first piece and after an opening. */
 static void test_states(void)
 {
     static const uint8_t zeros[8192];
@@ -111,7 +111,7 @@ static void test_states(void)
     boddurci_close(&db);
     EXPECT(open_read(&db, &reading, none, 0, &text) == BODDURCI_DONE && boddurci_count(&db, &count) == BODDURCI_DONE && count == 0);
     boddurci_close(&db);
-    /* no piece follows one that ends inside a page, not even an empty one */
+    /* after a piece that ends inside a page no piece is accepted, not even an empty one */
     EXPECT(boddurci_read(&reading, 1, zeros, 8192) == BODDURCI_DONE && boddurci_read(&reading, 0, zeros, 1024) == BODDURCI_DONE);
     EXPECT(boddurci_read(&reading, 1, zeros, 1024) == BODDURCI_BAD_FILES && boddurci_read(&reading, 1, zeros, 0) == BODDURCI_BAD_FILES);
     EXPECT(open_read(&db, &reading, none, 1, &text) == BODDURCI_BAD_FILES && text.length == 9 && !memcmp(text.room, "PagLength", 9));

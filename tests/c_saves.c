@@ -1,4 +1,4 @@
-/* Saves from C, for tests/c_crashes, which interrupts them.
+/* Saves from C. tests/c_crashes interrupts these saves.
  *
  *     c_saves list BASE      opens the base for reading, and prints all pairs in hex
  *     c_saves change BASE    makes the changes on standard input, `replace KEY VALUE` and `delete KEY` in hex, saves, and prints `saved`;

@@ -1,6 +1,6 @@
 /* Tests shared bases. tests/shared builds and runs it.
  *
- *     calls FOLDER                 tests the calls, with a model, other programs, other users, forks and threads
+ *     calls FOLDER                 tests the calls: against a model, with other programs, other users, forks and threads
  *     count BASE LOG SEED          increments counters until it is killed, and appends each answer to the log
  *     change BASE                  makes the changes on standard input, and prints a line after each
  *     fetch BASE KEY               prints the value of a key
@@ -134,7 +134,7 @@ static int is_marked(const char *base)
     return marked;
 }
 
-/* Opens a handle on the data files without locks and without the log, as another program would read them. */
+/* Opens a handle on the data files without locks and without the log, as another program would read these files. */
 static void open_raw(boddurci *db, const char *base, uint32_t flags)
 {
     uint8_t text[200];
@@ -346,7 +346,8 @@ static void test_names(void)
     boddurci_close_shared(shared);
 }
 
-/* Gives the note in the log to another boot of the system. docs/DESIGN.md has the bytes of a note. */
+/* Changes the boot id in the note of the log, as if the note came from another boot of the system. docs/DESIGN.md defines the bytes of a
+ * note. */
 static void change_boot(const char *base)
 {
     enum { NOTE = 16, BOOT = NOTE + 32, CHECK = NOTE + 112 };
@@ -416,7 +417,7 @@ static void test_sizes(void)
     boddurci_close_shared(shared);
 }
 
-/* Files that no save has left, or that are not a database. */
+/* Tests files that no save has left, and files that are not a database. */
 static void test_files(void)
 {
     static const uint8_t junk[1024] = {255, 255, 1};
@@ -429,7 +430,7 @@ static void test_files(void)
     char key[20];
     for (int i = 0; i < 200; i++)
         EXPECT(store(shared, (sprintf(key, "%d", i), key), "some value") == BODDURCI_DONE);
-    /* A lost directory is noticed, unless the log has it. */
+    /* A call notices that the directory is lost, unless the log has the directory. */
     boddurci_close_files(boddurci_open_files("files", 0, &fault));
     EXPECT(!is_marked("files") && rename("files.dir", "lost") == 0 && store(shared, "a", "b") == BODDURCI_BAD_FILES);
     EXPECT(boddurci_shared_fetch(shared, BYTES("a"), NULL, 0, NULL, &fault) == BODDURCI_BAD_FILES);
@@ -467,7 +468,8 @@ static uint32_t store_long(boddurci_shared *shared, int number)
     return store(shared, key, value);
 }
 
-/* A split must not overwrite a page that has bytes, even if the directory does not lead to that page. It fails as on the whole database. */
+/* A split must not overwrite a page that has bytes, even if the directory does not lead to that page. Such a split fails as it does on the
+ * whole database. */
 static void test_targets(void)
 {
     uint8_t pages[3][1024] = {{0}, {255, 255, 1}, {0}};
@@ -496,7 +498,7 @@ static void test_targets(void)
     boddurci_close_shared(shared);
 }
 
-/* A folder and files that this user may only read. */
+/* Tests a folder and files that this user may only read. */
 static void test_readers(void)
 {
     if (geteuid() != 0)
@@ -575,7 +577,7 @@ static void delete_as_member(void)
     boddurci_close_shared(shared);
 }
 
-/* A member of the group makes the redo file, but cannot give it to the owner of .pag. So the file must not stay. */
+/* A member of the group makes the redo file, but cannot give it to the owner of .pag. So the call must remove the file at its end. */
 static void test_group(void)
 {
     struct stat found;
@@ -685,7 +687,7 @@ static void test_services(void)
     boddurci_close_shared(shared);
 }
 
-/* Saves a pair in a service that is killed, so that the log has no note. */
+/* Saves a pair by a service that is then killed, so that the log has no note. */
 static void store_and_die(const char *base, const char *value)
 {
     int status;
@@ -701,7 +703,8 @@ static void store_and_die(const char *base, const char *value)
     EXPECT(waitpid(child, &status, 0) == child && WIFSIGNALED(status) && is_marked(base));
 }
 
-/* A log must be recovered, and a service that waits for the files holds BASE.writer shared. A fetch does not need that lock. */
+/* A fetch finds a log that must be recovered, while a service that waits for the files holds BASE.writer shared. The fetch does not need
+ * that lock. */
 static void test_waiting(void)
 {
     boddurci_shared *shared = opened("waited", 0), *once = opened("waited", BODDURCI_NO_WAIT);
@@ -721,7 +724,7 @@ static void do_nothing(int signal)
     (void)signal;
 }
 
-/* Waits for the files like a service, for some time, while other processes take BASE.lock again and again. */
+/* For some time, waits for the files like a service while other processes take BASE.lock again and again. */
 static void wait_as_service(void)
 {
     int writer = taken("signals.writer", LOCK_SH), lock = taken("signals.lock", LOCK_SH);
@@ -817,7 +820,7 @@ static void test_long(void)
     struct bytes redo = read_file("long", ".redo");
     EXPECT(redo.length < 8 << 20);
     free(redo.at);
-    /* Each third call comes after a call of another kind of program. */
+    /* After each third call, a process like a service or a reader opens the base and closes it. */
     for (int i = 0; i < 60; i++) {
         EXPECT(increment(shared, counter, "0") == 181 + (uint64_t)i);
         if (i % 3 == 0)
@@ -849,7 +852,7 @@ static void test_forks(void)
     boddurci_close_shared(shared);
 }
 
-/* After its parent was killed, a child does not hold the locks of a call of the parent. */
+/* If the parent was killed during a call, its child does not hold the locks of that call. */
 static void test_orphans(void)
 {
     boddurci_shared *shared = opened("orphans", 0);
@@ -884,7 +887,7 @@ static void *store_always(void *shared)
     return NULL;
 }
 
-/* Nor does a child that was forked during a call of another thread. */
+/* The same holds for a child that was forked during a call of another thread. */
 static void test_orphans_of_threads(void)
 {
     boddurci_shared *shared = opened("orphans", 0);
@@ -987,7 +990,8 @@ static void test_threads(void)
     boddurci_close_shared(of_all);
 }
 
-/* After a change of the working folder or a rename of the folder, the handle stays with its files, also for a call on the whole base. */
+/* If the working folder changes or the folder of the base is renamed, the handle uses the same files as before, even for a call on the
+ * whole base. */
 static void test_folders(void)
 {
     boddurci_shared *shared = opened("folder/db", 0);

@@ -20,7 +20,7 @@ static size_t assembled(const char *folder, const char *name, uint8_t *image)
     return length;
 }
 
-/* The text of NO_STOCK contains all names in one line. */
+/* The text of NO_STOCK has all names in one line. */
 static void test_list(void)
 {
     char listed[300] = "";
@@ -41,7 +41,7 @@ static void test_others(boddurci *db, uint32_t next)
     EXPECT(boddurci_run(db, next, BYTES("a"), BODDURCI_NO_BYTES, 1, 8, 0, &end, &word) == BODDURCI_NO_PROGRAM);
 }
 
-/* Adds to a number, within bounds. */
+/* Tests additions to a number, within bounds. */
 static void test_adding(boddurci *db)
 {
     uint64_t end = 9, number = 9;

@@ -57,7 +57,7 @@ static int is_next_cut(void)
     return chosen != 0 && atomic_load(&calls) + 1 == chosen;
 }
 
-/* Returns whether this call is the one to interrupt. A kill does not return. */
+/* Returns whether this call must fail. If the run must be killed at this call, kills it. */
 static int is_cut(void)
 {
     if (!chosen || atomic_fetch_add(&calls, 1) + 1 != chosen)

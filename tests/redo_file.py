@@ -1,8 +1,10 @@
-"""The bytes of redo files, for the scripts that compare them: logs, as defined at the head of crates/sdbm_log/specs/Log.antt, and the
-marked plan of one save, as defined at the head of crates/sdbm_saves/specs/Redo.antt. Older versions of `dbm` left such plans."""
+"""Computes the bytes of redo files, for the scripts that compare these bytes. A redo file is a log, which the head of
+crates/sdbm_log/specs/Log.antt defines, or the marked plan of one save, which the head of crates/sdbm_saves/specs/Redo.antt defines. Older
+versions of `dbm` left such plans."""
 
 SIGNATURE = b"sdbmred2"
-# Plans divide both files into blocks of BLOCK bytes, the directory first. A change begins and ends at multiples of PART in its block.
+# A plan divides both files into blocks of BLOCK bytes. The changes of the directory come first. A change begins and ends at multiples of
+# PART within its block.
 BLOCK, PART = 1024, 128
 
 
@@ -11,14 +13,15 @@ def number(value):
 
 
 def changed_part(old, new, part):
-    """Returns the beginning and end of a change of a block. It is the whole block if the old bytes would be all zeros."""
+    """Returns the start and the end of the change in a block. If the old bytes of the change are all zeros, the change is the whole
+    block."""
     differ = [at for at in range(0, len(new), part) if old[at : at + part] != new[at : at + part]]
     start, end = differ[0], min(differ[-1] + part, len(new))
     return (start, end) if any(old[start:end]) else (0, len(new))
 
 
 def plan_of(before, after, signature=SIGNATURE, part=PART):
-    """Returns the plan of a save from the files of one database, by their endings, to those of another."""
+    """Returns the plan of a save, given the files of one database, by name, before it and after it."""
     both = [(before.get(f"db.{end}", b""), after.get(f"db.{end}", b"")) for end in ("pag", "dir")]
     changes = []
     for which in (1, 0):
@@ -34,7 +37,7 @@ def plan_of(before, after, signature=SIGNATURE, part=PART):
 
 
 def redo_of(before, after, mark=1, signature=SIGNATURE):
-    """Returns the redo file of older versions for such a save: its changes are whole blocks."""
+    """Returns the redo file in which older versions keep the plan of this save. Each change in that plan is a whole block."""
     return bytes([mark]) + plan_of(before, after, signature, BLOCK)
 
 
@@ -42,8 +45,8 @@ def redo_of(before, after, mark=1, signature=SIGNATURE):
 
 HEADER = 4096
 LOG_SIGNATURE = b"sdbmlog1"
-# The room for records after the header: in a log of the library; in one of a session, which is also the least in one of a command; and the
-# most in a log that a command leaves.
+# The room for records after the header of a log: in a log of the library; in a log of a session; the least room in a log of a command; and
+# the greatest room in a log that a command leaves.
 ROOM = 1 << 20
 SESSION_ROOM = 258048
 LEAST_ROOM = 28672
@@ -51,34 +54,34 @@ MOST_ROOM = 258048
 
 
 def digits(value):
-    """Returns a number as four bytes that are not zero."""
+    """Returns a number as four nonzero bytes, its digits in base 255 plus 1."""
     return bytes(value // 255**place % 255 + 1 for place in range(4))
 
 
 def value_of(four):
-    """Returns the number in four such bytes."""
+    """Returns the number for which `digits` returns these four bytes."""
     return sum((byte - 1) * 255**place for place, byte in enumerate(four))
 
 
 def record_of(before, after):
-    """Returns the record of a save from the files of one database, by their endings, to those of another."""
+    """Returns the record of a save in a log, given the files before it and after it."""
     plan = plan_of(before, after)
     body = digits(len(plan)) + plan
     return digits(len(body) - body.count(0)) + body
 
 
 def log_of(records, room=ROOM, mark=1):
-    """Returns a log with these bytes after its header."""
+    """Returns a log: a header, and these bytes in a room of `room` bytes."""
     return (bytes([mark]) + LOG_SIGNATURE).ljust(HEADER, b"\0") + records.ljust(room, b"\0")
 
 
 def empty_log(room=LEAST_ROOM):
-    """Returns the log that stays after a save of `dbm`."""
+    """Returns the log that a save of `dbm` leaves. It has no mark and no records."""
     return log_of(b"", room, mark=0)
 
 
 def room_for(record):
-    """Returns the room of a log that `dbm` makes for a record."""
+    """Returns the room of a new log that `dbm` makes for a record."""
     return min(max(LEAST_ROOM, len(record)), 1 << 30)
 
 
@@ -91,14 +94,15 @@ def is_marked_log(redo):
 
 
 def rooms_for(record, left):
-    """Returns the rooms that a log of `dbm` may have in a save with this record, if the redo file had the bytes `left` before: that of a
-    new log, and that of a log that is used again."""
+    """Returns the possible rooms of the log while `dbm` saves this record. They are the room of a new log and, if `left`, the redo file
+    before the save, is a log that can be used again, its room."""
     room, had = room_for(record), len(left) - HEADER
     return {room, had} if left[:9] == b"\0" + LOG_SIGNATURE and room <= had <= MOST_ROOM else {room}
 
 
 def is_committed(redo):
-    """Returns whether a marked log begins with a whole record: its weight is the number of its other bytes that are not zero."""
+    """Returns whether a redo file is a marked log whose first record is whole: the weight in the record is the number of nonzero bytes
+    after the weight."""
     first = redo[HEADER : HEADER + 8]
     if not is_marked_log(redo) or len(first) < 8 or 0 in first:
         return False
@@ -107,7 +111,7 @@ def is_committed(redo):
 
 
 def is_log_of(redo, record, rooms):
-    """Returns whether a redo file is a marked log with one of these rooms, with this record, a beginning of it or no record, and zeros
-    after it."""
+    """Returns whether a redo file is a marked log with one of these rooms, in which a prefix of this record is followed by zeros. The
+    prefix may be empty or the whole record."""
     begun = redo[HEADER:].rstrip(b"\0")
     return record.startswith(begun) and any(redo == log_of(begun, room) for room in rooms)

@@ -1,5 +1,5 @@
-/* A library that is loaded before the C library. It makes the allocation with the number REFUSED_GROWTH fail, and reports that by a byte on
- * the pipe with the descriptor REFUSED_PIPE. tests/refused and tests/c_library use it. */
+/* A library that is loaded before the C library. It makes the allocation with the number REFUSED_GROWTH fail. It reports this failure by a
+ * byte on the pipe with the descriptor REFUSED_PIPE. tests/refused and tests/c_library use it. */
 #include <errno.h>
 #include <stdatomic.h>
 #include <stddef.h>

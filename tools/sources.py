@@ -1,4 +1,4 @@
-"""The functions in the sources below crates/: the file, the contract and the body of each, and the meaning of the names in its file."""
+"""The functions in the sources below crates/: the file, contract and body of each, and the meaning of the names in its file."""
 
 import pathlib
 import re
@@ -16,7 +16,7 @@ USE = re.compile(r"^(?:pub(?:\(crate\))? )?use ([^;]+);", re.M)
 
 
 def close_of(text, at):
-    """Returns the place after the bracket that closes the bracket at place `at`."""
+    """Returns the index after the bracket that closes the bracket at index `at`."""
     depth = 0
     for place in range(at, len(text)):
         depth += (text[place] in "([{") - (text[place] in ")]}")
@@ -26,7 +26,7 @@ def close_of(text, at):
 
 
 def receiver_before(text, at):
-    """Returns the expression that ends at place `at`, before the dot of a method call."""
+    """Returns the expression that ends at index `at`, before the dot of a method call."""
     start = at
     while start:
         last = text[start - 1]
@@ -64,7 +64,7 @@ def imports(tree, before=()):
 
 
 class Function:
-    """A function: its file, its type and its trait if it has one, and the texts of its generics, parameters, result, contract and body."""
+    """A function: its file, its type and trait if it has these, and the texts of its generics, parameters, result, contract and body."""
 
     def __init__(self, file, head, text, owner, trait, generics):
         self.file, self.name, self.owner, self.trait = file, head[2], owner, trait
@@ -104,7 +104,7 @@ class File:
 
 
 def owner_of(header):
-    """Returns the type and the trait that the header of an `impl` or a `trait` names, and the header."""
+    """Returns the type and the trait that the header of an `impl` or a `trait` names, and the header itself."""
     trait, _, owner = re.sub(r"^(?:impl|trait)(?:<(?:[^<>]|<[^<>]*>)*>)? ?", "", header).rpartition(" for ")
     names = [WORD.findall(re.sub(r"'\w+|<.*|:.*", "", part, flags=re.S)) for part in (owner, trait)]
     return tuple(each[-1] if each else "" for each in names) + (header,)

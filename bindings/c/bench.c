@@ -3,8 +3,8 @@
  * cc -O2 -I out/boddurci bindings/c/bench.c out/boddurci/libboddurci.a -pthread -o bench
  * usage: bench N [wide]
  *
- * It prints the stores, fetches, runs and runs by a ticket per second. Then it prints the milliseconds to make the bytes of both files, to
- * open them again, and to plan a save of one changed pair. */
+ * It prints how many stores, fetches, runs and runs by a ticket it makes per second. Then it prints how many milliseconds it takes to make
+ * the bytes of both files, to open a database on these bytes, and to plan a save of one changed pair. */
 #include "boddurci.h"
 #include <stdio.h>
 #include <stdlib.h>
@@ -33,7 +33,7 @@ static void name(char *key, unsigned i)
 
 #define KEY (const uint8_t *)key, 16
 
-/* Plans a save after the change of one pair. Returns 0 if there is a plan. */
+/* Changes one pair and plans a save. Returns 0 if the plan was made. */
 static int plan_one(boddurci *db, const uint8_t *dir, size_t dir_length, const uint8_t *pag, size_t pag_length, size_t page)
 {
     static uint8_t pages[8192], plan[65536];

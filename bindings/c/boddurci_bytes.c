@@ -1,5 +1,5 @@
-/* Reads a file into memory, whole or as pages in pieces. Only the data of the file is read, and the rest of the memory is never written. So
- * holes take no memory: a sparse file takes as much as it has on the disk. */
+/* Reads a file into memory, whole or as pages in pieces. Holes of the file are not read, and the memory for them is never written. So holes
+ * take no memory: a sparse file takes as much memory as it takes blocks on the disk. */
 #define _GNU_SOURCE
 #include "boddurci_saves.h"
 #include <errno.h>
@@ -21,7 +21,7 @@ void boddurci_let_go(struct boddurci_bytes *bytes)
     bytes->length = bytes->room = 0;
 }
 
-/* Maps zeros in small pages. With huge pages each block of data would take 2 MiB. */
+/* Maps memory of zeros without huge pages, with which each block of data would take 2 MiB. */
 static void *map(size_t room)
 {
     void *at = mmap(NULL, room, PROT_READ | PROT_WRITE, MAP_PRIVATE | MAP_ANONYMOUS | MAP_NORESERVE, -1, 0);
@@ -59,7 +59,8 @@ static off_t read_range(int file, uint8_t *room, off_t from, off_t to)
     return from;
 }
 
-/* Returns the present end of a file that ended at `end` before and had no data from `at` on: it may be shorter by now. */
+/* Returns the present length of a file that had `end` bytes, with no data from `at` on, and that may have become shorter. Returns at least
+ * `at` and at most `end`. */
 static off_t end_after(int file, off_t at, off_t end)
 {
     struct stat now;
@@ -68,8 +69,8 @@ static off_t end_after(int file, off_t at, off_t end)
     return now.st_size > at ? now.st_size : at;
 }
 
-/* Returns the offset of the first data at or after `at`, or `end` if only a hole follows. Sets *to to the end of that data. If the system
- * does not say, everything is data. */
+/* Returns the offset of the first data at or after `at`, or `end` if only a hole follows. Sets *to to the end of that data. If the file
+ * system does not report holes, everything counts as data. */
 static off_t find_data(int file, off_t at, off_t end, off_t *to)
 {
     *to = end;
@@ -170,8 +171,8 @@ uint32_t boddurci_read_data(struct boddurci_place *place, enum boddurci_file fil
 /* A number of whole pages of either size. */
 enum { PIECE = 262144 };
 
-/* Passes the next piece. Only memory can run out: each piece except the last consists of whole pages, and all together have at most 1
- * GiB. */
+/* Passes the next piece. The only possible fault is NO_MEMORY: each piece except the last consists of whole pages, and all pieces together
+ * have at most 1 GiB. */
 static int push(boddurci_reading *pages, uint32_t is_wide, const uint8_t *piece, size_t length)
 {
     if (boddurci_read(pages, is_wide, piece, length) == BODDURCI_DONE)
@@ -180,7 +181,7 @@ static int push(boddurci_reading *pages, uint32_t is_wide, const uint8_t *piece,
     return -1;
 }
 
-/* Passes zeros from a small buffer that stays in the processor's cache. */
+/* Passes zeros from a small buffer, which stays in the processor's cache. */
 static int push_zeros(boddurci_reading *pages, uint32_t is_wide, size_t length)
 {
     static const uint8_t zeros[32768];
@@ -192,7 +193,7 @@ static int push_zeros(boddurci_reading *pages, uint32_t is_wide, size_t length)
     return 0;
 }
 
-/* Reads a file to its end. If it has become shorter meanwhile, leaves out the rest. */
+/* Reads a file to its end, which may come earlier than expected if the file has become shorter meanwhile. */
 static int read_pieces(int file, off_t end, uint32_t is_wide, boddurci_reading *pages, uint8_t *room)
 {
     off_t next, found, to;
@@ -245,7 +246,7 @@ int boddurci_move_pages(struct boddurci_bytes *bytes, uint32_t is_wide, boddurci
     return 0;
 }
 
-/* Reads some of the bytes. If `is_cached` is 1, fails instead of waiting for the disk. */
+/* Reads bytes of a file by one system call. If `is_cached` is 1, fails instead of waiting for the disk. */
 static ssize_t read_some(int opened, uint64_t at, uint8_t *room, size_t size, int is_cached)
 {
     if (!is_cached)

@@ -1,4 +1,5 @@
-/* The three files of a base, open for writing, and the calls on them. boddurci_steps.c executes the steps of a save by these calls. */
+/* Opens the three files of a base for writing, and makes the system calls on these files. boddurci_steps.c executes the steps of a save by
+ * the functions here. */
 #define _GNU_SOURCE
 #include "boddurci_saves.h"
 #include <errno.h>
@@ -69,8 +70,8 @@ void boddurci_disk_close(struct boddurci_disk *disk)
         boddurci_disk_drop(disk, file);
 }
 
-/* Returns the permissions for a new file, before the umask. A redo file contains records, so only its owner may read it until it has the
- * permissions of .pag. If .pag does not exist yet, all users who will be able to read it may read the redo file. */
+/* Returns the permissions for a new file, before the umask. A redo file contains pairs, so only its owner may read it until it gets the
+ * permissions of .pag. If .pag does not exist yet, the redo file may be read by all users who will be able to read the new .pag. */
 static mode_t mode_of(const struct boddurci_disk *disk, enum boddurci_file file)
 {
     if (file == BODDURCI_REDO)
@@ -78,7 +79,7 @@ static mode_t mode_of(const struct boddurci_disk *disk, enum boddurci_file file)
     return file == BODDURCI_PAGES ? 0666 : boddurci_mode_of_pages(disk->place, 0666);
 }
 
-/* Makes a file. When .pag is made, gives a redo file that was made before it the owner, the group and the permissions of .pag. */
+/* Makes a file. After making .pag, gives an existing redo file the owner, the group and the permissions of .pag. */
 static int make(struct boddurci_disk *disk, enum boddurci_file file)
 {
     int *opened = &disk->files[file];
@@ -114,7 +115,7 @@ static int open_to_write(struct boddurci_disk *disk, enum boddurci_file file)
 
 /* ---- calls on one file */
 
-/* Records whether a call may have raised the signal: the system raises it only with EFBIG. */
+/* Records whether a failed call may have raised the signal: the system raises it only if errno is EFBIG. */
 static int failed(struct boddurci_disk *disk)
 {
     disk->is_too_long = disk->is_too_long || errno == EFBIG;
@@ -134,8 +135,8 @@ int boddurci_disk_write(struct boddurci_disk *disk, enum boddurci_file file, uin
     return 0;
 }
 
-/* Writes zeros in small pieces. After a long write the page cache may use large folios, and then each later write of a few bytes, and its
- * sync, takes longer. */
+/* Writes zeros in small pieces. After one long write the page cache may use large folios, which make each later short write, and its sync,
+ * slower. */
 int boddurci_disk_zero(struct boddurci_disk *disk, enum boddurci_file file, uint64_t at, uint64_t size)
 {
     static uint8_t zeros[16384];

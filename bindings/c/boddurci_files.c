@@ -15,8 +15,8 @@ int boddurci_is_of_another(const boddurci_base *base)
 
 /* ---- reading */
 
-/* The data that an opening reads: all bytes of .dir, and .pag as pages, without its bytes. The bytes of a short .pag are read first, and
- * parsed after the locks are released. */
+/* The contents of both files, as opening a base reads them: the bytes of .dir, and the pages of .pag. The bytes of a short .pag are read
+ * first, and become pages after the locks are released. */
 struct parts {
     struct boddurci_bytes directory;
     struct boddurci_bytes unparsed;
@@ -59,8 +59,8 @@ static uint32_t read_parts(struct boddurci_place *place, int must_exist, struct 
     return status;
 }
 
-/* Reads both data files for a read-only base. If the redo file has its mark, the result includes the saves in it. While a writer has the
- * base open that is unnecessary, since the writer has written them. */
+/* Reads both data files for a read-only base. If the redo file has its mark, the result includes the saves in the redo file. The redo file
+ * is not needed while a writer has the base open, since the writer has written its saves to the data files. */
 static uint32_t read_over(struct boddurci_place *place, int must_exist, struct parts *parts, boddurci_fault *fault)
 {
     struct boddurci_bytes files[2];
@@ -96,7 +96,7 @@ static void see_files(struct boddurci_place *place)
     }
 }
 
-/* Reads both data files. For a writer it first recovers them. */
+/* Reads both data files. A writer recovers them first. */
 static uint32_t read_files(boddurci_base *base, struct parts *parts, boddurci_fault *fault)
 {
     struct boddurci_disk *disk = &base->logged.disk;
@@ -125,12 +125,13 @@ static const uint8_t *or_none(struct boddurci_bytes bytes)
     return bytes.at != NULL ? bytes.at : none;
 }
 
-/* Checks whether a base that is opened with wide pages looks like one with small pages, which may be valid wide ones by chance. */
+/* Checks whether the files of a base that is opened with wide pages look like small pages. Small pages can be valid wide pages by
+ * chance. */
 static uint32_t look_at_size(const boddurci_base *base, struct parts *parts, boddurci_fault *fault)
 {
     uint32_t looks_small = 0, status = BODDURCI_DONE;
     int is_tested = parts->is_wide && parts->has_data && !(base->flags & BODDURCI_ANY_SIZE);
-    /* The keys may be hashed in the other way than the flags say. */
+    /* The flags may name the wrong hash, so try both. */
     for (uint32_t is_unsigned = 0; is_tested && status == BODDURCI_DONE && !looks_small && is_unsigned < 2; is_unsigned++)
         status = boddurci_reading_looks_small(&parts->pages, or_none(parts->directory), parts->directory.length, is_unsigned, &looks_small);
     if (status == BODDURCI_DONE && looks_small)
@@ -152,7 +153,8 @@ static uint32_t open_parts(boddurci_base *base, struct parts *parts, boddurci_fa
     return status;
 }
 
-/* Tries again for a reader that found no lock and has read the files: the first writer may have made the lock meanwhile. */
+/* Takes the lock for a reader that found no lock file and has read the files, and reads again: the first writer may have made the lock file
+ * meanwhile. */
 static uint32_t read_again(boddurci_base *base, struct parts *parts, uint32_t status, int64_t milliseconds, boddurci_fault *fault)
 {
     boddurci_fault second;
@@ -261,7 +263,7 @@ static void end_log(boddurci_base *base)
     boddurci_logged_end(&base->logged);
 }
 
-/* In a forked child the memory of the database is not freed if another thread of the parent held the mutex. */
+/* In a forked child, does not free the memory of the database if another thread of the parent held the mutex. */
 void boddurci_close_files(boddurci_base *base)
 {
     if (base == NULL)

@@ -1,4 +1,5 @@
-/* Saves that threads share: each save serves all calls that wait when it begins. include/boddurci_files.h has the guarantees. */
+/* Shares saves between threads: each save serves all calls of boddurci_save that wait when it begins. include/boddurci_files.h states the
+ * guarantees. */
 #define _POSIX_C_SOURCE 200809L
 #include "boddurci_saves.h"
 #include <sched.h>
@@ -17,7 +18,7 @@ struct boddurci_call {
     sem_t turn; /* posted if the thread sleeps */
 };
 
-/* In nanoseconds. If the last save took less, waiting calls spin until the end of the next one. Tests set another value. */
+/* In nanoseconds. If the last save took less time than this, waiting calls spin until the next save ends. Tests set another value. */
 #ifndef BODDURCI_LONG_SAVE
 #define BODDURCI_LONG_SAVE 500000
 #endif
@@ -43,7 +44,7 @@ static void pause_shortly(void)
 #endif
 }
 
-/* The first tries do not even yield, since the holder is about to unlock. */
+/* The first tries do not yield the processor, since the holder is about to unlock. */
 void boddurci_lock_soon(pthread_mutex_t *mutex)
 {
     enum { PAUSES = 100, TRIES = 200 };
@@ -78,7 +79,7 @@ void boddurci_group_destroy(struct boddurci_group *group)
     pthread_mutex_destroy(&group->serving);
 }
 
-/* Adds a call to the list. Returns 1 if it must wait, and 0 if it is to save now. */
+/* Adds a call to the list. Returns 1 if the call must wait, and 0 if it must save now. */
 static int has_to_wait(struct boddurci_group *group, struct boddurci_call *call)
 {
     boddurci_lock_soon(&group->mutex);
@@ -96,7 +97,7 @@ static int waiting_in(const struct boddurci_group *group)
     return __atomic_load_n(&group->waiting, __ATOMIC_RELAXED);
 }
 
-/* Returns how long a save may wait for more calls, in nanoseconds. After a long save the threads that it served sleep, and wake one by
+/* Returns how long a save may wait for more calls, in nanoseconds. The threads that wait for a long save sleep, and then wake one by
  * one. */
 static int64_t patience(int64_t took)
 {
@@ -106,7 +107,7 @@ static int64_t patience(int64_t took)
     return took / 8 < MOST ? took / 8 : MOST;
 }
 
-/* Waits until `count` calls wait, or until the time `end`. Returns the number of waiting calls. */
+/* Waits until the list has `count` calls, or until the time `end`. Returns the number of calls in the list. */
 static int await_calls(const struct boddurci_group *group, int count, int64_t took, int64_t end)
 {
     const struct timespec moment = {0, (long)MOMENT};
@@ -115,15 +116,15 @@ static int await_calls(const struct boddurci_group *group, int count, int64_t to
     return waiting_in(group);
 }
 
-/* Returns whether a save waits for another moment, given the numbers of calls before and after the last moment: some came in it, and at
- * least two thirds have come. */
+/* Returns whether a save waits once more, given the numbers of calls before and after the last wait: calls came during that wait, and at
+ * least two thirds of the expected calls have come. */
 static int goes_on(int before, int has, int others)
 {
     return has > before && 3 * has >= 2 * others;
 }
 
-/* Waits a moment for the calls that the last save served: their threads may save again, and then one save serves all of them. If most have
- * come, it waits for the rest. If none has come, the next SKIPS saves do not wait. A single thread does not wait. */
+/* Waits shortly for the threads that the last save served: they may save again, and then one save serves all of them. If most of them have
+ * come, waits for the rest. If none has come, the next SKIPS saves do not wait. A single thread does not wait. */
 static void await_others(struct boddurci_group *group)
 {
     enum { SKIPS = 7, MOMENTS = 8 };
@@ -141,7 +142,7 @@ static void await_others(struct boddurci_group *group)
     group->skips = had < others && has == had ? SKIPS : 0;
 }
 
-/* Empties the list of waiting calls. The first call saves, and its `next` leads to the rest. */
+/* Empties the list of waiting calls. The first call saves, and the others follow from its `next`. */
 static void take_all(struct boddurci_group *group)
 {
     boddurci_lock_soon(&group->mutex);
@@ -158,15 +159,15 @@ static int has_one_that_insists(const struct boddurci_call *call)
     return call != NULL;
 }
 
-/* Lets a call continue. Unless its thread sleeps, the call may no longer exist once it has the new state. */
+/* Lets a call continue. Once the call has the new state, it may no longer exist, unless its thread sleeps. */
 static void wake(struct boddurci_call *call, int state)
 {
     if (__atomic_exchange_n(&call->state, state, __ATOMIC_ACQ_REL) == SLEEPS)
         sem_post(&call->turn);
 }
 
-/* Gives the turn to save to the first waiting call. That call exists until it has the turn, since nobody else empties the list. The calls
- * that were just served may come again, in addition to those that wait. */
+/* Gives the turn to save to the first waiting call. That call exists until it has the turn, since nobody else empties the list. The next
+ * save expects the waiting calls and the calls that were just served, whose threads may save again. */
 static void pass_on(struct boddurci_group *group)
 {
     boddurci_lock_soon(&group->mutex);
@@ -190,8 +191,8 @@ static void serve(struct boddurci_call *call, uint32_t status, const boddurci_fa
     }
 }
 
-/* Waits until a call has the turn or is served. Waking a thread takes longer than a short save. So it spins for about the time of two
- * saves, and yields to other threads meanwhile, before it sleeps. */
+/* Waits until a call has the turn or is served. Waking a thread takes longer than a short save. So the thread first spins for about the
+ * time of two saves, yielding the processor, and then sleeps. */
 static int wait_for(struct boddurci_call *call, int64_t took)
 {
     int state = WAITS;
@@ -219,7 +220,7 @@ static void save_for_all(struct boddurci_group *group, struct boddurci_call *cal
     pthread_mutex_unlock(&group->serving);
 }
 
-/* Cancellation is disabled, since the call is in the list, or other threads wait for its save. */
+/* Disables cancellation meanwhile, since the call is in the list or other threads wait for its save. */
 uint32_t boddurci_group_save(struct boddurci_group *group, boddurci_saving *save, boddurci_base *base, int insists, boddurci_fault *fault)
 {
     struct boddurci_call call = {.fault = fault, .insists = insists, .state = WAITS};

@@ -1,5 +1,6 @@
-/* The calls of boddurci.h that take a handle, a ticket or a reading. Each checks for NULL and then makes the proved call, whose references
- * are never NULL. ./dbm --build-library renames each export of crates/boddurci_c that is called here to boddurci_proved_NAME. */
+/* The calls of boddurci.h that take a handle, a ticket or a reading. Each call checks these pointers for NULL and then makes the proved
+ * call, which does not accept NULL. If a call here has the name of an export of crates/boddurci_c, ./dbm --build-library renames that
+ * export to boddurci_proved_NAME. */
 #include "boddurci.h"
 
 #pragma GCC visibility push(hidden)

@@ -6,9 +6,9 @@
 #include <string.h>
 #include <sys/stat.h>
 
-/* Parses a line of /proc/locks. Returns the process if the line is a flock on this inode; -1 if this process cannot see that process, which
- * may be in another container; otherwise 0. A line has its number, the kind of the lock, two words on how it is held, the process, and the
- * file as its device and inode. A process that waits for the lock has an arrow before the kind. */
+/* Parses a line of /proc/locks. Returns the process if the line is a flock on this inode; -1 if this process cannot see the holder, which
+ * may be in another container; otherwise 0. The fields of a line are its number, the kind of the lock, two words on how the lock is held,
+ * the process, and the device and inode of the file. The line of a process that waits has an arrow before the kind. */
 static long process_in(const char *line, unsigned long long number)
 {
     long process;

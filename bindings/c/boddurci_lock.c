@@ -14,8 +14,8 @@
 
 /* ---- names */
 
-/* If the name of a file is a symbolic link to a file of another base with this ending, sets *lead to the name of that base, which the
- * caller frees. Otherwise sets it to NULL. */
+/* If the name of a file is a symbolic link to a file of another base with this ending, sets *lead to the name of that base. Otherwise sets
+ * *lead to NULL. The caller frees *lead. */
 static int lead_of(const char *base, const char *ending, char **lead)
 {
     struct stat found;
@@ -42,7 +42,7 @@ static int lead_of(const char *base, const char *ending, char **lead)
 }
 
 /* If both data files are symbolic links to those of another base, sets *led to the name of that base, so that all processes use the same
- * locks. Otherwise sets it to NULL. The caller frees it. */
+ * locks. Otherwise sets *led to NULL. The caller frees *led. */
 static uint32_t resolve(const char *name, char **led, boddurci_fault *fault)
 {
     char *pages = NULL, *directory = NULL;
@@ -62,7 +62,8 @@ static uint32_t resolve(const char *name, char **led, boddurci_fault *fault)
     return boddurci_fail(fault, BODDURCI_FILE_FAILED, 0, "BASE.pag and BASE.dir are links to two bases");
 }
 
-/* Returns whether the last part of a name can be the name of a base. The files of users/ would be users/.dir and users/.pag. */
+/* Returns whether the last part of a path can be the name of a base. A path such as users/ cannot: its files would be users/.dir and
+ * users/.pag. */
 static int is_name(const char *name)
 {
     const char *end = strrchr(name, '/'), *last = end != NULL ? end + 1 : name;
@@ -85,8 +86,8 @@ static int64_t end_of(int64_t milliseconds)
     return milliseconds < 0 ? -1 : milliseconds < INT64_MAX - start ? start + milliseconds : INT64_MAX;
 }
 
-/* Sleeps before the next try: for the first SHORT tries about as long as a short save takes, then 1 to 5 milliseconds. Fails with
- * EWOULDBLOCK at the end of the wait, and with EINTR after a signal. */
+/* Sleeps before the next try: before each of the first SHORT tries about as long as a short save takes, and later 1 to 5 milliseconds.
+ * Fails with EWOULDBLOCK if the time to wait is over, and with EINTR after a signal. */
 static int rest(int *tries, int64_t end)
 {
     enum { SHORT = 50, MOMENT = 50000, MILLISECOND = 1000000, LONGEST = 5 };
@@ -227,8 +228,8 @@ static void close_lock(struct boddurci_place *place, enum boddurci_file lock)
     place->opened[lock] = -1;
 }
 
-/* Opens the file of a lock, for writing if this user may. Opens it again if its name leads to another file by now. A writer makes a missing
- * file. OPEN_HERE if this thread holds the lock. */
+/* Opens the file of a lock, for writing if this user is allowed to. If the name leads to another file by then, opens that file instead. A
+ * writer makes a missing file. OPEN_HERE if this thread holds the lock. */
 static uint32_t open_lock(struct boddurci_place *place, enum boddurci_file lock, int reads, boddurci_fault *fault)
 {
     uint32_t status = BODDURCI_DONE;
@@ -250,7 +251,7 @@ static uint32_t open_lock(struct boddurci_place *place, enum boddurci_file lock,
 
 /* ---- taking the locks */
 
-/* Waits for a lock. Without a limit it blocks in flock; with a limit it tries and sleeps by turns. */
+/* Waits for a lock: without a limit in flock, with a limit by trying and sleeping alternately. */
 static int wait_for(int lock, int how, int64_t end)
 {
     if (end < 0)
@@ -325,8 +326,8 @@ int boddurci_has_writer(const struct boddurci_place *place)
     return has_writer;
 }
 
-/* Returns whether a save waits for the files: then its process holds BASE.writer shared. Another reader that is checking BASE.writer counts
- * too, for a moment. */
+/* Returns whether a save waits for the files: then its process holds BASE.writer shared. It also returns 1 while another reader checks
+ * BASE.writer, which is short. */
 static int is_waited_for(const struct boddurci_place *place)
 {
     if (place->opened[BODDURCI_LOCK] < 0 || boddurci_has_writer(place))
@@ -334,8 +335,8 @@ static int is_waited_for(const struct boddurci_place *place)
     return boddurci_holder_of(place, BODDURCI_WRITER) != 0;
 }
 
-/* The system prefers readers to a waiting writer. So a reader that got BASE.lock releases it for a moment if a save waits for it. It does
- * so a limited number of times, since the writer may be stopped. */
+/* The system prefers readers to a waiting writer. So a reader that gets BASE.lock while a save waits releases the lock for a short time. A
+ * reader does so a limited number of times, since the writer may be stopped. */
 uint32_t boddurci_take_shared(struct boddurci_place *place, int64_t milliseconds, boddurci_fault *fault)
 {
     enum { MOST = 40 };
@@ -352,7 +353,7 @@ uint32_t boddurci_take_shared(struct boddurci_place *place, int64_t milliseconds
 
 enum outcome { TAKEN, IS_BUSY, TRY_AGAIN, HAS_FAILED };
 
-/* Takes BASE.writer without waiting. The caller holds BASE.lock; on failure the call releases it. */
+/* Takes BASE.writer without waiting. The caller holds BASE.lock. On failure releases BASE.lock. */
 static enum outcome lock_writer(const struct boddurci_place *place, boddurci_fault *fault)
 {
     int files = place->opened[BODDURCI_LOCK], writer = place->opened[BODDURCI_WRITER];
@@ -369,7 +370,7 @@ static enum outcome lock_writer(const struct boddurci_place *place, boddurci_fau
     return outcome == TAKEN ? TRY_AGAIN : outcome;
 }
 
-/* Takes BASE.lock, and then BASE.writer without waiting. On failure it holds neither. */
+/* Takes BASE.lock, and then BASE.writer without waiting. On failure the place holds neither lock. */
 static enum outcome lock_both(struct boddurci_place *place, int64_t end, boddurci_fault *fault)
 {
     if (wait_for(place->opened[BODDURCI_LOCK], LOCK_EX, end) == 0)
@@ -378,8 +379,8 @@ static enum outcome lock_both(struct boddurci_place *place, int64_t end, boddurc
     return HAS_FAILED;
 }
 
-/* Like `lock_both`, but leaves BASE.lock alone while BASE.writer is busy. A wait of 0 milliseconds (`is_only`) is an exception: its single
- * try could otherwise fail because another process only checks BASE.writer. */
+/* Like `lock_both`, but does not touch BASE.lock while BASE.writer is busy. If `is_only` is 1 (a wait of 0 milliseconds), it does:
+ * otherwise the single try could fail because another process is checking BASE.writer. */
 static enum outcome try_both(struct boddurci_place *place, int64_t end, int is_only, boddurci_fault *fault)
 {
     for (enum boddurci_file lock = BODDURCI_LOCK; lock <= BODDURCI_WRITER; lock++)
@@ -390,7 +391,8 @@ static enum outcome try_both(struct boddurci_place *place, int64_t end, int is_o
     return lock_both(place, end, fault);
 }
 
-/* Records that this place holds both locks. Converts BASE.writer to shared, since BASE.lock is exclusive. */
+/* Records that this place holds both locks. Converts the lock on BASE.writer to a shared one, since the place holds BASE.lock
+ * exclusively. */
 static void note_both(struct boddurci_place *place)
 {
     for (enum boddurci_file lock = BODDURCI_LOCK; lock <= BODDURCI_WRITER; lock++)
@@ -422,8 +424,8 @@ static uint32_t take_both(struct boddurci_place *place, int64_t milliseconds, bo
 
 /* ---- while a base is open */
 
-/* Tries for a short time to get a lock exclusively. It does not sleep, and at first does not even yield: a reader of few pages is done
- * before a thread could be woken. After a failure the lock is not held at all. */
+/* Tries for a short time to get a lock exclusively, without sleeping, and at first without yielding the processor: a reader of few pages
+ * ends before a thread could be woken. On failure the place does not hold the lock, not even shared. */
 static int take_soon(int lock)
 {
     enum { TRIES = 1000, QUICK = 100 };
@@ -443,7 +445,7 @@ int boddurci_take_files(struct boddurci_place *place)
         return 0;
     if (take_soon(files) == 0)
         return wait_through(writer, LOCK_SH);
-    /* BASE.writer is shared first, which shows new readers that a save waits (is_waited_for). */
+    /* Converts BASE.writer to shared first, which shows new readers that a save waits (is_waited_for). */
     return wait_through(writer, LOCK_SH) != 0 || wait_through(files, LOCK_EX) != 0 ? -1 : 0;
 }
 
@@ -452,8 +454,8 @@ int boddurci_share_files(struct boddurci_place *place)
     return place->keeps_files ? 0 : wait_through(place->opened[BODDURCI_LOCK], LOCK_SH);
 }
 
-/* Other processes hold BASE.writer only for a moment, to check it: to write they would need BASE.lock. If one of them is stopped in that
- * moment, BASE.writer stays shared, and readers use the log until the next save. */
+/* Another process holds BASE.writer only while it checks that file, since a writer would also need BASE.lock. If a process is stopped
+ * during its check, BASE.writer stays shared, and readers use the log until the next save. */
 void boddurci_give_files(struct boddurci_place *place)
 {
     set_keeps_files(place, 0);
@@ -496,7 +498,7 @@ void boddurci_settle_locks(struct boddurci_place *place)
 
 /* ---- entering */
 
-/* Checks that the name leads to the same base as before the wait. MOVED if not. */
+/* Checks that the name still leads to the base that it led to before the wait. MOVED if not. */
 static uint32_t leads_there(const char *base, boddurci_fault *fault)
 {
     char *led;
@@ -542,11 +544,12 @@ uint32_t boddurci_find(struct boddurci_place *place, const char *name, boddurci_
     return status;
 }
 
-/* A call that waits for BASE.lock to make a change announces itself by a lock of another kind, on the first byte of that file. A call that
- * has waited for long, and a fetch that waits, lock the second byte. Without this they might wait forever: the system prefers readers, and
- * a process that calls again, to one that waits. New fetches let a call with the first byte go first, and new changes one with the second.
- * The system releases these locks when the process ends. On a local file system they are independent of flock. On other file systems no
- * call announces itself, since flock may lock the same bytes. */
+/* A change that waits for BASE.lock announces itself by a lock of another kind (F_OFD_SETLK) on the first byte of that file. A change that
+ * has waited for long, and a fetch that waits, lock the second byte. Without these announcements a call might wait forever: the system
+ * prefers readers, and a process that calls again, to a process that waits. A new fetch lets a call that has locked the first byte go
+ * first, and a new change lets a call that has locked the second byte go first. The system releases these locks when the process ends. On a
+ * local file system they are independent of flock. On other file systems calls do not announce themselves, since flock may lock the same
+ * bytes. */
 enum { WAITS, STARVES, BYTES };
 
 #ifdef F_OFD_SETLK
@@ -583,7 +586,8 @@ static void announce_none(const struct boddurci_place *place)
     (void)!lock_bytes(place, F_UNLCK, 0, BYTES);
 }
 
-/* Waits while another call is announced, so that it goes first. The wait is limited, since that call's process may be stopped. */
+/* Waits while another call has announced itself, so that that call goes first. The wait is limited, since the process of the other call may
+ * be stopped. */
 static void let_go(const struct boddurci_place *place, off_t byte, int64_t end)
 {
     enum { MOST = 200 };
@@ -592,14 +596,14 @@ static void let_go(const struct boddurci_place *place, off_t byte, int64_t end)
         nanosleep(&moment, NULL);
 }
 
-/* Returns whether the files of both locks are open. A call checks that they still have their names once they are locked. */
+/* Returns whether the files of both locks are open. Once a call has locked these files, it checks that they still have their names. */
 static int are_open(const struct boddurci_place *place)
 {
     return place->opened[BODDURCI_LOCK] >= 0 && place->opened[BODDURCI_WRITER] >= 0;
 }
 
-/* Tries once to take both locks for a call. After the first try it leaves BASE.lock alone while BASE.writer is busy. Sets *is_queued to 1
- * if BASE.lock is busy. */
+/* Tries once to take both locks for a call. Except at the first try, it does not touch BASE.lock while BASE.writer is busy. Sets *is_queued
+ * to 1 if BASE.lock is busy. */
 static enum outcome try_call(struct boddurci_place *place, int is_first, int *is_queued, boddurci_fault *fault)
 {
     for (enum boddurci_file lock = BODDURCI_LOCK; lock <= BODDURCI_WRITER && !(is_first && are_open(place)); lock++)
@@ -619,8 +623,9 @@ static enum outcome try_call(struct boddurci_place *place, int is_first, int *is
     return errno == EINTR ? TRY_AGAIN : HAS_FAILED;
 }
 
-/* Announces a call that waits for BASE.lock. One waiting call at a time spins for a while, which takes less time than to wake it. A call
- * that has waited for long announces that too, so that new calls wait for it, and from then on sleeps only shortly between tries. */
+/* Announces a call that waits for BASE.lock. One waiting call at a time spins for a while, since spinning takes less time than waking a
+ * thread. A call that has waited for long locks the second byte too, so that new calls wait for it. After that it sleeps only shortly
+ * between its tries. */
 static enum outcome queue(struct boddurci_place *place, int *tries, int *spins, boddurci_fault *fault)
 {
     enum { SPINS = 3, LONG = 20 };
@@ -661,7 +666,7 @@ static uint32_t take_to_change(struct boddurci_place *place, int64_t end, boddur
     return fault->status;
 }
 
-/* Takes BASE.lock shared if its file is open and nobody holds it exclusively. Returns 1 if it got the lock. */
+/* Takes BASE.lock shared if its file is open and nobody holds the lock exclusively. Returns 1 if it took the lock. */
 static int share_open(struct boddurci_place *place)
 {
     int lock = place->opened[BODDURCI_LOCK];

@@ -10,12 +10,11 @@
 #include <sys/stat.h>
 #include <unistd.h>
 
-/* ROOM is the usual room of a log, and LEAST_ROOM its room if the disk has no more. A redo file without a mark is removed if it is longer
- * than MOST_UNUSED, since each opening for writing reads it. */
+/* ROOM is the usual room of a log, and LEAST_ROOM its room if the disk has no more. A redo file without a mark that is longer than
+ * MOST_UNUSED is removed, since opening a base for writing reads the redo file. */
 static const size_t ROOM = 1 << 20, LEAST_ROOM = 1 << 16, MOST_UNUSED = 1 << 24;
 
-/* If saves fill a log within SOON nanoseconds, it is replaced by one with GROWN_ROOM, since emptying a log takes a sync of both data
- * files. */
+/* If saves fill a log within SOON nanoseconds, a log with GROWN_ROOM replaces it, since emptying a log takes a sync of both data files. */
 static const size_t GROWN_ROOM = 1 << 22;
 static const int64_t SOON = 1000000000;
 
@@ -25,7 +24,7 @@ static uint32_t cannot_be_written(const struct boddurci_disk *disk, boddurci_fau
     return boddurci_fail_by_system(fault, what[disk->last]);
 }
 
-/* Reports a committed save after which a call failed. */
+/* Sets the fault of a save that was committed before a call failed. */
 static uint32_t is_pending(const struct boddurci_disk *disk, boddurci_fault *fault)
 {
     static const char *const what[3] = {"the save is kept in BASE.redo, and BASE.pag could not be written",
@@ -55,7 +54,7 @@ static void free_steps(struct boddurci_steps *steps)
     steps->own = NULL;
 }
 
-/* Sets the fault for a status with which the library returned no steps. */
+/* Sets the fault for the status of a library call that returned no steps. */
 static uint32_t refused(uint32_t status, boddurci_fault *fault)
 {
     switch (status) {
@@ -81,8 +80,8 @@ static int make_rooms(struct boddurci_steps *steps, size_t words, size_t bytes)
     return steps->at != NULL && steps->own != NULL ? 0 : -1;
 }
 
-/* Gets the steps that open the log of these files with `room` bytes. If `log` is NULL, gets the steps that bring copies of the data files
- * to the state that the three files represent. */
+/* Gets the steps that open the log of these files with `room` bytes. If `log` is NULL, gets the steps that apply the saves in the redo file
+ * to copies of the data files. */
 static uint32_t ask(const struct boddurci_bytes files[3], size_t room, boddurci_log *log, struct boddurci_steps *steps, boddurci_fault *fault)
 {
     const uint8_t *pag = or_none(files[0]), *dir = or_none(files[1]), *redo = or_none(files[2]);
@@ -106,8 +105,8 @@ static uint32_t ask(const struct boddurci_bytes files[3], size_t room, boddurci_
     return boddurci_is_within_limits(steps) ? status : too_long(fault);
 }
 
-/* Gets the steps of a save. Each change of a plan has at least 128 bytes from before it and as many from after it, so the first buffer is
- * usually long enough. */
+/* Gets the steps of a save. Each change of a plan has at least 128 old bytes and 128 new bytes, so the first buffer is usually long
+ * enough. */
 static uint32_t ask_save(struct boddurci_bytes bytes, boddurci_log *log, struct boddurci_steps *steps, boddurci_fault *fault)
 {
     size_t words = (bytes.length / 256 + 32) * WORDS, room, committed = 0;
@@ -177,8 +176,8 @@ static int64_t now(void)
     return (int64_t)time.tv_sec * 1000000000 + time.tv_nsec;
 }
 
-/* Abandons the log after a failed call: the next opening recovers it. Removes the redo file if it has no mark, since it is useless then,
- * and its bytes on the disk may differ from those that are read. */
+/* Abandons the log after a failed call: the next opening recovers it. Removes the redo file if it has no mark: it is useless then, and its
+ * bytes on the disk may differ from those in the page cache. */
 static void give_up(struct boddurci_logged *logged)
 {
     struct boddurci_disk *disk = &logged->disk;
@@ -195,7 +194,7 @@ static void give_up(struct boddurci_logged *logged)
     errno = system;
 }
 
-/* Removes the redo file if it has no mark and this user may not write it. Called after it could not be opened for writing. */
+/* Removes the redo file if it has no mark and this user may not write it. Call this after opening it for writing has failed. */
 static uint32_t remove_denied(struct boddurci_disk *disk, boddurci_fault *fault)
 {
     boddurci_fault second;
@@ -239,7 +238,7 @@ static uint32_t remove_useless(struct boddurci_logged *logged, boddurci_fault *f
     return BODDURCI_DONE;
 }
 
-/* Reads the redo file, and both data files if it has its mark. */
+/* Reads the redo file, and both data files if the redo file has its mark. */
 static uint32_t read_files(struct boddurci_logged *logged, struct boddurci_bytes files[3], int *is_marked, boddurci_fault *fault)
 {
     struct boddurci_disk *disk = &logged->disk;
@@ -266,8 +265,8 @@ static int clear_note(struct boddurci_disk *disk)
     return disk->files[BODDURCI_REDO] < 0 ? 0 : boddurci_clear_note(disk->files[BODDURCI_REDO]);
 }
 
-/* Executes the steps that open the log. If the redo file has its mark, first writes it again with the bytes that were read: if an earlier
- * sync of it failed, the bytes on the disk may differ, and the next sync would not write them. */
+/* Executes the steps that open the log. If the redo file has its mark, first overwrites the file with the bytes that were read from it. If
+ * an earlier sync of the file failed, the bytes on the disk may differ, and a sync alone would not write them. */
 static uint32_t do_open(struct boddurci_logged *logged, struct boddurci_bytes redo, const struct boddurci_steps *steps, boddurci_fault *fault)
 {
     struct boddurci_disk *disk = &logged->disk;
@@ -366,7 +365,7 @@ uint32_t boddurci_logged_recover(struct boddurci_logged *logged, int are_names_s
 
 /* ---- saving */
 
-/* Returns whether the steps that commit a save only append its record to the log. If not, they empty the log first. */
+/* Returns whether the steps that commit a save only append its record to the log, without emptying the log first. */
 static int only_append(const struct boddurci_steps *steps)
 {
     for (size_t i = 0; i < steps->committed; i++)
@@ -375,8 +374,8 @@ static int only_append(const struct boddurci_steps *steps)
     return 1;
 }
 
-/* Returns whether to replace the log by a longer one before a save: the save would empty it less than SOON nanoseconds after it was last
- * empty. A save that is long, or that shortens a file, empties any log, so more room would not help. */
+/* Returns whether to replace the log by a longer one before a save, that is, whether the save would empty the log less than SOON
+ * nanoseconds after it was last empty. A save that is long or shortens a file empties any log, so more room would not help. */
 static int has_to_grow(const struct boddurci_logged *logged, const struct boddurci_steps *steps)
 {
     enum { FEW = 4 };
@@ -389,7 +388,7 @@ static int has_to_grow(const struct boddurci_logged *logged, const struct boddur
     return after[BODDURCI_PAGES] >= before[BODDURCI_PAGES] && after[BODDURCI_DIRECTORY] >= before[BODDURCI_DIRECTORY];
 }
 
-/* Closes the log and opens it with more room, or with the usual room if the disk has no more. A base tries this once. */
+/* Closes the log and opens a log with more room, or with the usual room if the disk has no more. A base does this at most once. */
 static uint32_t grow(struct boddurci_logged *logged, boddurci_fault *fault)
 {
     logged->is_grown = 1;
@@ -412,7 +411,7 @@ static uint32_t ask_in_log(struct boddurci_logged *logged, struct boddurci_bytes
     return status == BODDURCI_DONE ? ask_save(bytes, next, steps, fault) : status;
 }
 
-/* Commits a save. Readers may read the data files meanwhile, but not while the log is emptied. */
+/* Commits a save. Readers may read the data files meanwhile, except while the log is emptied. */
 static int commit(struct boddurci_logged *logged, const struct boddurci_steps *steps)
 {
     int appends = only_append(steps);
@@ -481,8 +480,8 @@ static void put_number(uint8_t *at, uint64_t number)
         at[i] = (uint8_t)(number >> 8 * i);
 }
 
-/* Commits a plan that changes nothing; boddurci.h has its form. Leaves out the steps after the commit, since each file already has its
- * length. */
+/* Commits a plan that changes nothing; boddurci.h has its form. Leaves out the steps after the commit, since both files already have their
+ * lengths. */
 static uint32_t commit_nothing(struct boddurci_logged *logged, const uint64_t lengths[2], boddurci_fault *fault)
 {
     uint8_t record[BODDURCI_PLAN_AT + 28] = {0}, *plan = record + BODDURCI_PLAN_AT;
@@ -516,7 +515,8 @@ uint32_t boddurci_logged_mark(struct boddurci_logged *logged, boddurci_fault *fa
         return BODDURCI_DONE;
     if (boddurci_take_files(disk->place) != 0)
         return boddurci_fail_by_system(fault, "BASE.lock cannot be locked");
-    /* If the mark fails, keep the times of the data files: the next save would take new ones for a write of another program. */
+    /* If the mark fails, give_up must not free blocks of the data files: the next save would take the new times for a write of another
+     * program. */
     disk->has_reserved = 0;
     uint32_t status = logged->is_open ? BODDURCI_DONE : open_log(logged, fault);
     return status == BODDURCI_DONE ? commit_nothing(logged, lengths, fault) : status;
@@ -524,9 +524,9 @@ uint32_t boddurci_logged_mark(struct boddurci_logged *logged, boddurci_fault *fa
 
 /* ---- closing */
 
-/* Clears the mark, and the note of a shared base with the same write, since the process may be killed at any call. If the note were cleared
- * first, the marked log would be recovered, although another program may have written the data files since. If the mark were cleared first,
- * the note could later apply to other records that end at the same place. */
+/* Clears the mark and the note of a shared base by one write, since the process may be killed between two writes. If it had cleared only
+ * the note, the marked log would be recovered, although another program may have written the data files since. If it had cleared only the
+ * mark, the note could later apply to other records that end at the same place. */
 static int clear_mark(struct boddurci_disk *disk)
 {
     uint8_t header[BODDURCI_HEADER_USED];
@@ -538,8 +538,8 @@ static int clear_mark(struct boddurci_disk *disk)
 }
 
 /* Executes a step that closes the log. The steps are the syncs of both data files, the write that clears the mark, and the sync of the redo
- * file. In place of that write clear_mark writes the same byte, and zeros over the note. If a sync fails, clears the note: the data files
- * may lack what was written, so the next call has to recover them. */
+ * file. For the write, calls clear_mark, which also overwrites the note with zeros. If a sync fails, clears the note: the data files may
+ * lack written bytes, so the next call has to recover them. */
 static int close_by(struct boddurci_disk *disk, const boddurci_step *step)
 {
     if (step->file >= 2 && step->kind != BODDURCI_SYNC)
@@ -606,8 +606,8 @@ void boddurci_logged_end(struct boddurci_logged *logged)
 
 /* ---- reading */
 
-/* Syncs a marked redo file for a reader. Without the sync a crash of the machine could lose a save that was already read. On a read-only
- * file system there is nothing to sync. */
+/* Syncs a marked redo file for a reader. Without the sync a crash of the machine could lose a save that the reader has already returned. A
+ * read-only file system needs no sync. */
 static uint32_t keep_marked(struct boddurci_place *place, int redo, boddurci_fault *fault)
 {
     if ((boddurci_keep_opened(redo) == 0 && boddurci_keep_folder(place) == 0) || errno == EROFS || errno == EINVAL)

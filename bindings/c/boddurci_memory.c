@@ -1,10 +1,10 @@
-/* The allocator of libboddurci.a: the three functions that the library needs from the program, by malloc. They have no state.
- * libboddurci.so hides them. */
+/* The allocator of libboddurci.a: the three functions that the library needs from the program, implemented by malloc. They have no state,
+ * and libboddurci.so does not export them. */
 #include <stdbool.h>
 #include <stddef.h>
 #include <stdlib.h>
 
-/* The pointer of a failed allocation, which is never read or written: the library accepts no NULL even then. */
+/* The pointer that a failed allocation returns: the library does not accept NULL, and never reads or writes at this pointer. */
 static char nowhere;
 
 struct given {

@@ -1,5 +1,5 @@
-/* Notes of the data files of a base, taken when the base last read or wrote them, and how the files differ from the notes now.
- * include/boddurci_files.h says which changes of other programs a save can see by them. */
+/* Notes the state of the data files of a base when the base reads or writes them, and compares the present files with the notes.
+ * include/boddurci_files.h says which changes made by other programs a save can notice in this way. */
 #define _GNU_SOURCE
 #include "boddurci_saves.h"
 #include <fcntl.h>
@@ -47,10 +47,10 @@ int boddurci_is_local(int opened)
     return 0;
 }
 
-/* ---- looks: they read the state of the files */
+/* ---- reading the state of the files */
 
-/* Reads the state of a data file: of the open file if `is_held` is 1 and it is open, otherwise of the file under the name. A quick look
- * copies the noted times. */
+/* Reads the state of a data file: of the open file if there is one and `is_held` is 1, otherwise of the file under the name. If the look is
+ * quick, copies the noted times. */
 static struct boddurci_note look_at(const struct boddurci_notes *notes, const struct boddurci_disk *disk, enum boddurci_file file, int is_held)
 {
     struct stat is;
@@ -69,7 +69,7 @@ static struct boddurci_note look_at(const struct boddurci_notes *notes, const st
     return note;
 }
 
-/* Reads the state of both files. With `is_held` 1 it reads that of the open files, which takes less time. */
+/* Reads the state of both files. If `is_held` is 1, reads that of the open files, which takes less time. */
 static void look_at_both(const struct boddurci_notes *notes, const struct boddurci_disk *disk, int is_held, struct boddurci_note found[2])
 {
     struct boddurci_note both[2];
@@ -82,7 +82,7 @@ static void look_at_both(const struct boddurci_notes *notes, const struct boddur
 
 static const struct timespec never = {0, 0};
 
-/* Returns whether a time is the noted one, or that of a later write of the base. */
+/* Returns whether a time may be the base's own: it is the noted one, or not later than `latest`, the time of the last write of the base. */
 static int is_our_time(struct timespec noted, struct timespec is, struct timespec latest)
 {
     return is_same_time(noted, is) || is.tv_sec < latest.tv_sec || (is.tv_sec == latest.tv_sec && is.tv_nsec <= latest.tv_nsec);
@@ -133,7 +133,8 @@ struct timespec boddurci_time_of_folder(const struct boddurci_place *place)
     return fstat(place->folder, &found) == 0 ? found.st_ctim : never;
 }
 
-/* Returns whether the name of a data file is not a link: a link may lead into another folder. Returns 1 for a missing file. */
+/* Returns whether the name of a data file leads to this file without a link, which may lead into another folder. Returns 1 if the file is
+ * missing. */
 static int is_plain(const struct boddurci_place *place, enum boddurci_file file, const struct boddurci_note *found)
 {
     struct stat is;
@@ -144,7 +145,7 @@ static int is_plain(const struct boddurci_place *place, enum boddurci_file file,
 }
 
 /* Two changes of names within one clock tick may give the folder the same time. So the folder's time is noted only if it is clearly older
- * than that tick. */
+ * than the tick of the look. */
 void boddurci_note_names(struct boddurci_notes *notes, const struct boddurci_place *place, struct timespec folder,
                          const struct boddurci_note found[2])
 {
@@ -223,7 +224,8 @@ void boddurci_note_written(struct boddurci_notes *notes, const struct boddurci_d
     notes->has_our_clock = notes->is_local && is_near(notes->files[BODDURCI_PAGES].written, tick);
 }
 
-/* Notes only the new lengths: both files exist, and no other files can have their inodes. Returns 0 if that is not enough. */
+/* Notes only the new lengths, since no other files can have the inodes of the open ones. Returns 0 if that is not enough, because .pag is
+ * missing in the notes, or .dir is and its new length is not 0. */
 static int note_lengths(struct boddurci_notes *notes, const uint64_t lengths[2])
 {
     int has_directory = notes->files[BODDURCI_DIRECTORY].is_there;

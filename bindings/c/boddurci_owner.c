@@ -1,15 +1,16 @@
-/* The number of this process without a system call. Each call on a base needs it, to test that the process itself opened the base and not a
- * parent. */
+/* Gets the number of this process without a system call. Each call on a base needs this number, to test that this process opened the base
+ * and not a parent. */
 #define _GNU_SOURCE
 #include "boddurci_saves.h"
 #include <sys/mman.h>
 #include <unistd.h>
 
-/* The number, on a page that the system clears in a child; NULL if the system has no such pages. */
+/* Points to the number, on a page that the system clears in a child. NULL if the system has no such pages. */
 static pid_t *noted;
 static pthread_once_t once = PTHREAD_ONCE_INIT;
 
-/* Some emulators accept any advice and ignore it, even one that does not exist. So the page is used only if the system refuses that one. */
+/* Some emulators accept and ignore any advice of madvise, even an invalid one. So the page is used only if the system refuses an invalid
+ * advice. */
 static void make_page(void)
 {
 #ifdef MADV_WIPEONFORK

@@ -1,5 +1,5 @@
-/* The folder of a database, and the files in it by their names. A redo file or a lock is accepted only if no user who may not write .pag
- * can have made it; docs/DECISIONS.md says why under "Calls from C". */
+/* Opens the folder of a database and the files in it. A redo file or a lock is refused if a user who may not write .pag can have made it;
+ * docs/DECISIONS.md says why under "Calls from C". */
 #define _GNU_SOURCE
 #include "boddurci_saves.h"
 #include <errno.h>
@@ -11,7 +11,7 @@
 #include <sys/sysmacros.h>
 #include <unistd.h>
 
-/* O_PATH, so that the right to search the folder is enough. */
+/* With O_PATH, permission to search the folder is enough. */
 #ifdef O_PATH
 enum { OPEN_FOLDER = O_PATH | O_DIRECTORY | O_CLOEXEC };
 #else
@@ -161,8 +161,8 @@ static int is_lock(enum boddurci_file file)
     return file >= BODDURCI_LOCK;
 }
 
-/* Returns whether every user who may write a file may write .pag too. `pages` is NULL if .pag is missing; a lock may then be writable by
- * anybody, since it is empty. */
+/* Returns whether every user who may write a file may write .pag too. `pages` is NULL if .pag is missing. All users may be able to write a
+ * lock then, since it is empty. */
 static int is_writing_safe(enum boddurci_file file, const struct stat *found, const struct stat *pages)
 {
     if (pages == NULL)
@@ -184,7 +184,7 @@ static int is_owner_safe(enum boddurci_file file, const struct stat *found, cons
     return (pages->st_mode & S_IWOTH) != 0 || ((pages->st_mode & S_IWGRP) != 0 && found->st_gid == pages->st_gid);
 }
 
-/* Checks that a redo file or a lock is acceptable. A file that has lost its name meanwhile is. */
+/* Checks that a redo file or a lock is acceptable. Accepts a file that has lost its name meanwhile. */
 static uint32_t look(const struct boddurci_place *place, enum boddurci_file file, const struct stat *found, boddurci_fault *fault)
 {
     struct stat pages;
@@ -251,7 +251,7 @@ mode_t boddurci_mode_of_pages(const struct boddurci_place *place, mode_t otherwi
     return boddurci_look(place->folder, place->names[BODDURCI_PAGES], 0, &pages) == 0 ? pages.st_mode & 0666 : otherwise;
 }
 
-/* Gives a file the owner and the group of .pag, each independently. If the system forbids a change, the file keeps its own. */
+/* Gives a file the owner of .pag and, independently, the group of .pag. If the system forbids one of these changes, leaves it out. */
 static int give(int opened, const struct stat *pages, struct stat *own)
 {
     if (fstat(opened, own) != 0)

@@ -1,5 +1,5 @@
-/* Saves of a base: reads the pages that may have changed, plans, and checks for changes of other programs. include/boddurci_files.h has the
- * guarantees; boddurci_log.c executes a plan. */
+/* Saves a base: reads the pages that may have changed, plans, and checks for changes made by other programs. include/boddurci_files.h
+ * states the guarantees. boddurci_log.c executes a plan. */
 #define _GNU_SOURCE
 #include "boddurci_saves.h"
 #include <errno.h>
@@ -26,7 +26,7 @@ struct numbers {
 struct reading {
     struct boddurci_bytes directory;
     size_t length;
-    size_t directory_length; /* the length of .dir when the save looked at the files */
+    size_t directory_length; /* the length of .dir when the save read the state of the files */
     struct numbers listed;
     struct numbers own; /* the pages that may have changed when the plan was made; set only if pages are compared */
     uint8_t *pages;
@@ -49,7 +49,7 @@ static void end_reading(struct reading *reading)
     reading->pages = NULL;
 }
 
-/* Clears a reading without freeing its memory, which a copy now owns. Keeps the lengths of the files and the page size. */
+/* Clears a reading without freeing its memory, which a copy owns now. Keeps the lengths of the files and the page size. */
 static void forget_reading(struct reading *reading)
 {
     struct reading none = {.length = reading->length, .directory_length = reading->directory_length, .size = reading->size};
@@ -77,7 +77,7 @@ static uint32_t list_changed(boddurci *db, struct numbers *numbers)
     return status;
 }
 
-/* Lists all pages of the file and of the database. Pages that may have changed are listed even if they are past both ends. */
+/* Lists all pages up to the end of the file, the end of the database, and the last page that may have changed. */
 static uint32_t list_all(boddurci *db, struct reading *reading)
 {
     boddurci_cursor cursor;
@@ -102,7 +102,7 @@ static uint32_t list_all(boddurci *db, struct reading *reading)
     return status;
 }
 
-/* Returns the bytes of a page that was read before, or NULL. */
+/* Returns the bytes of a page if it was read before, and NULL otherwise. */
 static const uint8_t *page_in(const struct reading *before, uint32_t number)
 {
     const uint32_t *at = before->listed.at;
@@ -112,8 +112,7 @@ static const uint8_t *page_in(const struct reading *before, uint32_t number)
     return found != NULL ? before->pages + (size_t)(found - at) * before->size : NULL;
 }
 
-/* Returns the number of pages that one read can get: listed pages from `first` on that are adjacent in the file and were not read
- * before. */
+/* Returns how many listed pages, from `first` on, one system call can read: they are adjacent in the file and were not read before. */
 static size_t side_by_side(const struct reading *reading, const struct reading *before, size_t first)
 {
     size_t count = 1;
@@ -124,7 +123,7 @@ static size_t side_by_side(const struct reading *reading, const struct reading *
     return count;
 }
 
-/* Reads the listed pages. Copies those that were read before. */
+/* Reads the listed pages, and copies those that were read before. */
 static uint32_t read_pages(int file, struct reading *reading, const struct reading *before, boddurci_fault *fault)
 {
     for (size_t i = 0, count; i < reading->listed.count; i += count) {
@@ -140,7 +139,7 @@ static uint32_t read_pages(int file, struct reading *reading, const struct readi
     return BODDURCI_DONE;
 }
 
-/* Reads all of .dir. A short .dir is read without a mapping, which would take longer. */
+/* Reads all of .dir. Reads a short .dir into memory from malloc, since a mapping would take longer. */
 static uint32_t read_directory(int file, struct reading *reading, boddurci_fault *fault)
 {
     enum { SHORT = 65536 };
@@ -155,7 +154,7 @@ static uint32_t read_directory(int file, struct reading *reading, boddurci_fault
     return boddurci_read_at(file, 0, directory->at, length) == 0 ? BODDURCI_DONE : boddurci_fail_by_system(fault, "a file cannot be read");
 }
 
-/* Reads the directory or the listed pages. From the second save of a base on its files are already open. A missing file has no bytes. */
+/* Reads the directory or the listed pages, from the open file if there is one. A missing file has no bytes. */
 static uint32_t read_part(boddurci_base *base, enum boddurci_file which, struct reading *reading, const struct reading *before,
                           boddurci_fault *fault)
 {
@@ -186,7 +185,7 @@ static uint32_t read_listed(boddurci_base *base, struct reading *reading, const 
 
 /* The state of one save. */
 struct saving {
-    int insists;                   /* the save overwrites changes of another program */
+    int insists;                   /* the save may overwrite the changes of another program */
     int are_names_same;            /* all names lead to the files of the last save */
     int compares;                  /* the pages that the base has not changed must be the same in the file */
     enum boddurci_change change;   /* how the files differ from the notes of the last save */
@@ -203,7 +202,8 @@ static const uint32_t *numbers_of(const struct numbers *numbers)
     return numbers->at != NULL ? numbers->at : &none;
 }
 
-/* Returns a length that is enough for a plan that changes every block of the pages, up to a limit, so that a plan is usually made once. */
+/* Returns the length of a plan that changes every block of the pages, but at most a limit. A buffer of this length is usually enough at the
+ * first try. */
 static size_t room_of(const struct reading *reading)
 {
     enum { BLOCK = 1024, CHANGE = 9 + 2 * BLOCK, MOST = 8192, LEAST = 65536 };
@@ -211,8 +211,8 @@ static size_t room_of(const struct reading *reading)
     return LEAST + (blocks < MOST ? blocks : MOST) * CHANGE;
 }
 
-/* Makes the plan of a save. Leaves the first BODDURCI_PLAN_AT bytes of its memory free for the head of the log record. The plan is empty if
- * the files already equal the database. Free it even if the call fails. */
+/* Makes the plan of a save. Leaves the first BODDURCI_PLAN_AT bytes of its memory unused, for the head of the log record. The plan is empty
+ * if the files already equal the database. Free its memory even if the call fails. */
 static uint32_t plan_of(boddurci *db, const struct reading *reading, struct boddurci_bytes *plan)
 {
     const uint8_t *directory = or_none(reading->directory);
@@ -233,7 +233,8 @@ static uint32_t plan_of(boddurci *db, const struct reading *reading, struct bodd
     return status;
 }
 
-/* Reads the listed pages from the system's page cache, and copies those that were read before. Fails if a page is not in the cache. */
+/* Reads the listed pages from the system's page cache, except that pages that were read before are copied. Fails if a page is not in the
+ * cache. */
 static int read_cached(int file, struct reading *reading, const struct reading *before)
 {
     for (size_t i = 0; i < reading->listed.count; i++) {
@@ -248,8 +249,8 @@ static int read_cached(int file, struct reading *reading, const struct reading *
     return 0;
 }
 
-/* Lists the pages again, and reads those that other threads have changed meanwhile, if they are in the page cache: the caller holds the
- * mutex and must not wait for the disk. If it fails, it changes nothing. */
+/* Lists the pages again, and reads the pages that other threads have changed meanwhile. The caller holds the mutex and must not wait for
+ * the disk, so the call fails if one of these pages is not in the page cache. On failure nothing changes. */
 static int read_more(boddurci_base *base, struct saving *saving)
 {
     struct reading *before = &saving->reading, more = {.length = before->length, .size = before->size};
@@ -270,7 +271,8 @@ static int read_more(boddurci_base *base, struct saving *saving)
     return is_read;
 }
 
-/* Lists the pages to read, reads them, and plans. Holds the mutex while it lists and plans, and also while it reads if `holds` is 1. */
+/* Lists the pages to read, reads them, and plans. It holds the mutex while it lists and plans. If `holds` is 1, it holds the mutex also
+ * while it reads. */
 static uint32_t try_plan(boddurci_base *base, struct saving *saving, const struct reading *before, int holds, boddurci_fault *fault)
 {
     boddurci *db = boddurci_take_own(base);
@@ -298,7 +300,7 @@ static uint32_t try_plan(boddurci_base *base, struct saving *saving, const struc
 
 enum { TRIES = 3 };
 
-/* Makes a plan. Starts over if other threads have changed more pages meanwhile. After TRIES attempts it holds the mutex while it reads. */
+/* Makes a plan. Starts again if other threads have changed further pages meanwhile. After TRIES attempts holds the mutex while it reads. */
 static uint32_t plan_now(boddurci_base *base, struct saving *saving, boddurci_fault *fault)
 {
     uint32_t status = BODDURCI_STALE;
@@ -311,7 +313,7 @@ static uint32_t plan_now(boddurci_base *base, struct saving *saving, boddurci_fa
     return status;
 }
 
-/* Marks the pages of a plan that was not executed as changed again. If that fails, the next save reads all pages. */
+/* Marks the pages of a plan as changed again, since the plan was not executed. If that fails, the next save reads all pages. */
 static void mark_again(boddurci_base *base, const struct saving *saving)
 {
     const struct numbers *numbers = saving->compares ? &saving->reading.own : &saving->reading.listed;
@@ -322,7 +324,7 @@ static void mark_again(boddurci_base *base, const struct saving *saving)
 
 /* ---- files that another program has changed */
 
-/* Writes into `base->change` how another program has changed a file. */
+/* Sets `base->change` to a text that says how another program has changed a file. */
 static void note_change(boddurci_base *base, const struct saving *saving)
 {
     static const char *const names[2] = {"BASE.pag", "BASE.dir"};
@@ -336,8 +338,8 @@ static void note_change(boddurci_base *base, const struct saving *saving)
         snprintf(base->change, sizeof base->change, "%s has %llu bytes, and had %llu", names[saving->which], length, before);
 }
 
-/* Sets the fault of a save that would overwrite the changes of another program. Closes the log if possible, since its records do not belong
- * to these files, and the next opening must not apply them. */
+/* Sets the fault of a save that would overwrite the changes of another program. Closes the log if possible: its records do not belong to
+ * these files, and the next opening must not apply these records. */
 static uint32_t is_changed(boddurci_base *base, boddurci_fault *fault)
 {
     boddurci_fault second;
@@ -359,8 +361,9 @@ static int has_own_changes(boddurci_base *base)
     return status != BODDURCI_DONE || count != 0;
 }
 
-/* Checks before any write, by lengths and times, whether another program has changed the files. If only times differ, all pages will be
- * compared. That does not help if the other program may have written a page that the base has changed too: then it refuses the save. */
+/* Checks before any write, by lengths and times, whether another program has changed the files. If only times differ, the save will compare
+ * all pages. A comparison cannot tell whether the other program has written a page that the base has changed too. If that is possible,
+ * refuses the save. */
 static uint32_t must_be_ours(boddurci_base *base, struct saving *saving, boddurci_fault *fault)
 {
     int is_known = base->is_noted || base->doubt != BODDURCI_SAME, is_other = saving->change == BODDURCI_OTHERS;
@@ -374,8 +377,8 @@ static uint32_t must_be_ours(boddurci_base *base, struct saving *saving, boddurc
     return base->change[0] != 0 && !saving->insists ? is_changed(base, fault) : BODDURCI_DONE;
 }
 
-/* Searches a plan for a change of another program: a change of a page that the base has not changed, or any change if the base has changed
- * no page. boddurci.h has the form of a plan. */
+/* Searches a plan for a change that another program has caused: any change of a page that the base has not changed, or any change at all if
+ * the base has changed no page. boddurci.h defines the form of a plan. */
 static void compare(boddurci_base *base, const struct saving *saving)
 {
     enum { HEADER = 28, CHANGE = 9 };
@@ -394,7 +397,7 @@ static void compare(boddurci_base *base, const struct saving *saving)
     }
 }
 
-/* Checks after the plan whether another program has changed pages, or is writing. If so, the plan is not executed. */
+/* Checks, when the plan is made, whether another program has changed pages or is writing. If so, the plan is not executed. */
 static uint32_t must_stay_ours(boddurci_base *base, const struct saving *saving, enum boddurci_change again, enum boddurci_file which,
                                boddurci_fault *fault)
 {
@@ -447,8 +450,8 @@ static uint32_t are_named(const boddurci_base *base, const struct boddurci_note 
     return BODDURCI_DONE;
 }
 
-/* Recovers the files after a failed save. If another program has written them, closes the log, so that a new one begins: its records do not
- * belong to these files. */
+/* Recovers the files after a failed save. If another program has written the files, closes the log, whose records do not belong to these
+ * files, so that a new log begins. */
 static uint32_t recover(boddurci_base *base, struct saving *saving, boddurci_fault *fault)
 {
     int is_ended = 0;
@@ -490,7 +493,7 @@ static uint32_t prepare(boddurci_base *base, struct saving *saving, boddurci_fau
     return status;
 }
 
-/* Notes the files after a save. If another program has written during the save, the next save reports the change. */
+/* Notes the state of the files after a save. If another program has written during the save, the next save reports that change. */
 static void settle(boddurci_base *base, const struct saving *saving, enum boddurci_change again)
 {
     uint64_t lengths[2];
@@ -507,9 +510,9 @@ static void settle(boddurci_base *base, const struct saving *saving, enum boddur
     boddurci_note_saved(&base->notes, &base->logged.disk, lengths);
 }
 
-/* Saves after `prepare`. If no page has changed and the files match the notes, it reads nothing, except that the first save compares the
- * lengths of the files and the directory. If the files equal the database, it writes nothing. If the save insists, and another program
- * wrote while the files were read, the next save reads all pages. */
+/* Saves after `prepare`. If no page has changed and the files match the notes, the save reads nothing; only the first save of a base
+ * compares the lengths of the files and the directory. If the files equal the database, the save writes nothing. If the save insists and
+ * another program wrote while the save read the files, the next save reads all pages. */
 static uint32_t save_prepared(boddurci_base *base, struct saving *saving, boddurci_fault *fault)
 {
     enum boddurci_file which;
@@ -526,8 +529,8 @@ static uint32_t save_prepared(boddurci_base *base, struct saving *saving, boddur
     return status;
 }
 
-/* Releases BASE.lock after a save. If the log has failed, it keeps the lock until a later save has recovered the files: readers would see
- * files that lack a committed save or contain half of one. After CHANGED the log is closed, and readers see what the other program
+/* Releases BASE.lock after a save. If the log has failed, keeps the lock until a later save has recovered the files: until then the files
+ * may lack a committed save or contain half of one. After CHANGED the log is closed, and readers get the data that the other program
  * wrote. */
 static void give_files(boddurci_base *base, uint32_t status, int were_kept)
 {

@@ -1,7 +1,7 @@
-/* Declarations that the C files of this folder share: the place of a database, its locks and its log of saves. They are not for programs
- * that use the library. docs/DECISIONS.md explains them under "Reading and writing files" and "Calls from C".
+/* Declarations that the C files of this folder share: the place of a database, its locks and its log of saves. Programs that use the
+ * library do not include this file. docs/DECISIONS.md explains them under "Reading and writing files" and "Calls from C".
  *
- * A function that returns an int and answers no yes-or-no question returns 0 on success, and -1 with errno on failure. A function that
+ * A function that returns an int returns 0 on success, and -1 with errno on failure, unless its comment says otherwise. A function that
  * returns a status sets the fault too. */
 #ifndef BODDURCI_SAVES_H
 #define BODDURCI_SAVES_H
@@ -18,7 +18,7 @@
 /* BASE.pag, .dir, .redo, .lock and .writer. The last two are empty files that serve as locks. */
 enum boddurci_file { BODDURCI_PAGES, BODDURCI_DIRECTORY, BODDURCI_REDO, BODDURCI_LOCK, BODDURCI_WRITER, BODDURCI_FILES };
 
-/* The bytes of a file: a mapping of `room` bytes, or memory from malloc if `room` is 0. `boddurci_let_go` frees them. */
+/* The bytes of a file: a mapping of `room` bytes, or memory from malloc if `room` is 0. `boddurci_let_go` frees the bytes. */
 struct boddurci_bytes {
     uint8_t *at;
     size_t length;
@@ -35,12 +35,12 @@ uint32_t boddurci_no_memory(boddurci_fault *fault);
 /* Copies a name for the text of a fault. Escapes characters that could mislead a terminal or a reader, and truncates a long name. */
 void boddurci_show_name(char *room, size_t size, const char *name);
 
-/* Sets a fault by errno: NO_MEMORY for ENOMEM, MOVED for ESTALE (the name leads to another file than was opened), otherwise FILE_FAILED. */
+/* Sets a fault by errno: NO_MEMORY for ENOMEM, MOVED for ESTALE (the name does not lead to the opened file), otherwise FILE_FAILED. */
 uint32_t boddurci_fail_by_system(boddurci_fault *fault, const char *what);
 
 /* ---- boddurci_bytes.c: the bytes of a file in memory */
 
-/* Reads bytes of an open file from offset `at` on. Bytes past its end are read as zeros. */
+/* Reads bytes of an open file from offset `at` on, with zeros past the end of the file. */
 int boddurci_read_at(int opened, uint64_t at, uint8_t *room, size_t size);
 
 /* Like `boddurci_read_at`, but fails instead of waiting for the disk if the bytes are not in the system's page cache. */
@@ -48,31 +48,31 @@ int boddurci_read_cached(int opened, uint64_t at, uint8_t *room, size_t size);
 
 void boddurci_let_go(struct boddurci_bytes *bytes);
 
-/* Changes the length of mapped bytes. New bytes are zeros. */
+/* Changes the length of mapped bytes, with zeros as new bytes. */
 int boddurci_set_length(struct boddurci_bytes *bytes, size_t length);
 
 /* Reads the first `length` bytes of an open file into empty `bytes`. Holes of the file take no memory. */
 int boddurci_read_bytes(int file, size_t length, struct boddurci_bytes *bytes);
 
-/* Reads the first `length` bytes of an open file into memory from malloc, with holes as zeros. malloc reuses its memory for the next read,
+/* Reads the first `length` bytes of an open file into memory from malloc, with holes as zeros. The next read reuses the memory from malloc,
  * which saves a page fault for each page. */
 int boddurci_read_short(int file, size_t length, struct boddurci_bytes *bytes);
 
-/* Returns whether the first `length` bytes of an open file contain data. If not, they are one hole. */
+/* Returns whether the first `length` bytes of an open file contain data and are not one hole. */
 int boddurci_has_data(int file, size_t length);
 
-/* Reads the first `length` bytes of an open .pag in pieces, as pages of 8,192 bytes if `is_wide` is not 0, and of 1,024 otherwise. Apart
- * from the result it needs memory for one piece only. */
+/* Reads the first `length` bytes of an open .pag in pieces, as pages of 8,192 bytes if `is_wide` is not 0, and of 1,024 otherwise. Besides
+ * the memory of the result, it needs memory for one piece. */
 int boddurci_read_pages(int file, size_t length, uint32_t is_wide, boddurci_reading *pages);
 
-/* Like `boddurci_read_pages`, from the bytes of a .pag in memory. Frees the bytes as it reads them. */
+/* Like `boddurci_read_pages`, but takes the bytes of a .pag from memory, and frees each part once it is read. */
 int boddurci_move_pages(struct boddurci_bytes *bytes, uint32_t is_wide, boddurci_reading *pages);
 
-/* Returns the greatest length of a file, in bytes. */
+/* Returns the greatest allowed length of a file, in bytes. */
 size_t boddurci_most_bytes(enum boddurci_file file);
 
 /* `boddurci_length_of` sets the length of an open file, and `boddurci_read_all` reads the whole file. TOO_LONG if the file exceeds its
- * greatest length. */
+ * greatest allowed length. */
 uint32_t boddurci_length_of(int opened, enum boddurci_file file, size_t *length, boddurci_fault *fault);
 uint32_t boddurci_read_all(int opened, enum boddurci_file file, struct boddurci_bytes *bytes, boddurci_fault *fault);
 
@@ -85,8 +85,8 @@ struct boddurci_inode {
     ino_t number;
 };
 
-/* The file that a name has led to. It is kept open, since the system may give the inode of a removed file to a new one once nobody has it
- * open. */
+/* The file to which a name led when it was opened. It stays open: once nobody has a removed file open, the system may give its inode to a
+ * new file. */
 struct boddurci_seen {
     int is_there;
     int opened; /* valid if is_there is 1 */
@@ -94,7 +94,7 @@ struct boddurci_seen {
     ino_t number;
 };
 
-/* The place of a base: its folder and the names of its files. The folder stays open, so that a changed path does not lead to other files.
+/* The place of a base: its folder and the names of its files. The folder stays open, so that other files are not used if the path changes.
  * `opened` and `is_early` are used for the locks only. */
 struct boddurci_place {
     int folder;                   /* or -1 */
@@ -111,12 +111,12 @@ struct boddurci_place {
 };
 
 /* `boddurci_no_place` makes an empty place, `boddurci_place_of` sets the place of a base, and `boddurci_place_close` closes it. Close a
- * place even if setting it failed. */
+ * place even if `boddurci_place_of` has failed. */
 void boddurci_no_place(struct boddurci_place *place);
 uint32_t boddurci_place_of(struct boddurci_place *place, const char *base, boddurci_fault *fault);
 void boddurci_place_close(struct boddurci_place *place);
 
-/* Opens a data file. Fails with ESTALE if the file that was seen is gone, or if its name leads to another file. */
+/* Opens a data file. Fails with ESTALE if the seen file has lost its name, or if the name leads to another file. */
 int boddurci_open_data(struct boddurci_place *place, enum boddurci_file file, int how);
 
 /* `boddurci_see` records an open data file as the seen one, so that later calls accept no other file. `boddurci_see_none` forgets both
@@ -124,15 +124,16 @@ int boddurci_open_data(struct boddurci_place *place, enum boddurci_file file, in
 int boddurci_see(struct boddurci_place *place, enum boddurci_file file, int opened);
 void boddurci_see_none(struct boddurci_place *place);
 
-/* `boddurci_open_to_read` opens a data file for reading. If it is missing, *opened is -1, or the call fails if it must exist.
- * `boddurci_read_data` reads a whole data file; a missing one has no bytes. Both are in boddurci_bytes.c. */
+/* `boddurci_open_to_read` opens a data file for reading. If the file is missing, the call fails if the file must exist, and otherwise sets
+ * *opened to -1. `boddurci_read_data` reads a whole data file; a missing file has no bytes. Both functions are in boddurci_bytes.c. */
 uint32_t boddurci_open_to_read(struct boddurci_place *place, enum boddurci_file file, int must_exist, int *opened, boddurci_fault *fault);
 uint32_t boddurci_read_data(struct boddurci_place *place, enum boddurci_file file, struct boddurci_bytes *bytes, boddurci_fault *fault);
 
-/* Opens the redo file or a lock file. Sets *opened to -1 if it is missing. UNSAFE if a user who may not write .pag can have made it. */
+/* Opens the redo file or a lock file. Sets *opened to -1 if the file is missing. UNSAFE if a user who may not write .pag can have made
+ * it. */
 uint32_t boddurci_open_beside(const struct boddurci_place *place, enum boddurci_file file, int how, int *opened, boddurci_fault *fault);
 
-/* Creates a file, which must be missing. */
+/* Creates a file. Fails if the file exists. */
 int boddurci_make(const struct boddurci_place *place, enum boddurci_file file, mode_t mode);
 
 /* Gives a new file the owner, the group and the permissions of .pag, as far as the system allows. Does nothing if .pag is missing. */
@@ -141,9 +142,9 @@ int boddurci_be_like_pages(const struct boddurci_place *place, enum boddurci_fil
 /* Returns whether an open file has the owner, the group and the permissions of .pag. */
 int boddurci_is_like_pages(const struct boddurci_place *place, int opened);
 
-/* `boddurci_look` gets the inode, kind, length, owner and permissions of a name in a folder, but not its times; `boddurci_look_at` those of
- * an open file. If a file's times were requested, the system gives it new times at its next write, and on some file systems a sync then
- * takes a second write. */
+/* `boddurci_look` gets the inode, kind, length, owner and permissions of the file under a name in a folder, and `boddurci_look_at` those of
+ * an open file. Neither requests the times of the file: after such a request the system sets new times at the next write, and on some file
+ * systems a sync then takes a second write. */
 struct stat;
 int boddurci_look(int folder, const char *name, int how, struct stat *found);
 int boddurci_look_at(int opened, struct stat *found);
@@ -151,8 +152,8 @@ int boddurci_look_at(int opened, struct stat *found);
 /* Gets the inode of an open file. If that fails, `is_known` is 0. */
 struct boddurci_inode boddurci_inode_of(int opened);
 
-/* `boddurci_is_named` returns whether the name of a file leads to the open file, and `boddurci_leads_to` whether it leads to an inode that
- * is known. */
+/* `boddurci_is_named` returns whether the name of a file leads to the open file. `boddurci_leads_to` returns whether the name leads to this
+ * inode, which must be known. */
 int boddurci_is_named(const struct boddurci_place *place, enum boddurci_file file, int opened);
 int boddurci_leads_to(const struct boddurci_place *place, enum boddurci_file file, struct boddurci_inode inode);
 
@@ -170,30 +171,32 @@ int boddurci_keep_opened(int opened);
  * BASE.lock protects the files. A writer holds it exclusively while it opens the base, during each save and while it closes the base. A
  * reader holds it shared while it reads. BASE.writer protects the database: a writer holds it for as long as it has the base open. A writer
  * takes BASE.writer only while it holds BASE.lock, and releases BASE.lock once the files are recovered and read. So if a process holds
- * BASE.writer exclusively while a reader holds BASE.lock, the data files are those of the last save.
+ * BASE.writer exclusively while a reader holds BASE.lock, the data files have the last save.
  *
  * While a writer holds BASE.lock exclusively, it holds BASE.writer shared. If it is killed then, the data files may contain half of a save,
- * and the system may release BASE.lock before BASE.writer. A reader that gets BASE.lock then must not assume that the files are complete.
+ * and the system may release BASE.lock before BASE.writer. If a reader gets BASE.lock between these two releases, it must not assume that
+ * the files are complete.
  *
- * A save shares BASE.lock with readers while it plans, appends its record and syncs it, which takes most of its time; it writes no data
- * file then. It holds BASE.lock exclusively while it writes the data files, and while it opens or empties the log. If it excluded readers
- * for the whole save, a reader that polls would hardly ever find BASE.lock free while a service saves without a pause. */
+ * A save shares BASE.lock with readers while it plans, appends its record and syncs the log, which takes most of its time. It writes no
+ * data file meanwhile. It holds BASE.lock exclusively while it writes the data files, and while it opens or empties the log. If a save
+ * excluded readers from its beginning to its end, a reader that polls would hardly ever find BASE.lock free while a service saves without a
+ * pause. */
 
-/* Sets the place of the base with this name and takes its locks: both for a writer, only BASE.lock for a reader, and none for a reader if
- * BASE.lock is missing. Waits without a limit if `milliseconds` is negative, and tries once if it is 0. Close the place even if the call
+/* Sets the place of the base with this name and takes its locks. A writer takes both locks. A reader takes only BASE.lock, or no lock if
+ * BASE.lock is missing. If `milliseconds` is negative, waits without a limit; if it is 0, tries once. Close the place even if the call
  * fails. */
 uint32_t boddurci_enter(struct boddurci_place *place, const char *name, int reads, int64_t milliseconds, boddurci_fault *fault);
 
-/* Takes BASE.lock for a reader that holds no lock, if the file exists by now. OPEN_HERE if this thread holds it, since it would wait for
- * itself. */
+/* Takes BASE.lock, if the file exists by now, for a reader that holds no lock. OPEN_HERE if this thread already holds BASE.lock, since it
+ * would wait for itself. */
 uint32_t boddurci_take_shared(struct boddurci_place *place, int64_t milliseconds, boddurci_fault *fault);
 
 /* Returns whether another process, or another base of this process, has the database open for writing. The caller holds BASE.lock. */
 int boddurci_has_writer(const struct boddurci_place *place);
 
 /* The next four calls are for an open writer. `boddurci_take_files` takes BASE.lock exclusively, and `boddurci_share_files` takes it
- * shared. Both wait without a limit, convert the lock that the other one took, and do nothing if the place keeps the lock.
- * `boddurci_give_files` releases it. `boddurci_keep_files` keeps it until the next `boddurci_give_files`. */
+ * shared. Both calls wait without a limit, convert a lock that the other call took, and do nothing if the place keeps the lock.
+ * `boddurci_give_files` releases BASE.lock. `boddurci_keep_files` keeps it until the next `boddurci_give_files`. */
 int boddurci_take_files(struct boddurci_place *place);
 int boddurci_share_files(struct boddurci_place *place);
 void boddurci_give_files(struct boddurci_place *place);
@@ -202,15 +205,16 @@ void boddurci_keep_files(struct boddurci_place *place);
 /* Checks that the names of both locks of a writer still lead to the locked files. MOVED if not. */
 uint32_t boddurci_are_held(const struct boddurci_place *place, boddurci_fault *fault);
 
-/* Releases both locks if `is_own` is 1. Otherwise it only closes their files: a forked child must not release the locks of its parent. */
+/* Releases both locks if `is_own` is 1. Otherwise only closes the lock files: a forked child must not release the locks of its parent. */
 void boddurci_give_locks(struct boddurci_place *place, int is_own);
 
 /* Gives a lock file that was made before .pag the owner, the group and the permissions of .pag, once .pag exists. */
 void boddurci_settle_locks(struct boddurci_place *place);
 
 /* The next four calls are for a shared base, which holds locks only during a call. `boddurci_find` sets the place of a name without taking
- * a lock. `boddurci_take_call` takes the locks for a call: both for a change; for a fetch only BASE.lock, if it exists. Its wait continues
- * after a signal. `boddurci_give_call` releases the locks and leaves their files open. `boddurci_drop_locks` closes the files. */
+ * a lock. `boddurci_take_call` takes the locks for a call: both locks for a change, and only BASE.lock, if it exists, for a fetch. Its wait
+ * continues after a signal. `boddurci_give_call` releases the locks and leaves the lock files open. `boddurci_drop_locks` closes the lock
+ * files. */
 uint32_t boddurci_find(struct boddurci_place *place, const char *name, boddurci_fault *fault);
 uint32_t boddurci_take_call(struct boddurci_place *place, int reads, int64_t milliseconds, boddurci_fault *fault);
 void boddurci_give_call(struct boddurci_place *place, int reads);
@@ -218,8 +222,8 @@ void boddurci_drop_locks(struct boddurci_place *place);
 
 /* ---- boddurci_holder.c: the process that holds a lock */
 
-/* Returns the process that holds a lock, exclusively or shared; -1 if this process cannot see it; 0 if no process holds the lock or the
- * system does not say. */
+/* Returns the process that holds a lock, exclusively or shared. Returns -1 if this process cannot see the holder, and 0 if there is no
+ * holder or the system does not report it. */
 long boddurci_holder_of(const struct boddurci_place *place, enum boddurci_file lock);
 
 /* Sets the fault LOCKED. Its text names the process that holds the lock, if the system reports it. */
@@ -235,39 +239,40 @@ typedef struct {
 
 enum { BODDURCI_WRITE, BODDURCI_ZEROS, BODDURCI_RESIZE, BODDURCI_SYNC };
 
-/* A step: one call on a file, as five words. It writes `length` bytes from place `from` of a buffer at offset `at`, writes `length` zeros
- * at `at`, sets the length of the file (new bytes are zeros), or syncs its bytes, its length and its name. */
+/* A step: one call on a file, as five words. There are four kinds of steps: write `length` bytes, which begin at index `from` of a buffer,
+ * at offset `at` of the file; write `length` zeros at `at`; set the length of the file (new bytes are zeros); sync the bytes, the length
+ * and the name of the file. */
 typedef struct {
     uint64_t kind, file /* 0 .pag, 1 .dir, 2 .redo */, at, from, length;
 } boddurci_step;
 
-/* Returns the steps that open the log of these files with room for at least `room` bytes, and the place of its first record. If the redo
- * file has its mark, the steps recover the data files first; otherwise the call needs no bytes of the data files. SHORT_ROOM if a buffer is
- * too short: the call then sets only the lengths. BAD_FILES if the redo file has no plan of these files. STALE if a record in the middle of
- * its log is damaged. NO_MEMORY. */
+/* Returns the steps that open the log of these files with room for at least `room` bytes, and the place of the first record. If the redo
+ * file has its mark, the steps recover the data files first; otherwise the call does not need the bytes of the data files. SHORT_ROOM if a
+ * buffer is too short: the call then sets only the lengths. BAD_FILES if the redo file has no plan of these files. STALE if a record in the
+ * middle of its log is damaged. NO_MEMORY. */
 uint32_t boddurci_log_open(const uint8_t *pages, size_t pages_length, const uint8_t *directory, size_t directory_length, const uint8_t *redo,
                            size_t redo_length, size_t room, boddurci_log *log, uint8_t *bytes, size_t bytes_room, size_t *bytes_length,
                            uint64_t *words, size_t words_room, size_t *words_length);
 
-/* Returns the steps that bring copies of the data files to the state that the three files represent: no steps if the redo file has no plan.
+/* Returns the steps that apply the plans in the redo file to copies of the data files. If the redo file has no plan, there are no steps.
  * The statuses are those of `boddurci_log_open`. */
 uint32_t boddurci_log_read(const uint8_t *pages, size_t pages_length, const uint8_t *directory, size_t directory_length, const uint8_t *redo,
                            size_t redo_length, uint8_t *bytes, size_t bytes_room, size_t *bytes_length, uint64_t *words, size_t words_room,
                            size_t *words_length);
 
-/* Returns the steps of a save, the number of words of the steps that commit it, and the place of the next record. The plan starts at
- * bytes[BODDURCI_PLAN_AT]; the call writes the bytes before it. SHORT_ROOM, FILE_TOO_LONG, NO_MEMORY. */
+/* Returns the steps of a save, the number of words of the steps that commit the save, and the place of the next record. The plan starts at
+ * bytes[BODDURCI_PLAN_AT]; the call writes the bytes before the plan. SHORT_ROOM, FILE_TOO_LONG, NO_MEMORY. */
 enum { BODDURCI_PLAN_AT = 18 };
 uint32_t boddurci_log_save(boddurci_log *log, uint8_t *bytes, size_t length, uint64_t *words, size_t words_room, size_t *words_length,
                            size_t *committed);
 
-/* Returns the steps that close a log. They write no bytes of a buffer. SHORT_ROOM, NO_MEMORY. */
+/* Returns the steps that close a log. These steps write no bytes of a buffer. SHORT_ROOM, NO_MEMORY. */
 uint32_t boddurci_log_close(uint64_t *words, size_t words_room, size_t *words_length);
 
 /* ---- boddurci_disk.c: the three files, open for writing */
 
-/* The data files and the redo file. A data file is opened, or made if it is missing, when it is first synced or written, and then stays
- * open. The redo file is made when it is first written; boddurci_log.c opens an existing one. */
+/* The data files and the redo file. A data file is opened, or made if it is missing, at its first sync or write, and then stays open. A
+ * missing redo file is made at its first write; boddurci_log.c opens an existing redo file. */
 struct boddurci_disk {
     struct boddurci_place *place;
     int files[3];            /* -1 if closed */
@@ -290,8 +295,8 @@ void boddurci_disk_close(struct boddurci_disk *disk);
 void boddurci_hold_signal(struct boddurci_disk *disk);
 void boddurci_give_signal(struct boddurci_disk *disk);
 
-/* Write bytes, write zeros, set the length, and sync a file and the names of all files. A sync of a missing data file syncs only the names.
- * A sync fails if the data file may not be written. */
+/* Write bytes, write zeros, set the length, and sync a file and the names of all files. If a data file is missing, its sync syncs only the
+ * names. A sync fails if this user may not write the data file. */
 int boddurci_disk_write(struct boddurci_disk *disk, enum boddurci_file file, uint64_t at, const uint8_t *bytes, size_t size);
 int boddurci_disk_zero(struct boddurci_disk *disk, enum boddurci_file file, uint64_t at, uint64_t size);
 int boddurci_disk_resize(struct boddurci_disk *disk, enum boddurci_file file, uint64_t length);
@@ -300,11 +305,11 @@ int boddurci_disk_sync(struct boddurci_disk *disk, enum boddurci_file file);
 /* Sets *length to the length of a file, or to 0 if it is missing. */
 int boddurci_disk_length(struct boddurci_disk *disk, enum boddurci_file file, uint64_t *length);
 
-/* Closes and removes the redo file. It may be missing. */
+/* Closes and removes the redo file, if it exists. */
 int boddurci_disk_remove_redo(struct boddurci_disk *disk);
 
-/* `boddurci_disk_reserve` allocates the blocks of a range of an open file, and leaves its bytes and its length unchanged. Returns 1 if the
- * file system cannot do that. `boddurci_disk_trim` frees the blocks past `length`, which is the present length of the file. */
+/* `boddurci_disk_reserve` allocates the blocks of a range of an open file without changing its bytes and its length. Returns 1 if the file
+ * system cannot do that. `boddurci_disk_trim` frees the blocks past `length`, which is the present length of the file. */
 int boddurci_disk_reserve(struct boddurci_disk *disk, enum boddurci_file file, uint64_t at, uint64_t size);
 int boddurci_disk_trim(struct boddurci_disk *disk, enum boddurci_file file, uint64_t length);
 
@@ -320,10 +325,10 @@ struct boddurci_steps {
     uint8_t *own;         /* the bytes, if they are freed with the steps */
 };
 
-/* Executes steps on the files, in order, and stops at the first that fails. */
+/* Executes steps on the files, in order, and stops at the first step that fails. */
 int boddurci_do_steps(struct boddurci_disk *disk, const boddurci_step *steps, size_t count, const uint8_t *bytes);
 
-/* Executes the steps that concern the data files on mapped copies of them. */
+/* Executes the steps on the data files, on mapped copies of these files. */
 int boddurci_do_in_memory(struct boddurci_bytes files[2], const struct boddurci_steps *steps);
 
 /* `boddurci_is_within_limits` returns whether the steps leave the data files within their greatest lengths. `boddurci_may_write` fails with
@@ -334,11 +339,11 @@ int boddurci_may_write(struct boddurci_disk *disk, const struct boddurci_steps *
 /* Reads a number of a plan: four bytes, the lowest first. */
 uint64_t boddurci_number_at(const uint8_t *at);
 
-/* Sets the lengths of both data files before or after a plan. The plan starts at bytes[BODDURCI_PLAN_AT]. */
+/* Gets from a plan the lengths of both data files before it or after it. The plan starts at bytes[BODDURCI_PLAN_AT]. */
 void boddurci_lengths_of(const uint8_t *bytes, int is_after, uint64_t lengths[2]);
 
 /* `boddurci_take_room` ensures, before a save is committed, that the steps after the commit will find room on the disk. It allocates the
- * blocks of the data files; for blocks that it cannot allocate, it tries in the redo file whether the disk has that much room.
+ * blocks of the data files. If it cannot allocate some blocks, it tests with the redo file whether the disk has room for these.
  * `boddurci_release_room` frees the blocks past the ends of the data files, and preserves errno. */
 int boddurci_take_room(struct boddurci_disk *disk, const struct boddurci_steps *steps);
 void boddurci_release_room(struct boddurci_disk *disk);
@@ -362,9 +367,10 @@ struct boddurci_logged {
 
 void boddurci_logged_of(struct boddurci_logged *logged, struct boddurci_place *place, struct boddurci_notes *notes);
 
-/* Recovers the data files if the log is closed and the redo file has its mark. Then opens the log, if there is room for it, and sets
- * *is_ended to 1. If the note of a shared base says that all records are applied, it only closes the log, and *is_ended is 0. An open log
- * counts as closed if the redo file has lost its name; the caller sets `are_names_same` if it knows that it has not. */
+/* If the log is closed and the redo file has its mark, recovers the data files, opens the log, if there is room for it, and sets *is_ended
+ * to 1. But if the note of a shared base says that all records are applied, only closes the log. In this case and in all other cases sets
+ * *is_ended to 0. An open log counts as closed if the redo file has lost its name. The caller sets `are_names_same` to 1 if it knows that
+ * all files still have their names. */
 uint32_t boddurci_logged_recover(struct boddurci_logged *logged, int are_names_same, int *is_ended, boddurci_fault *fault);
 
 /* Saves by a plan, which starts at byte BODDURCI_PLAN_AT of `bytes`. Opens the log first if it is closed. After a fault nothing has
@@ -373,21 +379,22 @@ uint32_t boddurci_logged_recover(struct boddurci_logged *logged, int are_names_s
 uint32_t boddurci_logged_save(struct boddurci_logged *logged, struct boddurci_bytes bytes, int *is_left, boddurci_fault *fault);
 
 /* `boddurci_logged_mark` marks the redo file, if it has no mark and .pag exists, by the record of a plan that changes nothing. Older
- * versions, which know only BASE.lock, write nothing while it is marked. `boddurci_logged_is_marked` returns whether it is. */
+ * versions, which know only BASE.lock, write nothing while it is marked. `boddurci_logged_is_marked` returns whether the redo file has its
+ * mark. */
 uint32_t boddurci_logged_mark(struct boddurci_logged *logged, boddurci_fault *fault);
 int boddurci_logged_is_marked(const struct boddurci_logged *logged);
 
 /* Closes the log. The next save opens it again. */
 uint32_t boddurci_logged_renew(struct boddurci_logged *logged, boddurci_fault *fault);
 
-/* Closes the log and the files. If a step fails, the next opening recovers the base. Executes no step if a lock is lost. */
+/* Closes the log and the files. If a step fails, the next opening recovers the base. If a lock has lost its name, executes no step. */
 void boddurci_logged_end(struct boddurci_logged *logged);
 
 /* Sets *is_marked to whether the redo file has its mark and records that may not be in the data files. If so, reads both data files and
  * applies the saves in memory. Free the bytes even if the call fails. */
 uint32_t boddurci_read_marked(struct boddurci_place *place, int *is_marked, struct boddurci_bytes files[2], boddurci_fault *fault);
 
-/* ---- boddurci_notes.c: the recorded state of the data files, which shows changes of other programs to a save */
+/* ---- boddurci_notes.c: the recorded state of the data files, by which a save notices changes made by other programs */
 
 /* The state of a data file. */
 struct boddurci_note {
@@ -419,7 +426,7 @@ enum boddurci_change {
 };
 
 /* Returns whether an open file is on a local file system: this system then sets its times itself, while it writes the file. A server sets
- * the times of its files itself, perhaps only after they were read here. */
+ * the times of its files itself, perhaps only after this process has read these times. */
 int boddurci_is_local(int opened);
 
 /* `boddurci_note_opened` records the state of the files under the names, before they are read. `boddurci_note_system` then records whether
@@ -436,17 +443,17 @@ void boddurci_note_names(struct boddurci_notes *notes, const struct boddurci_pla
                          const struct boddurci_note found[2]);
 
 /* Returns whether all names still lead to the files of the last look at the names, by the folder's time of change. It returns 0 after the
- * clock tick of that look, since a mount does not change the folder. */
+ * clock tick of that look: later a mount may have replaced a file, and a mount does not change the time of the folder. */
 int boddurci_are_names_same(const struct boddurci_notes *notes, const struct boddurci_place *place);
 
-/* Reads the state of the files under the names before a save. Returns how they differ from the notes, and in *which the file that differs.
- * If they are the same, it notes them. Within the clock tick of the last look it may be quick: it then reads no times, and looks at the
- * open files if the names are the same. */
+/* Reads the state of the files under their names before a save. Returns how the files differ from the notes, and sets *which to the file
+ * that differs. If no file differs, notes the state that was read. Within the clock tick of the last look the call may be quick: then it
+ * reads no times, and looks at the open files if the names are the same. */
 enum boddurci_change boddurci_look_before(struct boddurci_notes *notes, const struct boddurci_disk *disk, int may_be_quick, int are_names_same,
                                           struct boddurci_note found[2], enum boddurci_file *which);
 
-/* Reads the state of the open files again, and returns how it differs from `found`. After a quick look it returns SAME without a look: a
- * write within the clock tick of a save may go unseen, and the save sets the lengths itself. */
+/* Reads the state of the open files again, and returns how that state differs from `found`. After a quick look returns SAME without reading
+ * anything: a write within the clock tick of a save may remain unnoticed, and the save sets the lengths itself. */
 enum boddurci_change boddurci_look_again(const struct boddurci_notes *notes, const struct boddurci_disk *disk,
                                          const struct boddurci_note found[2], enum boddurci_file *which);
 
@@ -455,16 +462,16 @@ enum boddurci_change boddurci_look_again(const struct boddurci_notes *notes, con
 void boddurci_look_meanwhile(struct boddurci_notes *notes, const struct boddurci_disk *disk);
 
 /* `boddurci_note_found` notes the files of the last look, and `boddurci_note_written` the files that the base has written.
- * `boddurci_note_saved` notes them after a save that left these lengths; within the clock tick of the last look it does so without another
- * look. */
+ * `boddurci_note_saved` notes the files after a save that left these lengths; within the clock tick of the last look it notes only the
+ * lengths. */
 void boddurci_note_found(struct boddurci_notes *notes, const struct boddurci_note found[2]);
 void boddurci_note_written(struct boddurci_notes *notes, const struct boddurci_disk *disk);
 void boddurci_note_saved(struct boddurci_notes *notes, const struct boddurci_disk *disk, const uint64_t lengths[2]);
 
 /* ---- boddurci_owner.c: the process of a base */
 
-/* Both return the number of this process. Call `boddurci_note_process` when a base is opened. After that `boddurci_this_process` makes no
- * system call, except in a child process. */
+/* Both functions return the number of this process. Call `boddurci_note_process` when a base is opened. After that `boddurci_this_process`
+ * makes no system call, except in a child process. */
 pid_t boddurci_note_process(void);
 pid_t boddurci_this_process(void);
 
@@ -486,7 +493,8 @@ struct boddurci_group {
     int64_t took;                /* the duration of the last save in nanoseconds; atomic */
 };
 
-/* Locks a mutex that is held for a few microseconds at most. Tries for a while before it sleeps, since sleeping and waking take longer. */
+/* Locks a mutex that is held for a few microseconds at most. Tries for a while before it sleeps, since sleeping and waking take longer than
+ * the mutex is held. */
 void boddurci_lock_soon(pthread_mutex_t *mutex);
 
 int boddurci_group_init(struct boddurci_group *group);
@@ -494,8 +502,8 @@ void boddurci_group_destroy(struct boddurci_group *group);
 
 typedef uint32_t boddurci_saving(boddurci_base *base, int insists, boddurci_fault *fault);
 
-/* Returns the result of a save that began after this call. One thread at a time calls `save`, on behalf of all calls that wait then. The
- * save insists if one of these calls does. */
+/* Returns the result of a save that began after this call. One thread at a time calls `save`, on behalf of all waiting calls. The save
+ * insists if one of these calls does. */
 uint32_t boddurci_group_save(struct boddurci_group *group, boddurci_saving *save, boddurci_base *base, int insists, boddurci_fault *fault);
 
 /* ---- boddurci_files.c: an open base; boddurci_save.c saves it */
@@ -516,15 +524,15 @@ struct boddurci_base {
     struct boddurci_group saves; /* of the files; a call that needs both waits for its turn to save before it locks the mutex */
 };
 
-/* Returns whether a parent of this process opened the base. */
+/* Returns whether the base was opened by a parent of this process, and not by the process itself. */
 int boddurci_is_of_another(const boddurci_base *base);
 
 /* Like boddurci_take and boddurci_give, for a save, which has tested that the base belongs to this process. */
 boddurci *boddurci_take_own(boddurci_base *base);
 void boddurci_give_own(boddurci_base *base);
 
-/* Marks the log of a writer, whose files are those that were last read or saved, and releases BASE.lock. If the log gets no mark, keeps the
- * lock, since older versions, which know only BASE.lock, would write. */
+/* Marks the log of a writer and releases BASE.lock. The data files must be those that were last read or saved. If the log cannot be marked,
+ * keeps BASE.lock, since otherwise older versions, which know only BASE.lock, would write. */
 void boddurci_mark_and_give(boddurci_base *base);
 
 /* ---- boddurci_shared_log.c: the log between the calls of a shared base */
@@ -537,8 +545,8 @@ struct boddurci_boot {
 
 void boddurci_boot_of_system(struct boddurci_boot *boot);
 
-/* A note in the header of the log. It says that all records up to an end are applied to both data files, and has the state of each file
- * then: its device, inode, length and time of the last change, or zeros if it was missing. */
+/* A note in the header of the log. It says that all records up to a certain end are applied to both data files. It has the state of each
+ * data file at that time: its device, inode, length and time of the last change, or zeros if the file was missing. */
 struct boddurci_log_note {
     boddurci_log log;
     uint64_t states[8];
@@ -553,19 +561,21 @@ enum boddurci_applied {
 /* Reads the header of an open redo file. Sets the note if the result is APPLIED. */
 enum boddurci_applied boddurci_find_note(int redo, const struct boddurci_boot *boot, struct boddurci_log_note *note);
 
-/* Returns the state of the file under a name in a folder, or of an open file (with AT_EMPTY_PATH). A reader requests no times: after a
- * request for them, some file systems write new ones at the next write. */
+/* Returns the state of the file under a name in a folder, or of an open file (with AT_EMPTY_PATH). A reader requests no times: after such a
+ * request, some file systems set new times at the next write. */
 struct boddurci_note boddurci_state_of(int folder, const char *name, int how, int has_times);
 
-/* Returns how the data files differ from those of a note: SAME; WRITTEN, by a program that does not know the log; or OTHERS. */
+/* Returns how the data files differ from the state in a note: SAME; WRITTEN, by a program that does not know the log; or OTHERS, for other
+ * files. */
 enum boddurci_change boddurci_change_since(const struct boddurci_log_note *note, const struct boddurci_note files[2]);
 
 /* Returns whether a note says that all records of an open redo file are applied to the data files under the names. If so, sets the place of
  * the next record. */
 int boddurci_is_applied(const struct boddurci_place *place, int redo, boddurci_log *log);
 
-/* `boddurci_put_note` writes a note, without a sync. `boddurci_clear_note` clears the note of an open redo file, and
- * `boddurci_clear_note_in` that in its bytes. Clear the note before the log is emptied, since later records may end at the same place. */
+/* `boddurci_put_note` writes a note, without a sync. `boddurci_clear_note` clears the note in an open redo file, and
+ * `boddurci_clear_note_in` clears the note in the bytes of a redo file. Clear the note before the log is emptied, since later records may
+ * end at the same place. */
 int boddurci_put_note(int redo, const struct boddurci_boot *boot, const boddurci_log *log, const struct boddurci_note files[2]);
 int boddurci_clear_note(int redo);
 void boddurci_clear_note_in(struct boddurci_bytes *redo);
@@ -577,19 +587,20 @@ int boddurci_unmarked_header(int redo, uint8_t header[BODDURCI_HEADER_USED], siz
 
 /* ---- crates/boddurci_c: the database of one page, which is proved */
 
-/* Returns the number of the page of a key, according to the bytes of .dir. They may be invalid: boddurci_open_page checks them. */
+/* Returns the number of the page of a key, according to the bytes of .dir. These bytes may be invalid: boddurci_open_page checks them. */
 uint32_t boddurci_page_of(const uint8_t *key, size_t key_length, const uint8_t *dir, size_t dir_length, uint32_t unsigned_keys);
 
 /* Replaces the database of an open handle by that of one page. The handle keeps its programs and its limit. After that, one fetch, store,
  * delete or run on this key gives the same reply as on the whole database. `page` is a whole page, and `pag_length` a multiple of its size.
- * BAD_FILES if this page is not enough: the directory or the page is invalid or not as a save leaves it, or the key leads to another page;
- * also if memory ran out. IS_CLOSED. After an error the handle is unchanged. */
+ * BAD_FILES if this page is not enough: the directory or the page is invalid, or not as a save leaves it, or the key leads to another page.
+ * BAD_FILES is also returned if memory runs out. IS_CLOSED. After an error the handle is unchanged. */
 uint32_t boddurci_open_page(boddurci *db, const uint8_t *key, size_t key_length, const uint8_t *dir, size_t dir_length, size_t pag_length,
                             uint32_t number, const uint8_t *page, size_t page_length);
 
 /* Returns the plan that saves the database of the page after the command, and the numbers of the pages that the plan may write. In the file
  * each of these pages, except `number`, must be zeros or past the end. The plan is empty if nothing changes. SHORT_ROOM. STALE if this page
- * is not enough: the last page of .pag would become empty, or .pag too long; also if memory ran out. IS_CLOSED. */
+ * is not enough: the last page of .pag would become empty, or .pag would become too long. STALE is also returned if memory runs out.
+ * IS_CLOSED. */
 uint32_t boddurci_plan_page(boddurci *db, const uint8_t *dir, size_t dir_length, size_t pag_length, uint32_t number, const uint8_t *page,
                             size_t page_length, uint32_t *numbers, size_t numbers_room, size_t *numbers_count, uint8_t *plan,
                             size_t plan_room, size_t *plan_length);
@@ -622,7 +633,7 @@ struct boddurci_program {
     int is_stock;
 };
 
-/* A shared base. Between two calls its files are open and it holds no lock. */
+/* A shared base. Between two calls its files stay open, and it holds no lock. */
 struct boddurci_shared {
     boddurci db;                   /* the database of one page during a call, meaningless between calls; and the programs */
     char *name;                    /* as the caller gave it */

@@ -37,7 +37,8 @@ static int64_t left_of(int64_t end)
     return left > 0 ? left : 0;
 }
 
-/* ---- forks. A child must not keep the locks of its parent: it would still hold them after the parent was killed. */
+/* ---- forks. A child must close the lock files that it inherits. Otherwise it would hold the locks of a call of its parent even after the
+ * parent was killed. */
 
 static boddurci_shared *all;
 static pthread_mutex_t all_mutex = PTHREAD_MUTEX_INITIALIZER;
@@ -53,8 +54,9 @@ static void give_all(void)
     pthread_mutex_unlock(&all_mutex);
 }
 
-/* Closes, in a child, the lock files of a base if another thread of the parent was in a call. That thread may just have closed a lock file,
- * and another file may have got its descriptor. So a descriptor is closed only if it is still the file that has the lock's name. */
+/* Closes the lock files of a base, in a child, if another thread of the parent was in a call. That thread may have closed a lock file
+ * before the fork, and another file may have its descriptor now. So a descriptor is closed only if its file still has the name of the
+ * lock. */
 static void leave_locks_of_call(struct boddurci_place *place)
 {
     for (enum boddurci_file lock = BODDURCI_LOCK; lock <= BODDURCI_WRITER; lock++)
@@ -63,9 +65,9 @@ static void leave_locks_of_call(struct boddurci_place *place)
     boddurci_drop_locks(place);
 }
 
-/* Closes the lock files in a child; the next call opens them again. If another thread of the parent was in a call, the child cannot use the
- * base. If that call was on the whole database, the child keeps the locks of the base that call_whole had opened, since that base is not in
- * the list `all`. */
+/* Closes the lock files in a child. The next call opens these files again. If another thread of the parent was in a call, the child cannot
+ * use the base. If that call was on the whole database, the child keeps the lock files that call_whole had opened, since the base of
+ * call_whole is not in the list `all`. */
 static void leave_locks(void)
 {
     for (boddurci_shared *shared = all; shared != NULL; shared = shared->next) {
@@ -147,7 +149,7 @@ static uint32_t open_handle(boddurci_shared *shared, boddurci_fault *fault)
     return status == BODDURCI_DONE ? status : boddurci_fail(fault, status, 0, boddurci_text(status));
 }
 
-/* Checks whether the files of a base with wide pages look small: opens them as a reader of the whole database, and closes them. */
+/* Checks whether the files of a base with wide pages look like small pages: opens the whole database as a reader, and closes it. */
 static uint32_t look_at_size(const boddurci_shared *shared, const char *name, boddurci_fault *fault)
 {
     boddurci_base *base;
@@ -174,8 +176,8 @@ static int has_marked(const boddurci_shared *shared)
     return is_marked;
 }
 
-/* Checks that the database exists. After a crash of the machine .pag may be missing although a marked log has its bytes. In that case the
- * first call makes the file. */
+/* Checks that the database exists. After a crash of the machine, .pag may be missing although a marked log has its bytes. In that case the
+ * first call makes .pag. */
 static uint32_t look_for_pages(boddurci_shared *shared, boddurci_fault *fault)
 {
     int pages;
@@ -220,7 +222,7 @@ boddurci_shared *boddurci_open_shared(const char *name, uint32_t flags, boddurci
     return NULL;
 }
 
-/* In a child that was forked during a call of another thread, the memory of the database is not freed. */
+/* In a child that was forked during a call of another thread, does not free the memory of the database. */
 void boddurci_close_shared(boddurci_shared *shared)
 {
     if (shared == NULL)
@@ -300,7 +302,7 @@ static char *whole_name(const boddurci_shared *shared)
     return name;
 }
 
-/* Submits all programs of the shared base to another database. They get the same numbers there. */
+/* Submits all programs of the shared base to a newly opened database. There the programs get the same numbers. */
 static uint32_t submit_all(const boddurci_shared *shared, boddurci *db)
 {
     uint8_t text[1];
@@ -316,7 +318,7 @@ static uint32_t submit_all(const boddurci_shared *shared, boddurci *db)
     return status;
 }
 
-/* Executes a command on the whole database and saves it. */
+/* Executes a command on the whole database, and saves the database if the command may have changed it. */
 static uint32_t answer_whole(const boddurci_shared *shared, boddurci_base *base, struct boddurci_command *command, boddurci_fault *fault)
 {
     boddurci *db = boddurci_take(base);
@@ -329,7 +331,7 @@ static uint32_t answer_whole(const boddurci_shared *shared, boddurci_base *base,
     return status == BODDURCI_DONE ? status : boddurci_fail(fault, status, 0, boddurci_text(status));
 }
 
-/* Opens the whole database for a call and closes it again. The call is still one step, since nobody else changes the database meanwhile. */
+/* Opens the whole database for a call and closes it again. The call is still one atomic step, since the open base keeps its locks. */
 static uint32_t call_whole(const boddurci_shared *shared, struct boddurci_command *command, int64_t end, boddurci_fault *fault)
 {
     boddurci_base *base;
@@ -362,8 +364,8 @@ static uint32_t change(boddurci_shared *shared, struct boddurci_command *command
     return status == BODDURCI_DONE && is_whole ? call_whole(shared, command, end, fault) : status;
 }
 
-/* Recovers the log and fetches. If this user may not recover it, or another process holds BASE.writer, fetches from the whole database and
- * applies the log in memory, for which BASE.lock is enough. */
+/* Recovers the log and fetches. If this user may not recover the log, or another process holds BASE.writer, fetches from the whole
+ * database, as a reader: a reader needs only BASE.lock, and applies the log in memory. */
 static uint32_t fetch_recovered(boddurci_shared *shared, struct boddurci_command *command, int64_t end, boddurci_fault *fault)
 {
     uint32_t status = BODDURCI_LOCKED;
@@ -383,8 +385,8 @@ struct fetching {
     int must_recover, is_whole;
 };
 
-/* Takes BASE.lock for a fetch, if the file exists, and lets a save that waits for it go first. After a signal saves no longer go first: a
- * wait that began again after each signal might never end. */
+/* Takes BASE.lock for a fetch, if the file exists. A save that waits for BASE.lock goes first. After a signal the fetch no longer lets
+ * saves go first: a wait that began again after each signal might never end. */
 static uint32_t take_after_saves(struct boddurci_place *place, int64_t end, boddurci_fault *fault)
 {
     uint32_t status = boddurci_take_shared(place, left_of(end), fault);
@@ -411,8 +413,8 @@ static int has_lock(const struct boddurci_place *place)
     return faccessat(place->folder, place->names[BODDURCI_LOCK], F_OK, 0) == 0;
 }
 
-/* Fetches. Repeats the fetch if BASE.lock was missing and exists now, since the first writer may have come meanwhile. A log that must be
- * recovered may belong to a service whose save waits for the files, so it also repeats the fetch after that save. */
+/* Fetches. Repeats the fetch if BASE.lock was missing and exists now, since the first writer may have come meanwhile. Also repeats the
+ * fetch if the log must be recovered: the log may belong to a service whose save waits for the files, and that save goes first. */
 static uint32_t fetch(boddurci_shared *shared, struct boddurci_command *command, int64_t end, boddurci_fault *fault)
 {
     struct fetching it = {shared, command, end, 0, 0};
@@ -488,7 +490,7 @@ uint32_t boddurci_shared_run(boddurci_shared *shared, uint32_t number, const uin
 
 /* ---- programs */
 
-/* Makes room for one more program, and returns a copy of its bytes, or NULL if allocation fails. */
+/* Makes room in the list of programs for one more. Returns a copy of the bytes of the new program, or NULL if allocation fails. */
 static uint8_t *copy_program(boddurci_shared *shared, const uint8_t *bytes, size_t length)
 {
     struct boddurci_program *programs = realloc(shared->programs, (shared->program_count + 1) * sizeof *programs);
@@ -499,7 +501,7 @@ static uint8_t *copy_program(boddurci_shared *shared, const uint8_t *bytes, size
     return copy;
 }
 
-/* Stores the copy of a program if the program got a new number, for calls on the whole database. Otherwise frees the copy. */
+/* Adds the copy of a program to the list, for calls on the whole database, if the program got a new number. Otherwise frees the copy. */
 static void keep_program(boddurci_shared *shared, uint32_t number, uint8_t *copy, size_t length, int is_stock)
 {
     if (number != shared->program_count) {

@@ -1,5 +1,6 @@
-/* The note that a call of a shared base leaves in the header of the log. It says that all records up to an end are applied to both data
- * files, so the next call appends to the log there, and nobody recovers it. docs/DESIGN.md has its bytes under "The log of saves". */
+/* Reads and writes the note that a call of a shared base leaves in the header of the log. The note says that all records up to a certain
+ * end are applied to both data files. So the next call appends its record at that end, and nobody recovers the log. docs/DESIGN.md defines
+ * the bytes of a note under "The log of saves". */
 #define _GNU_SOURCE
 #include "boddurci_saves.h"
 #include <errno.h>
@@ -8,7 +9,7 @@
 #include <sys/stat.h>
 #include <unistd.h>
 
-/* The header of a redo file that has a log, as words of 8 bytes, the lowest byte first. The note is the 15 words after the first two. */
+/* The header of a log, as words of 8 bytes, the lowest byte first. The note is the 15 words after the first two. */
 enum { HEADER = 4096, WORD = 8, NOTE_AT = 16, NOTE_WORDS = 15, NOTE_LENGTH = NOTE_WORDS * WORD };
 _Static_assert(BODDURCI_HEADER_USED == NOTE_AT + NOTE_LENGTH, "the mark, the signature and the note");
 enum { SIGNATURE, END, ROOM, COUNT, BOOT, STATES = BOOT + 2, CHECK = STATES + 8 };
@@ -39,7 +40,7 @@ static void put_word(uint8_t *bytes, uint64_t word)
         bytes[i] = (uint8_t)(word >> 8 * i);
 }
 
-/* Returns the FNV-1a hash of a note, which detects a note that was only partly written. */
+/* Returns the FNV-1a hash of a note, by which a partly written note is detected. */
 static uint64_t check_of(const uint8_t *bytes)
 {
     uint64_t check = 14695981039346656037u;
@@ -120,7 +121,7 @@ enum boddurci_applied boddurci_find_note(int redo, const struct boddurci_boot *b
     uint64_t end = word_at(bytes + END * WORD), room = word_at(bytes + ROOM * WORD), count = word_at(bytes + COUNT * WORD);
     if (boddurci_look_at(redo, &found) != 0 || found.st_size < HEADER || room > (uint64_t)found.st_size - HEADER || end > room || count > end)
         return BODDURCI_UNKNOWN;
-    /* A record begins with bytes that are not zero. So if these are zeros, no record follows. */
+    /* A record begins with bytes that are not zero. So if the bytes after the end are zeros, no record follows. */
     if (boddurci_read_at(redo, HEADER + end, next, sizeof next) != 0 || word_at(next) != 0)
         return BODDURCI_UNKNOWN;
     note->log.end = (size_t)end;

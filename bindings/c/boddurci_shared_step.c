@@ -1,4 +1,4 @@
-/* One call of a shared base on the page of its key. The caller holds the locks. */
+/* Makes one call of a shared base on the page of its key. The caller holds the locks. */
 #define _GNU_SOURCE
 #include "boddurci_saves.h"
 #include <errno.h>
@@ -8,7 +8,7 @@
 #include <sys/stat.h>
 #include <unistd.h>
 
-/* The page of a key, and the lengths of the files that it was read from. */
+/* The page of a key, and the lengths of the files from which the page was read. */
 struct part {
     size_t directory; /* the length of .dir; its bytes are in shared->directory */
     size_t length;    /* of .pag */
@@ -64,8 +64,8 @@ static uint32_t open_data(boddurci_shared *shared, boddurci_fault *fault)
     return status;
 }
 
-/* Reads the state of the data files under the names, and opens these files unless they are open: another program may have replaced the open
- * ones. */
+/* Reads the state of the data files under their names, and opens these files unless they are already open. Another program may have
+ * replaced the files that were open. */
 static uint32_t find_files(boddurci_shared *shared, int has_times, boddurci_fault *fault)
 {
     enum { TRIES = 3 };
@@ -81,8 +81,8 @@ static uint32_t find_files(boddurci_shared *shared, int has_times, boddurci_faul
     return status;
 }
 
-/* Checks that .pag exists, if the base requires it. Call this after the log is settled: after a crash of the machine .pag may exist only in
- * the log. */
+/* Checks that .pag exists, if the base was opened with MUST_EXIST. Call this after the log was recovered or found applied: after a crash of
+ * the machine, .pag may exist only in the log. */
 static uint32_t has_to_exist(const boddurci_shared *shared, boddurci_fault *fault)
 {
     if (shared->notes.files[BODDURCI_PAGES].is_there || !(shared->flags & BODDURCI_MUST_EXIST))
@@ -91,7 +91,7 @@ static uint32_t has_to_exist(const boddurci_shared *shared, boddurci_fault *faul
     return boddurci_fail_by_system(fault, "a file cannot be opened");
 }
 
-/* Returns an open data file, if possible the one that is open for writing. Opens the file if a call has made it since the last
+/* Returns the descriptor of a data file, if possible the one that is open for writing. Opens the file if it was made after the last
  * open_data. */
 static int file_of(boddurci_shared *shared, enum boddurci_file file)
 {
@@ -133,8 +133,8 @@ static uint32_t recover(boddurci_shared *shared, boddurci_fault *fault)
     return status == BODDURCI_DONE ? find_files(shared, 1, fault) : status;
 }
 
-/* Ensures that the data files are the database: the log has no mark, or all its records are applied. If a program that does not know the
- * log has written the data files since, they are the database, and the log is closed. */
+/* Ensures that the data files have all saves: the log has no mark, or all its records are applied. If a program that does not know the log
+ * has written the data files since the last save, the data files count, and the log is closed. */
 static uint32_t settle_log(boddurci_shared *shared, boddurci_fault *fault)
 {
     int redo;
@@ -157,7 +157,7 @@ static uint32_t settle_log(boddurci_shared *shared, boddurci_fault *fault)
 }
 
 /* Closes an open log and removes the redo file if it does not have the owner, the group and the permissions of .pag, since other users
- * would not accept it. That happens if this user may write .pag and does not own it, and so cannot give the redo file to the owner of
+ * would not accept it. That happens if this user may write .pag without being its owner, and so cannot give the redo file to the owner of
  * .pag. */
 static void remove_unlike(boddurci_shared *shared)
 {
@@ -171,8 +171,9 @@ static void remove_unlike(boddurci_shared *shared)
         (void)!(boddurci_disk_remove_redo(disk) == 0 && boddurci_disk_sync(disk, BODDURCI_REDO) == 0);
 }
 
-/* Leaves a note for the next call. Closes the log instead if another program has written during this call, since the records may not belong
- * to these files, or if the boot id is unknown, since a note holds for one boot only. If that fails, the next call recovers the files. */
+/* Leaves a note for the next call. Closes the log instead in two cases: if another program has written during this call, since the records
+ * may not belong to these files, or if the boot id is unknown, since a note holds for one boot only. If this call fails, the next one
+ * recovers the files. */
 static void leave_log(boddurci_shared *shared)
 {
     boddurci_fault unsaid;
@@ -235,7 +236,7 @@ static int is_same_file(const struct boddurci_note *one, const struct boddurci_n
 }
 
 /* Returns whether the last page of .pag belongs to the directory. If not, the directory may be lost, or belong to another database. Reads
- * that page again only if a file or its length has changed since. */
+ * that page again only if a file or its length has changed since the last check. */
 static int is_last_page_right(boddurci_shared *shared, const struct part *part)
 {
     const struct boddurci_note *files = shared->notes.files;
@@ -250,7 +251,7 @@ static int is_last_page_right(boddurci_shared *shared, const struct part *part)
     return 1;
 }
 
-/* Reads .dir. Sets *is_whole to 1 if, by the lengths of the files, one page cannot be enough. */
+/* Reads .dir. Sets *is_whole to 1 if the lengths of the files show that one page is not enough. */
 static int read_directory(boddurci_shared *shared, struct part *part, int *is_whole)
 {
     const struct boddurci_note *pages = &shared->notes.files[BODDURCI_PAGES], *directory = &shared->notes.files[BODDURCI_DIRECTORY];
@@ -314,8 +315,8 @@ static uint32_t answer(boddurci_shared *shared, struct boddurci_command *command
 
 /* ---- saving */
 
-/* The pages that a plan may write. Rarely more are needed, since a page is split at most once for each bit of the hash. A plan that needs
- * more is left to a call on the whole database. */
+/* The greatest number of pages that a plan may write. A plan rarely needs more, since a page is split at most once for each bit of the
+ * hash. If a plan needs more, the call is made on the whole database. */
 struct written {
     uint32_t numbers[80];
     size_t count;

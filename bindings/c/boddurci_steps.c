@@ -105,8 +105,8 @@ static int is_zero(const uint8_t *bytes, size_t size)
     return size == 0 || (bytes[0] == 0 && memcmp(bytes, bytes + 1, size - 1) == 0);
 }
 
-/* Returns whether a step writes a data file past its end or in a hole, which may have no blocks. In the bytes of a save, the present bytes
- * of the file follow those that the step writes. */
+/* Returns whether a step writes a data file past its end or in a hole, which may have no blocks. In the bytes of a save, the bytes that a
+ * step writes are followed by the present bytes of the file. */
 static int needs_room(const struct boddurci_steps *steps, const boddurci_step *step, const struct need *need)
 {
     if (step->kind != BODDURCI_WRITE || !is_data(step) || step->length == 0)
@@ -116,7 +116,7 @@ static int needs_room(const struct boddurci_steps *steps, const boddurci_step *s
     return is_zero(steps->bytes + step->from + step->length, (size_t)step->length);
 }
 
-/* Allocates the blocks of a range of a data file. Counts them as absent if the file system cannot do that. */
+/* Allocates the blocks of a range of a data file. If the file system cannot allocate blocks, counts these blocks as not allocated. */
 static int reserve_run(struct boddurci_disk *disk, const boddurci_step *run, struct need *need)
 {
     if (run->length == 0)
@@ -129,7 +129,7 @@ static int reserve_run(struct boddurci_disk *disk, const boddurci_step *run, str
     return status < 0 ? -1 : 0;
 }
 
-/* Allocates the blocks that the steps after the commit may need. Adjacent ranges take one call. */
+/* Allocates the blocks that the steps after the commit may need, by one call for adjacent ranges. */
 static int reserve_all(struct boddurci_disk *disk, const struct boddurci_steps *steps, struct need *need)
 {
     boddurci_step run = {BODDURCI_WRITE, 0, 0, 0, 0};
@@ -187,7 +187,7 @@ void boddurci_lengths_of(const uint8_t *bytes, int is_after, uint64_t lengths[2]
     lengths[BODDURCI_DIRECTORY] = boddurci_number_at(at + 4);
 }
 
-/* A data file that is open has the length in the plan, since the save has checked it. A closed one is opened to get its length. */
+/* An open data file has the length in the plan, since the save has checked that. A closed data file is opened to get its length. */
 int boddurci_take_room(struct boddurci_disk *disk, const struct boddurci_steps *steps)
 {
     struct need need = {{0, 0}, 0};

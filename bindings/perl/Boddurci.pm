@@ -1,5 +1,4 @@
-# Boddurci for Perl: a key-value store with a proved core, in the two files of an sdbm database, with small verified programs on its
-# records.
+# Boddurci for Perl: a key-value store in the two files of an sdbm database. Small verified programs run on its records.
 #
 #     use Boddurci;
 #     tie my %db, "Boddurci", "visits", "c" or die;
@@ -12,16 +11,16 @@
 #
 # The methods `counter`, `lease`, `fenced_lease`, `semaphore` and `rate_limit` run stock programs; the POD below the code describes them.
 #
-# Every failure dies. Keys and values are bytes. A tied database is in memory, and `sync` and `untie` write its files. After a crash during
-# one of them the files have either the old database or the new one.
+# Every failed call dies. Keys and values are bytes. A tied database is in memory, and `sync` and `untie` write its files. After a crash
+# during `sync` or `untie`, the files have either the old database or the new one.
 #
-# One process at a time has a database tied for writing ("w", "c" and "n"), and other processes wait for it. A process that only reads ("r")
-# does not wait, and reads the last save. If another program has changed the files meanwhile, as Perl's SDBM_File does without the locks,
-# `sync` and `untie` die with a Boddurci::Changed and write nothing; tied(%db)->sync(insist => 1) overwrites the files.
+# Only one process at a time can have a database tied for writing ("w", "c" and "n"); other processes wait for it. A process that only reads
+# ("r") does not wait, and reads the last save. If a program that ignores the locks, such as Perl's SDBM_File, has changed the files
+# meanwhile, `sync` and `untie` die with a Boddurci::Changed and write nothing. tied(%db)->sync(insist => 1) overwrites the files.
 #
-# If a tied hash is destroyed without `untie`, or is still tied when the program ends, it is saved then. If that fails, a warning names the
-# base and the fault; the locks are released in any case. A signal handler may die while a hash is tied: the locks are released then. In a
-# child of the process that tied the hash, every call except `untie` dies, and nothing is saved.
+# A tied hash that is destroyed without `untie`, or is still tied when the program ends, is saved then. If the save fails, a warning names
+# the base and the fault. The locks are released in any case. If a signal handler dies during `tie`, the locks are released. In a child of
+# the process that tied the hash, every call except `untie` dies, and nothing is saved.
 #
 # Options follow the mode:
 #
@@ -33,18 +32,18 @@
 #   limit => BYTES       the greatest length of BASE.pag; the default, 1 GiB, is also the maximum
 #   shared => 1          several processes change the database at the same time
 #
-# At the end of the wait `tie` dies and names the other process. A change that would make BASE.pag longer than the limit dies and is not
-# made; existing pages stay. Set a limit if strangers choose your keys: they can make BASE.pag as long as the limit.
+# After the timeout, `tie` dies and names the other process. A change that would make BASE.pag longer than the limit dies and is not made;
+# existing pages stay. Set a limit if untrusted users choose your keys, since they can make BASE.pag as long as the limit.
 #
-# With `shared` the hash holds no lock and no pages between calls. Each fetch, store and `run` is one durable step among all processes that
-# share the database, so `sync` does nothing. `keys` and `each` see the keys that the database has at that time. `delete` is two steps: a
-# fetch of the value that it returns, and the deletion. `timeout` and `no_wait` apply to each call, and neither `limit` nor the mode "n" is
-# possible. A forked child may use the hash.
+# With `shared`, the hash holds no lock and no pages between calls. Each fetch, store and `run` is one durable step among all processes that
+# share the database, so `sync` does nothing. `keys` and `each` see the keys that the database has when the iteration begins. `delete` is
+# two steps: a fetch of the value that it returns, and the deletion. `timeout` and `no_wait` apply to each call, and neither `limit` nor the
+# mode "n" is possible. A forked child may use the hash.
 #
-# The module needs FFI::Platypus (Debian: libffi-platypus-perl) and the shared object that `./dbm --build-library` makes. It loads the first
-# of these that exists: the file that BODDURCI_LIBRARY names by its absolute path, the one next to this module, the one in out/boddurci of
-# the repository, the one that the system finds. It ignores BODDURCI_LIBRARY under `perl -T`, and if the effective user or group is not the
-# real one.
+# The module needs FFI::Platypus (Debian: libffi-platypus-perl) and the shared object that `./dbm --build-library` makes. If
+# BODDURCI_LIBRARY is set, its absolute path names the file to load. Otherwise the module loads libboddurci.so next to this file, or else
+# from out/boddurci of the repository, or else the one that the system finds. The module ignores BODDURCI_LIBRARY under `perl -T`, and if
+# the effective user or group is not the real one.
 #
 # The store is proved, and so is the order of the calls that write a save (docs/PROOFS.md). This module, and the C code that opens, locks
 # and writes the files, are tested and not proved.
@@ -59,7 +58,7 @@ use FFI::Platypus::Buffer qw(scalar_to_pointer);
 use Scalar::Util qw(refaddr);
 use Time::HiRes qw(clock_gettime CLOCK_MONOTONIC);
 
-# Statuses of boddurci.h and boddurci_files.h, and this module's texts for some of them. The library has texts for all.
+# The statuses of boddurci.h and boddurci_files.h, and this module's texts for some statuses. The library has a text for each status.
 my ($DONE, $MISSING, $BAD_FILES, $REFUSED, $BAD_TEXT, $CHANGED, $IS_CLOSED, $NO_PROGRAM, $NO_STOCK) = (0, 1, 4, 5, 6, 8, 16, 20, 24);
 my ($FILE_FAILED, $LOCKED, $FORKED, $INTERRUPTED) = (32, 33, 39, 41);
 my %WORDS = (
@@ -73,7 +72,7 @@ my %WORDS = (
     39 => "the database was opened by another process",
 );
 
-# boddurci_files.h
+# The flags of boddurci_files.h.
 my %FLAGS = (r => 4 | 16, w => 16, c => 0, n => 32);
 my %OPTIONS = (wide => 1, unsigned_keys => 2, no_wait => 8, any_size => 64);
 my $INSIST = 128;
@@ -84,7 +83,7 @@ my ($VALUE_MOST, $IMAGE_MOST, $FAULT, $CURSOR) = (8008, 32768, "L l Z200", 16);
 # The name of the library for the system's loader.
 my $SONAME = "libboddurci.so.2";
 
-# Returns whether the environment may choose the library: not under -T, nor if the process has rights that its user lacks.
+# Returns whether BODDURCI_LIBRARY may choose the library. It may not do so under -T, or if the process has rights that its user lacks.
 sub _obeys_environment {
     return !${^TAINT} && $< == $> && $( + 0 == $) + 0;
 }
@@ -140,7 +139,7 @@ $ffi->attach(["boddurci_$_->[0]" => "_$_->[0]"], $_->[1], $_->[2]), $CALLS{$_->[
         ["shared_stock", ["opaque", "string", "uint32*"] => "uint32"],
     );
 
-# Makes a buffer of $size bytes. Returns a reference to its bytes, which no other scalar shares, and its address and size for a call.
+# Makes a buffer of $size bytes, which no other scalar shares. Returns a reference to its bytes, and its address and size for a call.
 sub _room {
     my ($size) = @_;
     my $room = "\0" x $size;
@@ -148,8 +147,8 @@ sub _room {
     return (\$room, scalar_to_pointer($room), $size);
 }
 
-# Returns the bytes of a key, a value, an argument or a program, and their number. Converts an object to a string only once, since the next
-# string may have another length.
+# Returns the bytes of a key, a value, an argument or a program, and their number. Converts an object to a string only once, since a second
+# conversion may give another length.
 sub _given {
     my ($given) = @_;
     my $bytes = defined $given ? "$given" : "";
@@ -174,10 +173,10 @@ sub _die_of {
     die bless { text => Carp::shortmess($text) }, "Boddurci::Changed";
 }
 
-# Opens the base once its locks are free. After a signal the handler runs, and then the wait continues.
+# Opens the base after its locks are free. After a signal, the handler runs and the wait continues.
 #
-# Perl runs signal handlers between statements. So the statement that opens the base also stores it in the object, which closes it if a
-# handler dies. For the same reason one statement takes the mutex and gives it back.
+# Perl runs signal handlers between statements. So the statement that opens the base also stores its address in the object, which closes the
+# base if a handler dies. For the same reason, one statement takes the mutex and releases it.
 sub _open {
     my ($self, $flags, $timeout) = @_;
     my ($fault, $at) = _room(208);
@@ -212,7 +211,7 @@ sub TIEHASH {
     return Boddurci::Shared->_tied($name, $flags, $timeout) if $is_shared;
     my $self = $class->_opened($name, $flags, $timeout);
     _check(_limit($self->_db, $limit)) if defined $limit;
-    # An object that is destroyed before it is returned must save nothing: with the mode n it would save an empty database.
+    # If the object is destroyed before it is returned, it must save nothing: with the mode "n" it would save an empty database.
     return ($$self->{keeps} = 1, $self)[1];
 }
 
@@ -225,7 +224,7 @@ sub _opened {
     return $self;
 }
 
-# Neither a database nor its record is copied into the interpreter of another thread.
+# A new thread gets no copy of a database or of its record.
 sub CLONE_SKIP { 1 }
 
 sub CLONE { %open = () }
@@ -271,7 +270,7 @@ sub STORE {
     _check($self->_made("store", 1, @pair, 1));
 }
 
-# Between the fetch and the deletion another process that shares the database may delete the key.
+# Between the fetch and the deletion, another process that shares the database may delete the key.
 sub DELETE {
     my ($self, $key) = @_;
     my @key = _given($key);
@@ -301,7 +300,7 @@ sub _keys {
     return @found;
 }
 
-# Returns the length of the next key in an iteration, or undef after the last.
+# Returns the length of the next key in an iteration, or undef after the last key.
 sub _turn {
     my ($self, $cursor, $key, $value) = @_;
     my $status = _next($self->_db, $cursor, @$key, \my $key_length, @$value, \my $value_length);
@@ -326,7 +325,7 @@ sub SCALAR {
     return scalar(my @keys = $self->_keys);
 }
 
-# Verifies a program from its text, and returns it, for `run` of this database only. If it is refused, dies with the offending line or unit.
+# Verifies a program, given as a text, and returns it for `run` of this database only. If it is refused, dies with the line or unit.
 sub program {
     my ($self, $text) = @_;
     $self->_db;
@@ -338,7 +337,7 @@ sub program {
     return $self->image(substr $$image, 0, $size);
 }
 
-# Like `program`, from the image of a program.
+# Like `program`, but the argument is the image of a program.
 sub image {
     my ($self, $image) = @_;
     my @image = _given($image);
@@ -349,7 +348,7 @@ sub image {
     return bless { number => $number, of => $$self->{token} }, "Boddurci::Program";
 }
 
-# Returns the stock program of this name, for `run` of this database only. If there is no such program, dies with the ten names.
+# Returns the stock program of this name for `run` of this database only. If there is no such program, dies with the ten names.
 sub stock {
     my ($self, $name) = @_;
     my ($text) = _given($name);
@@ -359,7 +358,7 @@ sub stock {
     return bless { number => $number, of => $$self->{token} }, "Boddurci::Program";
 }
 
-# The next five methods each return an object for a record, whose methods run a stock program.
+# Each of the next five methods returns an object for a record. The methods of the object run a stock program.
 sub counter { return Boddurci::Counter->new(@_) }
 
 sub lease { return Boddurci::Lease->new(@_) }
@@ -378,8 +377,8 @@ sub _number {
     return $program->{number};
 }
 
-# Runs a program on the record of a key, or on `blank` zeros if the key is missing. `arg` is its argument, and `now` its time, by default
-# that of the system. Returns the program's result and its reply word, or nothing if the key is missing and there is no `blank`.
+# Runs a program on the record of a key, or on `blank` zeros if the key is missing. `arg` is the argument, and `now` is the time of the run,
+# by default the system's time in seconds. Returns the code and the reply word, or nothing if the key is missing and there is no `blank`.
 sub run {
     my ($self, $program, $key, %more) = @_;
     my @bytes = (_given($key), _given($more{arg}));
@@ -393,8 +392,8 @@ sub run {
 }
 
 # Saves both files and makes the changes durable. If another program has changed the files, dies with a Boddurci::Changed and writes
-# nothing, unless the option `insist` is true. If a file cannot be written and only BASE.redo has the save, warns: the next opening or save
-# completes it, and until then other programs may see half of it.
+# nothing, unless the option `insist` is true. If a file cannot be written and only BASE.redo has the save, warns. Then the next `tie` or
+# save completes the save, and until then other programs may see only a part of it.
 sub sync {
     my ($self, %options) = @_;
     Boddurci::Stocked::_need_options(\%options, "insist");
@@ -407,7 +406,7 @@ sub sync {
 }
 
 # Saves both files, unless the database was tied for reading, and releases the locks. If the save fails, the database stays open. In a child
-# of the process that tied it, writes nothing, and the parent keeps the locks.
+# of the process that tied the hash, writes nothing, and the parent keeps the locks.
 sub close {
     my ($self) = @_;
     return unless $$self->{base};
@@ -415,7 +414,7 @@ sub close {
     $self->_release;
 }
 
-# Closes the base. The statement that closes it also removes it from the object, so even if a handler dies it is closed only once.
+# Closes the base. The statement that closes the base also removes it from the object, so it is closed only once, even if a handler dies.
 sub _release {
     my ($self) = @_;
     _close_files(delete $$self->{base}) if $$self->{base};
@@ -433,7 +432,7 @@ sub _shown {
     return $text;
 }
 
-# Saves and closes a database that was not closed. Changes that cannot be saved are lost, with a warning, and the locks are released.
+# Saves and closes a database that was not closed. If the save fails, warns that the changes are lost, and releases the locks.
 sub _end {
     my ($self) = @_;
     return $self->_release unless $$self->{base};
@@ -448,7 +447,8 @@ sub _end {
     carp _shown($$self->{name}), ": the changes that were not saved are lost: $why" unless $is_saved;
 }
 
-# Saves and closes the databases whose object is gone: only %open refers to their record. With a true argument, all databases.
+# Saves and closes the databases whose objects are gone, so that only %open refers to their records. With a true argument, saves and closes
+# all databases.
 sub _end_left {
     my ($has_all) = @_;
     for my $record (grep { $has_all || Internals::SvREFCNT(%$_) == 1 } values %open) {
@@ -459,7 +459,7 @@ sub _end_left {
 sub UNTIE { $_[0]->close }
 sub DESTROY { $_[0]->_end }
 
-# In an END block everything that a save needs still exists.
+# This is an END block, because everything that a save needs still exists then.
 END { _end_left(1) }
 
 # The exception of `sync` and `untie` if another program has changed the files. Its string is the text of the fault.
@@ -473,13 +473,13 @@ use Cwd qw(getcwd);
 use Time::HiRes qw(clock_gettime CLOCK_MONOTONIC);
 our @ISA = ("Boddurci");
 
-# In milliseconds. A call waits this long for a lock, and then repeats the wait, so that signal handlers run in between.
+# The milliseconds that a call waits for a lock before it repeats the wait. Signal handlers run in between.
 my $SLICE = 200;
 
 sub _tied {
     my ($class, $name, $flags, $timeout) = @_;
     my ($fault, $at) = Boddurci::_room(208);
-    # The working folder may change.
+    # An absolute path stays right if the working folder changes.
     $name = (getcwd() // ".") . "/$name" if $name =~ m{^[^/]};
     my $record = { name => $name, flags => $flags & ~4, reads => $flags & 4, timeout => $timeout, kind => "shared_", token => [] };
     my $self = bless \$record, $class;
@@ -495,7 +495,7 @@ sub _db {
     return $$self->{handle} // Boddurci::_refuse($IS_CLOSED);
 }
 
-# Makes a call on the files, and returns its status. While the files are locked, repeats it until the timeout.
+# Makes a call that uses the files, and returns its status. While the files are locked, repeats the call until the timeout.
 sub _made {
     my ($self, $call, $writes, @given) = @_;
     my ($fault, $at) = Boddurci::_room(208);
@@ -535,7 +535,7 @@ sub close {
 # Does nothing while the interpreter is destroyed: there is nothing to save, and the library may be gone.
 sub _end { $_[0]->close if ${^GLOBAL_PHASE} ne "DESTRUCT" }
 
-# A key of a database, and the stock program that runs on its record.
+# The base class of counters, leases and the like: a key of a database, and the stock program that runs on its record.
 package Boddurci::Stocked;
 use Carp qw(croak);
 
@@ -561,26 +561,25 @@ sub _whole {
     return 0 + $number;
 }
 
-# Dies if there is an option with another name.
+# Dies if an option has an unknown name.
 sub _need_options {
     my ($options, @names) = @_;
     my %is_known = map { $_ => 1 } @names;
     $is_known{$_} or croak "no option $_" for sort keys %$options;
 }
 
-# Returns the time of a run: the option `now`, or that of the system in seconds.
+# Returns the time of a run: the option `now`, or the system's time in seconds.
 sub _time {
     my (%options) = @_;
     _need_options(\%options, "now");
     return defined $options{now} ? _whole("now", $options{now}, 0) : time;
 }
 
-# Runs the program with the argument on the record. Returns its code and reply word. If both are 0, the record may be too short; it dies
-# if so.
+# Runs the program with the argument on the record. Returns its code and reply word. Dies if the record is too short (code 4).
 sub _run {
     my ($self, $arg, $now) = @_;
     my ($code, $word) = $self->{db}->run($self->{program}, $self->{key}, arg => $arg, blank => $self->_size, now => $now);
-    $self->_record if $code == 0 && $word == 0;
+    $self->_is_too_short if $code == 4;
     return ($code, $word);
 }
 
@@ -589,8 +588,12 @@ sub _record {
     my ($self) = @_;
     my $record = $self->{db}->FETCH($self->{key});
     return $record if !defined $record || length $record >= $self->_size;
-    croak "the record of ", Boddurci::_shown($self->{key}), " has ", length $record, " bytes: ", $self->_name, " takes ", $self->_size,
-        " or more";
+    return $self->_is_too_short;
+}
+
+sub _is_too_short {
+    my ($self) = @_;
+    croak "the record of ", Boddurci::_shown($self->{key}), " is too short: ", $self->_name, " takes ", $self->_size, " bytes or more";
 }
 
 package Boddurci::Counter;
@@ -638,7 +641,7 @@ sub new {
     return $class->_of($db, $key);
 }
 
-# Runs the program for an owner and a term in seconds. Returns the time, the term, the code and the reply word.
+# Runs the program for an owner and a term in seconds. Returns the time of the run, the term, the code and the reply word.
 sub _ask {
     my ($self, $owner, $seconds, %options) = @_;
     my $now = Boddurci::Stocked::_time(%options);
@@ -746,12 +749,13 @@ Boddurci - a key-value store with a proved core, and stock programs on its recor
 
 =head1 DESCRIPTION
 
-The head of this file describes how to tie a hash, the options, and how to run your own programs.
+The comment at the top of this file describes how to tie a hash, the options, and how to run your own programs.
 
-The methods below run stock programs. Their laws are proved, for a key that only one of them changes. docs/PROGRAMS.md of Boddurci has the
-record, argument, codes and reply word of each. Numbers are whole and below 2^64, except amounts, which are from -2^63 to 2^63 - 1.
+The methods below run stock programs, whose laws are proved for keys that no other program and no store changes. docs/PROGRAMS.md of
+Boddurci has the record, argument, codes and reply word of each program. Numbers are whole and below 2^64, except amounts, which are from
+-2^63 to 2^63 - 1.
 
-Every failure dies and changes nothing, for example if a number is out of range, or if a record is too short for the program.
+If a call fails, it dies and changes nothing, for example if a number is out of range, or if a record is too short for the program.
 
 =head1 METHODS
 
@@ -767,19 +771,19 @@ C<lease>, C<fenced_lease>, C<rate_limit>, C<semaphore> or C<token_bucket>. Dies 
 A number in the first 8 bytes of the record, the lowest byte first. It is 0 if the key is missing. By default the floor is 0 and the ceiling
 2^64 - 1. The program is C<bounded_counter>.
 
-C<< ->add($amount) >> adds an amount, by default 1, which may be negative, and returns the new number. If that would be below the floor or
-above the ceiling, it dies and changes nothing. C<< ->get >> returns the number.
+C<< ->add($amount) >> adds an amount, by default 1, which may be negative, and returns the new number. If the sum would be below the floor
+or above the ceiling, it dies and changes nothing. C<< ->get >> returns the number.
 
 =item $db->lease($key)
 
 A lease, which one owner at a time holds. An owner is a number that nobody else has, such as a random one.
 
 C<< ->acquire($owner, $seconds) >> gives the lease to the owner, or renews it, for C<$seconds> from now. It returns the time at which the
-lease ends, or undef if another owner holds it. When the lease ends, another owner may get it: stop before that time.
-C<< ->release($owner) >> releases it, and returns whether the owner held it.
+lease ends, or undef if another owner holds it. When the lease ends, another owner may get it: stop before that time. C<< ->release($owner)
+>> releases the lease, and returns whether the owner held it.
 
-Two owners never hold a lease at one time if times never fall. Both methods take C<< now => $time >> instead of the system's time in
-seconds: pass it in no call, or in all of them from one clock.
+Two owners never hold a lease at the same time if times never fall. Both methods take the option C<< now => $time >>, by default the
+system's time in seconds. Pass it in no call, or in every call from one clock.
 
 =item $db->fenced_lease($key)
 
@@ -789,13 +793,13 @@ resource that the lease protects refuse a token below the greatest that it has s
 
 =item $db->semaphore($key, $size)
 
-C<< ->acquire >> takes a permit, and returns whether one was free. It does not wait. C<< ->release >> releases a permit, and returns whether
-anybody held one. A permit does not expire.
+C<< ->acquire >> takes a permit without waiting, and returns whether a permit was free. C<< ->release >> releases a permit, and returns
+whether anybody held a permit. A permit does not expire.
 
 =item $db->rate_limit($key, $count, $seconds)
 
 C<< ->admit >> returns whether a call is admitted: at most C<$count> calls in each window of C<$seconds>. The first call after the end of a
-window begins the next window. It takes C<< now => $time >> like a lease.
+window begins the next window. C<admit> takes the option C<< now => $time >>, like the methods of a lease.
 
 =back
 

@@ -410,7 +410,7 @@ for my $mode ("w", "n") {
         my ($length, $call) = @$_;
         for my $short (0, 1, $length - 1) {
             $stock{it} = "\1" x $short;
-            dies_with($call, qr/^the record of it has $short bytes: [a-z_]+ takes $length or more at \Q$0\E line/);
+            dies_with($call, qr/^the record of it is too short: [a-z_]+ takes $length bytes or more at \Q$0\E line/);
             is($stock{it}, "\1" x $short);
         }
         $stock{it} = pack("Q<3", 1, 0, 0) . "tail";

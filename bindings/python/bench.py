@@ -1,5 +1,5 @@
-"""Measures calls from Python: N stores, fetches and increments of 16-byte keys and 8-byte values, by boddurci with ctypes and with its
-extension, by the modules of dbm in this Python, and by sqlite3. BODDURCI_LIBRARY names the shared object.
+"""Measures calls from Python: N stores, N fetches and N increments of 16-byte keys and 8-byte values. It measures boddurci with ctypes and
+with the extension, the submodules of dbm in this Python, and sqlite3. BODDURCI_LIBRARY names the shared object.
 
 usage: bench.py N [ROUNDS]     prints the nanoseconds of processor time of each call, the minimum of all rounds
 
@@ -19,7 +19,7 @@ TOP = pathlib.Path(__file__).resolve().parent.parent.parent
 
 
 def module(name):
-    """Returns a module, or None if this Python lacks it."""
+    """Returns a module, or None if this Python does not have it."""
     try:
         return importlib.import_module(name)
     except ImportError:
@@ -27,7 +27,7 @@ def module(name):
 
 
 def ours():
-    """Returns boddurci by ctypes only, and by its extension if that is built."""
+    """Returns boddurci with ctypes only, and boddurci with the extension if it is built."""
     sys.modules["_boddurci"] = None
     by_ctypes = importlib.import_module("boddurci")
     del sys.modules["_boddurci"], sys.modules["boddurci"]
@@ -40,7 +40,7 @@ OTHERS = {"dbm.gnu": (module("dbm.gnu"), "nf"), "dbm.ndbm": (module("dbm.ndbm"),
 
 
 class Plain:
-    """A mapping. An increment is a fetch, an addition and a store."""
+    """A store that is a mapping. An increment is a fetch, an addition and a store."""
 
     def __init__(self, db):
         self.db = db
@@ -50,7 +50,7 @@ class Plain:
 
 
 class Counting(Plain):
-    """boddurci. An increment is a run."""
+    """A database of boddurci. An increment is a run of a program."""
 
     def __init__(self, db):
         super().__init__(db)

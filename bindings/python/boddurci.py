@@ -1,5 +1,4 @@
-"""Boddurci for Python: a key-value store with a verified core and tested bindings, in the two files of an sdbm database, with small
-verified programs on its records.
+"""Boddurci for Python: a key-value store in the two files of an sdbm database. Small verified programs run on its records.
 
     import boddurci
     with boddurci.open("visits", "c") as db:
@@ -9,32 +8,32 @@ verified programs on its records.
         histogram = db.program(open("examples/histogram.s").read())
         db.run(histogram, b"sizes", arg=b"\\3", blank=64)
 
-The methods `counter`, `lease`, `fenced_lease`, `semaphore` and `rate_limit` of a database run stock programs. Their laws are proved
-(docs/PROGRAMS.md), for a key that only one of them changes.
+The methods `counter`, `lease`, `fenced_lease`, `semaphore` and `rate_limit` of a database run stock programs. Each of these programs has a
+proved law (docs/PROGRAMS.md), for keys that no other program and no store changes.
 
 `open` can replace `dbm.open`: keys and values are bytes, and a str is encoded as UTF-8. An open database is in memory. `sync` and `close`
-write its files. After a crash during one of them the files have either the old database or the new one.
+write its files. After a crash during `sync` or `close`, the files have either the old database or the new one.
 
-One process at a time has a database open for writing. `open` waits for that process, 5 seconds by default, and then raises Locked. `open`
-for reading does not wait, and reads the last save. If a program that ignores the locks, such as Perl's SDBM_File, has changed the files
-meanwhile, `sync` and `close` raise ChangedError and write nothing. Several processes can change one database with `open(.., shared=True)`:
-each call is then one durable step, and forked children may use the object.
+Only one process at a time can have a database open for writing. Another `open` waits for that process, 5 seconds by default, and then
+raises Locked. An `open` for reading does not wait, and reads the last save. If a program that ignores the locks, such as Perl's SDBM_File,
+has changed the files meanwhile, `sync` and `close` raise ChangedError and write nothing. With `open(.., shared=True)`, several processes
+can change one database. Each call is then one durable step, and forked children may use the object.
 
-A `with` block saves and closes its database at its end. After an exception it closes without a save: it drops the changes since the last
-`sync`, and leaves the files unchanged. A database that is not closed is saved and closed when its object is destroyed, or at the latest
-when the interpreter exits. If that fails, a RuntimeWarning names the database.
+At its end, a `with` block saves and closes its database. After an exception it closes the database without a save: the changes since the
+last `sync` are dropped, and the files are unchanged. A database that is not closed is saved and closed when its object is destroyed, or at
+the latest when the interpreter exits. If that fails, a RuntimeWarning names the database.
 
 Threads may share a database. A signal handler that interrupts a call may not use the database, but may raise. In a child of the process
 that opened the database, every call except `close` raises an error, and nothing is saved.
 
-The module needs the shared object that `./dbm --build-library` makes. It loads the first of these that exists: the file that
-BODDURCI_LIBRARY names by its absolute path, libboddurci.so next to this file, the one in out/boddurci of the repository, the one that the
-system finds. It ignores BODDURCI_LIBRARY in `python -I` and `python -E`, and if the effective user or group is not the real one. It calls
-the library by ctypes. If the extension `_boddurci` is built (`pip install bindings/python`), fetch, store, delete and run use the
+The module needs the shared object that `./dbm --build-library` makes. If BODDURCI_LIBRARY is set, its absolute path names the file to load.
+Otherwise the module loads libboddurci.so next to this file, or else from out/boddurci of the repository, or else the one that the system
+finds. The module ignores BODDURCI_LIBRARY in `python -I` and `python -E`, and if the effective user or group is not the real one. It calls
+the library with ctypes. If the extension `_boddurci` is built (`pip install bindings/python`), fetch, store, delete and run use the
 extension, which is several times as fast and has the same results.
 
-Verified core, tested bindings: the store is proved, and so is the order of the calls that write a save (docs/PROOFS.md). This module, and
-the C code that opens, locks and writes the files, are tested and not proved.
+The store is proved, and so is the order of the calls that write a save (docs/PROOFS.md). This module, and the C code that opens, locks and
+writes the files, are tested and not proved.
 """
 
 import atexit
@@ -56,7 +55,7 @@ from typing import NamedTuple
 __all__ = ["ChangedError", "Counter", "Database", "FencedLease", "Grant", "Lease", "Locked", "Program", "ProgramError", "Ran", "RateLimit"]
 __all__ += ["RecordError", "Semaphore", "SharedDatabase", "error", "open"]
 
-# Statuses of boddurci.h and boddurci_files.h, and this module's texts for some of them. The library has texts for all.
+# The statuses of boddurci.h and boddurci_files.h, and this module's texts for some statuses. The library has a text for each status.
 _DONE, _MISSING, _REFUSED, _BAD_TEXT, _CHANGED, _IS_CLOSED, _NO_STOCK, _LOCKED, _FORKED, _INTERRUPTED = 0, 1, 5, 6, 8, 16, 24, 33, 39, 41
 _EXISTS, _SHORT_ROOM, _BAD_FILES, _FILE_FAILED = 2, 4, 7, 32
 _WORDS = {
@@ -70,14 +69,14 @@ _WORDS = {
     39: "the database was opened by another process",
 }
 
-# boddurci_files.h
+# The flags of boddurci_files.h.
 _WIDE, _UNSIGNED_KEYS, _READ_ONLY, _NO_WAIT, _MUST_EXIST, _EMPTY, _ANY_SIZE, _INSIST = 1, 2, 4, 8, 16, 32, 64, 128
 
 _VALUE_MOST = 8008
 _IMAGE_MOST = 32768
 _TIME_MOST, _SIZE_MOST = 2**64 - 1, ctypes.c_size_t(-1).value
 
-# In milliseconds. A call of a shared database waits this long for a lock, and then repeats the wait.
+# The milliseconds that a call of a shared database waits for a lock before it repeats the wait.
 _SLICE = 200
 
 # The number of pairs that an iteration reads at a time.
@@ -85,14 +84,14 @@ _AT_A_TIME = 1000
 
 
 class error(OSError):
-    """A call that the store refused, or a system error on its files, which has errno and the name of the file."""
+    """The exception of a refused call, or of a system error on a file, which has errno and the name of the file."""
 
     def __str__(self):
         return super().__str__() if self.errno is not None else "".join(map(str, self.args[:1]))
 
 
 class ProgramError(error, ValueError):
-    """A refused program. `at` is the offending line of its text or unit of its image, or None."""
+    """The exception of a refused program. `at` is the line of its text or the unit of its image that has the fault, or None."""
 
     def __init__(self, text, at):
         super().__init__(text)
@@ -110,7 +109,7 @@ class ChangedError(error):
 
 
 class RecordError(error, ValueError):
-    """A record that is too short for a stock program. Nothing has changed."""
+    """The exception of a record that is too short for a stock program. The record is unchanged."""
 
 
 class Ran(NamedTuple):
@@ -122,7 +121,7 @@ class Ran(NamedTuple):
 
 
 class Program:
-    """A program that a database has accepted, and its number. Only the database object that accepted it runs it."""
+    """A program that a database has accepted, and its number. Only the database object that accepted the program can run it."""
 
     __slots__ = ("number", "_of")
 
@@ -159,8 +158,8 @@ _SONAME = "libboddurci.so.2"
 
 
 def _obeys_environment():
-    """Returns whether the environment may choose the library: not in `python -I` and `-E`, nor if the process has rights that its user
-    lacks."""
+    """Returns whether BODDURCI_LIBRARY may choose the library. It may not do so in `python -I` and `-E`, or if the process has rights
+    that its user lacks."""
     is_own = os.geteuid() == os.getuid() and os.getegid() == os.getgid()
     return is_own and not sys.flags.isolated and not sys.flags.ignore_environment
 
@@ -235,7 +234,7 @@ def _error(status):
 
 
 def _bytes(value):
-    """Returns the bytes of a key, a value or an argument. Copies a subclass, which may override its bytes and length."""
+    """Returns the bytes of a key, a value or an argument. Copies an object of a subclass, since it may override its bytes and length."""
     if type(value) is bytes:
         return value
     if isinstance(value, str):
@@ -273,7 +272,7 @@ def _image_of(source):
 
 
 class _Taken:
-    """The mutex of a base, as a context. A save takes the mutex too. A thread that waits for it releases the interpreter lock."""
+    """The mutex of a base, as a context. A save takes the mutex too. A thread that waits for the mutex releases the interpreter lock."""
 
     def __init__(self, base):
         self._base = base
@@ -286,11 +285,11 @@ class _Taken:
 
 
 # Signal handlers run between steps of the interpreter, and may raise. So an action that must not be interrupted, such as opening a base and
-# storing it, is one step: `map` makes the call, and the function that reads the `map` stores the result in the same step.
+# storing its address, is one step: `map` makes the call, and the function that reads the `map` stores the result.
 
 
 def _open_base(held, name, flags, timeout):
-    """Opens a base once its locks are free, and adds it to the list `held`. After a signal the handler runs, and then the wait
+    """Opens a base after its locks are free, and adds its address to the list `held`. After a signal, the handler runs and the wait
     continues."""
     fault, end = _Fault(), None if timeout is None else time.monotonic() + timeout
     while True:
@@ -303,11 +302,12 @@ def _open_base(held, name, flags, timeout):
 
 
 class _Database(MutableMapping):
-    """All calls of a database. If the extension is loaded, it makes the plain calls, and these methods make the rest."""
+    """All calls of a database. If the extension is loaded, it makes the plain calls, and these methods make only the other calls."""
 
-    # The address of the base for calls, or None once it is closed; and a list that contains it until it is closed, in a child too.
+    # `_base` is the address of the base, or None if it is closed or left to the parent. `_held` is a list with the address until the base
+    # is closed.
     _base, _held, _process = None, (), None
-    # True if `close` saves the base, once the base is opened completely.
+    # Whether `close` saves the base. It does so only if the base was opened completely.
     _keeps = False
 
     def __init__(self, name, flags, timeout=None, limit=None):
@@ -325,11 +325,11 @@ class _Database(MutableMapping):
         self._base = self._held[0]
         # The number of changes. Iterators compare it to notice a change.
         self._changes = 0
-        # Threads exclude each other by a lock of this object, and during a save by the mutex of the base too.
+        # A lock of this object excludes other threads. During a save, the mutex of the base excludes them too.
         self._taken, self._token, self._stocks = _Taken(self._base), object(), {}
         self._set_locks()
         _databases[id(self)] = self
-        # The handle is always the same, so it is taken once and given back.
+        # Every `take` returns the same handle, so the object keeps the handle of the first.
         self._db = _call.take(self._base)
         _call.give(self._base)
         self._reads = bool(flags & _READ_ONLY)
@@ -338,7 +338,7 @@ class _Database(MutableMapping):
         self._end, self._word = ctypes.c_uint64(), ctypes.c_uint64()
         names = ("_cursor", "_length", "_other", "_place", "_end", "_word")
         self._at = {name: ctypes.addressof(getattr(self, name)) for name in names}
-        # The arguments of a fetch that follow its key.
+        # The arguments of a fetch after its key.
         self._value = (self._room.at, _VALUE_MOST, self._at["_length"])
 
     def _set_locks(self):
@@ -346,7 +346,8 @@ class _Database(MutableMapping):
         self._beside = self._alone
 
     def _leave_to_parent(self):
-        """Marks the base as closed, in a child. `_release` then frees its memory, unless a thread of the parent was in a call."""
+        """In a child, marks the base as closed. `_release` then frees its memory, unless a thread of the parent was in a call during the
+        fork."""
         if not self._alone.acquire(blocking=False):
             self._held = []
         self._base = self._db = None
@@ -408,8 +409,8 @@ class _Database(MutableMapping):
             return self._length.value
 
     def _walk(self, keeps):
-        """Yields `keeps()` for each pair. Reads _AT_A_TIME pairs at a time, so it needs no list of all. Raises if the database changes in
-        between."""
+        """Yields `keeps()` for each pair. Reads _AT_A_TIME pairs at a time, so it needs no list of all pairs. Raises RuntimeError if the
+        database changes in between."""
         cursor, changes = _Cursor(), None
         where, room = ctypes.addressof(cursor), (self._key.at, _VALUE_MOST, self._at["_other"], *self._value)
         while changes is None or found:
@@ -432,7 +433,7 @@ class _Database(MutableMapping):
         return self._room.taken(self._length.value)
 
     def _all(self, keeps):
-        """Returns a list of `keeps()` for all pairs, as of one time."""
+        """Returns a list of `keeps()` for all pairs. No change happens while it reads."""
         with self._lock:
             return list(self._walk(keeps))
 
@@ -466,8 +467,8 @@ class _Database(MutableMapping):
                 del self[key]
 
     def program(self, source):
-        """Verifies a program, from its text (a str) or its image (bytes), and returns it. ProgramError says why it is refused and at which
-        place."""
+        """Verifies a program, given as a text (str) or an image (bytes), and returns it. If it is refused, raises ProgramError, which names
+        the verdict and the line or unit."""
         with self._lock, self._beside:
             self._need_open()
             image = _image_of(source)
@@ -554,7 +555,7 @@ class _Database(MutableMapping):
     def sync(self, *, insist=False):
         """Saves both files and makes the changes durable. Other threads may use the database meanwhile. If another program has changed the
         files, raises ChangedError and writes nothing, unless `insist` is true. If a file cannot be written and only FILE.redo has the save,
-        warns: the next opening or save completes it, and until then other programs may see half of it."""
+        warns. Then the next `open` or save completes the save, and until then other programs may see only a part of it."""
         fault = _Fault()
         with self._saving:
             with self._lock:
@@ -595,13 +596,13 @@ class _Database(MutableMapping):
             self._release()
 
     def _release(self):
-        """Closes the base without a save. The step that removes it from the list also closes it, so it is closed only once."""
+        """Closes the base without a save. The step that removes the base from the list also closes the base, so it is closed only once."""
         self._base = self._db = None
         if self._held:
             deque(map(_call.close_files, map(self._held.pop, (0,))), maxlen=0)
 
     def _finish(self):
-        """Closes a database that was not closed. Changes that cannot be saved are lost, with a warning, and the locks are released."""
+        """Saves and closes a database that was not closed. If the save fails, warns that the changes are lost, and releases the locks."""
         try:
             self.close()
         except RuntimeWarning:
@@ -616,8 +617,8 @@ class _Database(MutableMapping):
         return self
 
     def __exit__(self, kind, *_):
-        """Saves and closes the database. After an exception, including KeyboardInterrupt and SystemExit, closes it without a save: the
-        changes since the last `sync` are dropped, since they may be only half of those that the block was to make."""
+        """Saves and closes the database. After an exception, including KeyboardInterrupt and SystemExit, closes it without a save. This
+        drops the changes since the last `sync`, since the block may have made only some of its changes."""
         self._close(saves=kind is None)
 
     def __del__(self):
@@ -662,7 +663,7 @@ class SharedDatabase(MutableMapping):
 
     def __init__(self, name, flags, timeout, reads):
         self._held, self._name, self._flags, self._timeout, self._reads = [], name, flags, timeout, reads
-        # The classes of the stock programs take a lock. Here it does nothing, since each call is a step by itself.
+        # The classes of the stock programs take a lock. This one does nothing, since each call is a step by itself.
         self._lock = contextlib.nullcontext()
         self._token, self._stocks = object(), {}
         self._set_guard()
@@ -671,7 +672,7 @@ class SharedDatabase(MutableMapping):
         if not self._held:
             raise _of_fault(fault, name)
         self._handle = self._held[0]
-        # A call that waits returns now and then, so that signal handlers run.
+        # A waiting call returns after at most _SLICE milliseconds, so that signal handlers run.
         _call.shared_wait(self._handle, 0 if flags & _NO_WAIT else _SLICE if timeout is None else int(min(_SLICE, timeout * 1000)))
         _shared[id(self)] = self
 
@@ -680,7 +681,7 @@ class SharedDatabase(MutableMapping):
         self._guard, self._calls = threading.Condition(), 0
 
     def _made(self, call, *words):
-        """Makes a call that touches the files, and returns its status. While the files are locked, repeats it until the timeout."""
+        """Makes a call that touches the files, and returns its status. While the files are locked, repeats the call until the timeout."""
         fault, end = _Fault(), None if self._timeout is None else time.monotonic() + self._timeout
         with self._using() as handle:
             while True:
@@ -846,7 +847,7 @@ class SharedDatabase(MutableMapping):
     sync = flush
 
     def close(self):
-        """Closes the database, once the calls of other threads have returned."""
+        """Closes the database after the calls of other threads have returned."""
         with self._guard:
             self._handle = None
             while self._calls:
@@ -882,21 +883,21 @@ def _whole(name, value, least=0, most=_TIME_MOST):
 
 
 def _given(now):
-    """Checks the time of a run that the caller passes. None is the system's time, in seconds."""
+    """Returns the time that a caller passed for a run, after a check. None means the system's time, in seconds."""
     return None if now is None else _whole("now", now)
 
 
 def _time(now):
-    """Replaces None by the system's time. Call it under the lock of the database, so that no run has an earlier time than the run before,
-    unless the system's time falls."""
+    """Returns the time of a run: the system's time if `now` is None. Call it under the lock of the database: then the times of runs fall
+    only if the system's time falls."""
     return int(time.time()) if now is None else now
 
 
 class _Stocked:
     """A key of a database, and the stock program that runs on its record."""
 
-    # The name of the program, and the number of bytes of a record that it uses.
-    _name, _size = "", 8
+    # The name of the program, the number of bytes of a record that it uses, and its code if the record is shorter.
+    _name, _size, _too_short = "", 8, 4
 
     def __init__(self, db, key):
         self._db, self._key, self._program = db, _bytes(key), db.stock(self._name)
@@ -905,29 +906,30 @@ class _Stocked:
         return f"{type(self).__name__}({self._key!r})"
 
     def _run(self, now, *numbers):
-        """Runs the program with these numbers as its argument. If code and reply word are 0, the record may be too short; if so, raises
-        RecordError."""
+        """Runs the program with these numbers as its argument. Raises RecordError if the record is too short."""
         arg = struct.pack(f"<{len(numbers)}Q", *numbers)
-        with self._db._lock:
-            ran = self._db.run(self._program, self._key, arg, self._size, now)
-            if ran == (0, 0):
-                self._record()
+        ran = self._db.run(self._program, self._key, arg, self._size, now)
+        if ran.end == self._too_short:
+            raise self._record_error()
         return ran
 
     def _record(self):
         """Returns the record, or None if the key is missing."""
         record = self._db.get(self._key)
         if record is not None and len(record) < self._size:
-            raise RecordError(f"the record of {self._key!r} has {len(record)} bytes: {self._name} takes {self._size} or more")
+            raise self._record_error()
         return record
+
+    def _record_error(self):
+        return RecordError(f"the record of {self._key!r} is too short: {self._name} takes {self._size} bytes or more")
 
 
 class Counter(_Stocked):
     """A number from `floor` to `ceiling`, in the first 8 bytes of a record, the lowest byte first. It is 0 if the key is missing.
     `db.counter(key)` returns it. It runs the stock program bounded_counter.
 
-    Proved: each run adds its amount or changes nothing, and a number within the bounds stays within them, if every run has the same bounds
-    and nothing else changes the key."""
+    Proved: each run adds its amount or changes nothing. A number within the bounds stays within the bounds, if every run has the same
+    bounds and nothing else changes the key."""
 
     _name = "bounded_counter"
 
@@ -937,8 +939,8 @@ class Counter(_Stocked):
         self._floor = _whole("floor", floor, most=self._ceiling)
 
     def add(self, amount=1):
-        """Adds an amount, which may be negative, and returns the new number. If that would be below the floor or above the ceiling, raises
-        OverflowError and changes nothing."""
+        """Adds an amount, which may be negative, and returns the new number. If the sum would be below the floor or above the ceiling,
+        raises OverflowError and changes nothing."""
         amount = _whole("amount", amount, -(2**63), 2**63 - 1)
         end, number = self._run(None, amount % 2**64, self._floor, self._ceiling)
         if end != 1:
@@ -955,14 +957,14 @@ class Lease(_Stocked):
     """A lease, which one owner at a time holds until it ends. `db.lease(key)` returns it. It runs the stock program lease. An owner is a
     number below 2^64 that nobody else has, such as a random one.
 
-    Proved: two owners never hold a lease at one time, if nothing else changes the key and the times of its runs never fall. So pass `now`
-    in no call, or in all of them from one clock. When a lease ends, another owner may get it: stop before that time."""
+    Proved: two owners never hold a lease at the same time, if nothing else changes the key and the times of its runs never fall. So pass
+    `now` in no call, or in every call from one clock. When a lease ends, another owner may get it: stop before that time."""
 
     _name, _size = "lease", 16
 
     def acquire(self, owner, seconds, now=None):
         """Gives the lease to the owner, or renews it, for `seconds` from now. Returns the time at which it ends, or None if another owner
-        holds it. A renewal may shorten it."""
+        holds it. A renewal may shorten the lease."""
         ran = self._run(_given(now), _whole("owner", owner), _whole("seconds", seconds, least=1))
         return ran.word if ran.end == 1 else None
 
@@ -981,9 +983,10 @@ class Lease(_Stocked):
 class FencedLease(Lease):
     """A lease with a token. `db.fenced_lease(key)` returns it. It runs the stock program fenced_lease. Each new owner gets a greater token
     than all owners before, and a renewal keeps the token. Send the token with each request to the resource, and let the resource refuse a
-    token below the greatest that it has seen. Then it refuses an owner that does not know that its lease has ended.
+    token below the greatest that it has seen. After a request of a later owner, the resource then refuses an earlier owner that has not
+    noticed the end of its lease.
 
-    Proved: tokens rise, even if times fall, if nothing else changes the key."""
+    Proved: if nothing else changes the key, tokens rise, even if times fall."""
 
     _name, _size = "fenced_lease", 24
 
@@ -1001,7 +1004,7 @@ class FencedLease(Lease):
 
 class Semaphore(_Stocked):
     """A semaphore with `size` permits. `db.semaphore(key, size)` returns it. It runs the stock program semaphore. A permit does not expire:
-    if its holder dies, it is lost until somebody releases it.
+    if its holder dies, the permit is lost until somebody releases it.
 
     Proved: there are never more holders than permits, if every run has this size and nothing else changes the key."""
 
@@ -1038,18 +1041,18 @@ class RateLimit(_Stocked):
         return self._run(_given(now), self._seconds, self._count).end == 1
 
 
-# The open databases, and the shared ones.
+# The open databases. The shared ones are in `_shared`, and all others in `_databases`.
 _databases = weakref.WeakValueDictionary()
 _shared = weakref.WeakValueDictionary()
 
 
 def _all_databases(databases=_databases):
-    """Returns a list of the open databases. Makes it in one step, since another thread may open a database meanwhile."""
+    """Returns a list of the open databases. Makes the list in one step, since another thread may open a database meanwhile."""
     return [it for it in (ref() for ref in databases.valuerefs()) if it is not None]
 
 
 def _leave_all():
-    """Leaves all databases to the parent, in a child."""
+    """In a child, leaves all databases to the parent."""
     for database in _all_databases():
         database._leave_to_parent()
         database._release()
@@ -1059,7 +1062,7 @@ def _leave_all():
 
 def _finish_all():
     """Closes the databases that are still open when the interpreter exits. Their objects may never be destroyed, for example if a daemon
-    thread has them."""
+    thread refers to them."""
     with contextlib.ExitStack() as stack:
         for database in _all_databases():
             stack.callback(database._finish)
@@ -1081,15 +1084,15 @@ def _of_fault(fault, name):
 
 def open(file, flag="r", mode=0o666, *, wide=False, unsigned_keys=False, any_size=False, wait=True, timeout=5, limit=None, shared=False):
     """Opens FILE.dir and FILE.pag, as dbm.open does. The flag 'r' only reads, 'w' also writes, 'c' makes missing files, and 'n' starts with
-    an empty database. Set `wide` if pages have 8,192 bytes, and `unsigned_keys` if keys are hashed as unsigned bytes: the files do not
-    say. With `wide`, files that look like those of small pages are an error, unless `any_size` is true.
+    an empty database. Set `wide` if pages have 8,192 bytes, and `unsigned_keys` if keys are hashed as unsigned bytes. The files do not
+    record these two properties. With `wide`, files that look like those of small pages are an error, unless `any_size` is true.
 
-    One process at a time has a database open for writing. `open` waits for that process at most `timeout` seconds, or without a limit if
-    `timeout` is None, and then raises Locked. If `wait` is false, it tries once. With 'r' it waits only for the end of a save, at most as
-    long, and reads the last save.
+    Only one process at a time can have a database open for writing. Another `open` waits for that process at most `timeout` seconds, and
+    then raises Locked. If `timeout` is None, it waits without a limit; if `wait` is false, it does not wait. An `open` with 'r' reads the
+    last save, and waits only for the end of a save that another process is making, at most `timeout` seconds.
 
     A change that would make FILE.pag longer than `limit` bytes is not made and raises an error; existing pages stay. The default, 1 GiB, is
-    also the maximum. Set a limit if strangers choose your keys: they can make FILE.pag as long as the limit.
+    also the maximum. Set a limit if untrusted users choose your keys, since they can make FILE.pag as long as the limit.
 
     With `shared`, several processes may have the database open for writing: see SharedDatabase. `timeout` and `wait` then apply to each
     call, and neither `limit` nor 'n' is possible."""
@@ -1120,7 +1123,7 @@ def open(file, flag="r", mode=0o666, *, wide=False, unsigned_keys=False, any_siz
 def _open_shared(name, flag, flags, timeout, limit, mode):
     if flag == "n" or limit is not None:
         raise ValueError("a shared database is opened with 'r', 'w' or 'c', and without a limit")
-    # The working folder may change.
+    # An absolute path stays right if the working folder changes.
     name = os.path.join(os.getcwdb(), name)
     if flag == "c" and not os.path.lexists(name + b".redo"):
         _make_empty(name, mode)
@@ -1140,6 +1143,7 @@ def _make_empty(name, mode):
 
 
 def _make_files(db, name, mode, always):
-    """Makes the files of a new database, with the requested permissions. If only .dir is missing, a save makes it like .pag."""
+    """Makes the files of a new database, with the requested permissions. If only .dir is missing, a save makes .dir with the permissions of
+    .pag."""
     if _make_empty(name, mode) or always:
         db.sync()

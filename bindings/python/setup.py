@@ -1,5 +1,5 @@
-"""Builds the extension of boddurci.py; pyproject.toml has the rest. If the extension cannot be compiled, it is left out, and the module
-uses ctypes. If the header or the package wheel is missing, the build ends with a message."""
+"""Builds the extension of boddurci.py; pyproject.toml has the other settings. If the extension cannot be compiled, it is left out, and the
+module uses ctypes. If the header is missing, or the package `wheel` is needed and missing, the build ends with a message."""
 
 import importlib.util
 import pathlib
@@ -14,7 +14,7 @@ EXTENSION = Extension(
 
 
 def makes_wheels():
-    """Returns whether setuptools can make a wheel: by itself from version 70.1 on, and by the package wheel before."""
+    """Returns whether setuptools can make a wheel. Versions before 70.1 need the package `wheel` for this."""
     return any(importlib.util.find_spec(name) for name in ("wheel", "setuptools.command.bdist_wheel"))
 
 

@@ -1,6 +1,7 @@
-"""Tests of boddurci.py: a mapping in files, programs, stock programs, threads, the cases of CPython's own tests of dbm modules, and random
-calls that are compared with a dict. BODDURCI_LIBRARY names the shared object. BODDURCI_CALLS is the number of random calls, by default
-100,000. BODDURCI_WAY is "ctypes", or "extension", which then must be built. By default the tests use the extension if it is built."""
+"""Tests of boddurci.py: databases as mappings, programs, stock programs, threads, the cases of CPython's own tests of dbm modules, and
+random calls whose results are compared with those of a dict. BODDURCI_LIBRARY names the shared object. BODDURCI_CALLS is the number of
+random calls, by default 100,000. BODDURCI_WAY is "ctypes", or "extension", which must be built then. By default, the tests use the
+extension if it is built."""
 
 import ctypes
 import dbm
@@ -49,7 +50,7 @@ class Mapping(InFolder):
         self.assertEqual("extension" if boddurci._extension else "ctypes", WAY)
 
     def test_lengths(self):
-        """If a subclass of bytes returns a wrong length, no call reads past the bytes."""
+        """No call reads past the bytes of an object whose class, a subclass of bytes, returns a wrong length."""
 
         class Long(bytes):
             def __len__(self):
@@ -71,7 +72,7 @@ class Mapping(InFolder):
                 db.program(Itself(b"\0"))
 
     def test_no_handle(self):
-        """A call of the library with NULL as its handle reports that the handle is closed."""
+        """A call of the library with NULL as its handle returns the status of a closed handle."""
         for name in ("limit", "fetch", "store", "delete", "count", "submit", "submit_stock", "run", "first", "next"):
             call = getattr(boddurci._call, name)
             nothing = [None if kind in (ctypes.c_char_p, ctypes.c_void_p) else 0 for kind in call.argtypes]
@@ -83,7 +84,7 @@ class Mapping(InFolder):
         boddurci._call.close_files(None)
 
     def test_exception_in_a_block(self):
-        """A block that ends by an exception drops the changes since the last save, and releases the locks."""
+        """If an exception ends a `with` block, the changes since the last save are dropped, and the locks are released."""
         with boddurci.open(self.base, "c") as db:
             db[b"kept"] = b"1"
         for kind in (ValueError, KeyboardInterrupt, SystemExit, boddurci.error):
@@ -113,7 +114,7 @@ class Mapping(InFolder):
             self.assertEqual(db.items(), [(b"a", b"closed by the block itself")])
 
     def test_exception_in_a_process(self):
-        """The exception ends the interpreter too. Nothing saves the dropped changes later."""
+        """If the exception also ends the interpreter, the dropped changes are not saved at exit."""
         text = """if True:
             import boddurci, sys
             with boddurci.open(sys.argv[1], "c") as db:
@@ -260,7 +261,7 @@ class Mapping(InFolder):
                     self.assertEqual(reader.items(), [(b"a", value)])
 
     def test_a_handler_that_raises_as_it_opens_leaves_no_lock(self):
-        """The signal is sent to another thread, so the wait for the lock continues, and the handler runs once the base is open."""
+        """The signal is sent to another thread, so the wait for the lock continues, and the handler runs after the base is open."""
         with boddurci.open(self.base, "c") as db:
             db[b"a"] = b"1"
         self.addCleanup(signal.signal, signal.SIGUSR1, signal.signal(signal.SIGUSR1, self.raises))
@@ -348,7 +349,7 @@ for line in iter(sys.stdin.readline, ""):
             service.stdin.close()
 
     def heard(self, *_):
-        """The second signal ends the wait."""
+        """A signal handler that raises at the second signal, which ends the wait."""
         self.count += 1
         if self.count == 2:
             signal.setitimer(signal.ITIMER_REAL, 0)
@@ -378,7 +379,7 @@ for line in iter(sys.stdin.readline, ""):
             db[b"new"] = b"y"
             with self.assertRaisesRegex(RuntimeError, "changed during iteration"):
                 list(turns)
-            # Iterations are independent.
+            # Nested iterations are independent of each other.
             self.assertEqual(len([1 for _, _ in zip(db, db)]), 2501)
 
     def test_a_fault_names_the_file(self):
@@ -415,7 +416,7 @@ for line in iter(sys.stdin.readline, ""):
 
 
 class Ends(InFolder):
-    """Databases that are open when the interpreter exits."""
+    """Tests of databases that are open when the interpreter exits."""
 
     SCRIPT = """
 import boddurci, os, sys, threading, time
@@ -457,7 +458,8 @@ if len(sys.argv) > 3:
 
 
 class Library(InFolder):
-    """Which library is loaded. The file next to the module is a library, and the one that the environment names is not."""
+    """Tests which file is loaded. The file next to the module is a library, and the file that BODDURCI_LIBRARY names is not, so loading it
+    fails."""
 
     def setUp(self):
         super().setUp()
@@ -468,7 +470,7 @@ class Library(InFolder):
         (self.folder / "other.so").write_text("no library")
 
     def loads(self, *options, named="other.so", group=None):
-        """Returns the error of a process that imports the module, or nothing."""
+        """Returns the error text of a process that imports the module; it is empty on success."""
         script = f"import sys; sys.path.insert(0, {str(self.folder)!r}); import boddurci"
         env = {"PATH": os.environ["PATH"], "BODDURCI_LIBRARY": os.path.join(self.folder, named)}
         words = [sys.executable, *options, "-c", script]
@@ -536,7 +538,7 @@ class Saves(InFolder):
             self.assertEqual(len(reader), 101)
 
     def test_too_long(self):
-        """The last of these keys is refused, since it would need a page past the end of the longest .pag. The other keys are saved."""
+        """The last of these keys is refused, since its page would be past the greatest length of .pag. The other keys are saved."""
         keys = [b"far180463", b"far413", b"far192442", b"far4056234"]
         db = boddurci.open(self.base, "c")
         for key in keys[:3]:
@@ -554,7 +556,8 @@ class Saves(InFolder):
             self.assertEqual(reader.keys(), [keys[1]])
 
     def test_limit(self):
-        """The second key would need the first MiB. Under a lower limit it is refused, and nothing changes, in memory or on the disk."""
+        """With the second key, .pag would be 1 MiB long. With a lower limit the key is refused, and nothing changes in memory or on the
+        disk."""
         keys, value = [b"far180463", b"far413"], b"x" * 900
         for limit, fault in ((-1, ValueError), (2**64, ValueError), ("1", TypeError)):
             with self.assertRaises(fault):
@@ -570,7 +573,7 @@ class Saves(InFolder):
                 db.run(db.program((TOP / "examples/counter.s").read_text()), keys[1], blank=900)
             self.assertEqual(db.items(), [(keys[0], value)])
         self.assertEqual(pathlib.Path(self.base + ".pag").read_bytes(), before)
-        # A page above the limit stays, and its pairs can be replaced.
+        # A page past the limit stays, and its pairs can be replaced.
         with boddurci.open(self.base, "w", limit=0) as db:
             db[keys[0]] = value[1:]
         for limit in (1 << 20, 2**63):
@@ -652,7 +655,8 @@ class Saves(InFolder):
             os.rename(self.base + ".away", self.base + ".lock")
 
     def beside(self, script, *words):
-        """Runs Perl's own SDBM_File on the files. It ignores the locks, and runs in another clock tick than the last save."""
+        """Runs Perl's own SDBM_File on the files, which ignores the locks. Waits first, so that it runs in a later clock tick than the last
+        save."""
         if not shutil.which("perl") or subprocess.run(["perl", "-MSDBM_File", "-e", "1"], capture_output=True).returncode:
             self.skipTest("Perl has no SDBM_File")
         time.sleep(0.05)
@@ -661,8 +665,8 @@ class Saves(InFolder):
         return subprocess.run(words, capture_output=True, text=True, check=True).stdout
 
     def test_changed_by_perl(self):
-        """A save does not overwrite data that Perl stores while a database is open, whether the database has changes or not, unless it
-        insists."""
+        """A save does not overwrite data that Perl has stored while the database was open, unless `insist` is true. It does not matter
+        whether the database has changes."""
         db = boddurci.open(self.base, "c")
         db[b"a"] = b"1"
         db.sync()
@@ -684,7 +688,8 @@ class Saves(InFolder):
         self.assertEqual(self.beside('print join " ", sort keys %h'), "a b c")
 
     def test_one_key_changed_by_perl(self):
-        """A write of the same length, on a page that the database has changed too, and on a page that it has not changed."""
+        """Tests writes that do not change the length of the file: to a page that the database has changed too, and to a page that it has
+        not changed."""
         for own in (True, False):
             with boddurci.open(self.base, "n") as db:
                 db.update({b"%d" % i: b"x" * 20 for i in range(1000)})
@@ -699,7 +704,8 @@ class Saves(InFolder):
                 self.assertEqual(self.beside("print $h{7}"), ("y" if own else "x") * 20)
 
     def test_no_change(self):
-        """A new mode, link or time is not a change of the data. A save overwrites nothing that the database has read."""
+        """A new mode, link or time of a file is not a change of its data, so a save succeeds. Pairs that Perl wrote before the database was
+        opened stay."""
         with boddurci.open(self.base, "c") as db:
             db[b"a"] = b"1"
         self.beside("$h{perl} = 1")
@@ -710,14 +716,14 @@ class Saves(InFolder):
             os.link(self.base + ".pag", self.base + ".link")
             db[b"b"] = b"2"
             db.sync()
-            time.sleep(0.02)  # a save does not see another time within its own clock tick
+            time.sleep(0.02)  # a save cannot notice a new time within its own clock tick
             os.utime(self.base + ".pag")
             db.sync()
             db[b"c"] = b"3"
         self.assertEqual(self.beside('print join " ", sort keys %h'), "a b c perl")
 
     def test_a_time_that_is_put_back(self):
-        """If a write sets the time of the file back, the comparison of pages finds it."""
+        """If a program writes a file and sets its time back, the comparison of pages finds the change."""
         with boddurci.open(self.base, "c") as db:
             db[b"a"] = b"1"
             db.sync()
@@ -730,7 +736,7 @@ class Saves(InFolder):
         self.assertEqual(self.beside("print $h{a}"), "1")
 
     def test_what_another_program_wrote_is_read_anew(self):
-        """After the fault, the data of the other program stays if the process is killed or the database object is destroyed."""
+        """After a ChangedError, the data of the other program stays, even if the process is killed or the database object is destroyed."""
         script = "import boddurci, os, subprocess, sys, time; db = boddurci.open(sys.argv[1], 'c'); db[b'a'] = b'1'; db.sync(); time.sleep(0.05); "
         script += "subprocess.run(sys.argv[3:], check=True); db[b'a'] = b'3'\n"
         script += "try: db.sync()\nexcept boddurci.ChangedError: os.kill(os.getpid(), 9) if sys.argv[2] == 'kill' else None\n"
@@ -773,7 +779,7 @@ class Saves(InFolder):
 
 class Children(InFolder):
     def in_child(self, work):
-        """Returns the result of `work` in a forked child, which exits by os._exit."""
+        """Calls `work` in a forked child, which exits by os._exit, and returns its result."""
         reading, writing = os.pipe()
         child = os.fork()
         if child == 0:
@@ -791,7 +797,7 @@ class Children(InFolder):
         return told
 
     def refused(self, db, program):
-        """Returns the number of refused calls on a database of the parent."""
+        """Makes calls on a database of the parent, and returns the number of refused calls."""
         calls = (
             lambda: db[b"a"],
             lambda: db.update({b"a": b"child"}),
@@ -824,7 +830,7 @@ class Children(InFolder):
             self.assertEqual(db[b"a"], b"2")
 
     def test_exception_in_a_block(self):
-        """An exception in a child closes its object, and leaves the database to the parent."""
+        """An exception in a child closes the object of the child, and leaves the database to the parent."""
 
         def fails(db):
             try:
@@ -874,7 +880,7 @@ os.wait()
                     db[b"a"] = b"1"
                     db.sync()
 
-            # With this interval forks happen during the thread's calls.
+            # With this interval, forks happen during calls of the thread.
             interval = sys.getswitchinterval()
             sys.setswitchinterval(1e-6)
             thread = threading.Thread(target=work)
@@ -966,7 +972,7 @@ def packed(*numbers):
 
 
 class Stocks(InFolder):
-    """The stock programs by name, and their classes."""
+    """Tests of the stock programs, by name and through their classes."""
 
     def setUp(self):
         super().setUp()
@@ -1054,7 +1060,7 @@ class Stocks(InFolder):
         self.assertNotIn(b"door", self.db)
         self.assertIs(door.release(8, now=1026), False)
         self.assertNotIn(b"door", self.db)
-        # Nobody holds a lease that has ended.
+        # A lease that has ended has no holder.
         self.assertEqual(door.acquire(7, 1, now=2000), 2001)
         self.assertIs(door.release(7, now=2001), False)
         self.assertNotIn(b"door", self.db)
@@ -1094,8 +1100,8 @@ class Stocks(InFolder):
         self.assertEqual(self.db[b"door"], packed(8, 1024, MOST))
 
     def test_leases_never_overlap(self):
-        """Random calls of three owners at times that never fall. A lease is granted exactly if no other owner holds it, and tokens rise
-        with each new owner."""
+        """Tests random calls of three owners at times that never fall. A lease is granted if and only if no other owner holds it, and each
+        new owner gets a greater token."""
         rng = random.Random(3)
         for lease in (self.db.lease("door"), self.db.fenced_lease("gate")):
             now, ends, token = 0, {}, 0
@@ -1139,7 +1145,7 @@ class Stocks(InFolder):
             self.assertIs(once.admit(), True)
 
     def test_times_are_those_of_the_runs(self):
-        """A thread that waits for the lock reads the time once it has the lock, so times do not fall."""
+        """A thread that waits for the lock reads the time after it gets the lock, so times do not fall."""
         clock = [100]
         gate = self.db.fenced_lease("gate")
         gate.acquire(7, 1000, now=50)
@@ -1168,7 +1174,7 @@ class Stocks(InFolder):
         self.assertEqual(len(db), 0)
 
     def calls(self, key=b"it"):
-        """Returns each method of each class on a key, with the length of its record."""
+        """Returns the methods of the classes for one key, each with the length of its record."""
         db, counter = self.db, self.db.counter(key)
         return (
             (8, counter.get),
@@ -1187,7 +1193,7 @@ class Stocks(InFolder):
         for length, call in self.calls():
             for short in (0, 1, length - 1):
                 self.db[b"it"] = b"\1" * short
-                with self.assertRaisesRegex(boddurci.RecordError, f"b'it' has {short} bytes: [a-z_]+ takes {length} or more"):
+                with self.assertRaisesRegex(boddurci.RecordError, f"b'it' is too short: [a-z_]+ takes {length} bytes or more"):
                     call()
                 self.assertEqual(self.db[b"it"], b"\1" * short)
             self.db[b"it"] = packed(1, 0, 0) + b"tail"
@@ -1243,7 +1249,7 @@ class Stocks(InFolder):
                 call()
 
     def test_in_turn_with_perl(self):
-        """Python and Perl change the same records, one after the other."""
+        """Python and Perl change the same records in turn."""
         if not shutil.which("perl") or subprocess.run(["perl", "-MFFI::Platypus", "-e", "1"], capture_output=True).returncode:
             self.skipTest("Perl has no FFI::Platypus")
         script = """
@@ -1291,7 +1297,7 @@ class BesideADict(InFolder):
                 old = model.get(key, bytes(8))
                 if len(old) >= 8:
                     model[key] = ((int.from_bytes(old[:8], "little") + 1) % 2**64).to_bytes(8, "little") + old[8:]
-                self.assertEqual(db.run(counter, key, blank=8).end, int(len(old) >= 8))
+                self.assertEqual(db.run(counter, key, blank=8).end, 1 if len(old) >= 8 else 4)
             elif call % 1000 == 0:
                 self.assertEqual(len(db), len(model))
             elif call % 3000 == 1:
@@ -1317,7 +1323,7 @@ class BesideADict(InFolder):
 if AnyDBMTestCase:
 
     class AsDbm(AnyDBMTestCase, unittest.TestCase):
-        """CPython's cases of dbm modules."""
+        """The cases of CPython's tests of dbm modules."""
 
         module = boddurci
         _dict = dict(AnyDBMTestCase._dict)
@@ -1334,7 +1340,7 @@ if AnyDBMTestCase:
 
 
 class Shared(InFolder):
-    """Shared databases. tests/shared has the tests of the library itself."""
+    """Tests of shared databases. tests/shared has the tests of the library itself."""
 
     def shared(self, flag="c", **more):
         db = boddurci.open(self.base, flag, shared=True, **more)
@@ -1359,7 +1365,7 @@ class Shared(InFolder):
         db.flush(), db.sync()
 
     def test_exception_in_a_block(self):
-        """Each change is durable by itself, so an exception drops no change."""
+        """Each change is durable by itself, so an exception in a `with` block drops no change."""
         with self.assertRaises(ValueError), self.shared() as db:
             db[b"a"] = b"1"
             raise ValueError

@@ -1,6 +1,6 @@
-"""Tests of `_boddurci`, the extension of boddurci.py. It has the same results as the methods in Python, on random and on unusual calls. It
-passes calls that are not plain to those methods, and leaks no reference. test_boddurci.py tests the rest, with and without the
-extension."""
+"""Tests of `_boddurci`, the extension of boddurci.py. The extension has the same results as the methods in Python, for random and for
+unusual calls. It passes calls that are not plain to these methods, and leaks no reference. test_boddurci.py has the other tests, which run
+with and without the extension."""
 
 import inspect
 import os
@@ -24,14 +24,14 @@ NEEDS = unittest.skipUnless(boddurci._extension or os.environ.get("BODDURCI_WAY"
 
 
 class Long(bytes):
-    """Bytes with a wrong length."""
+    """A subclass of bytes that returns a wrong length."""
 
     def __len__(self):
         return 1 << 20
 
 
 def outcome(call, *words, **named):
-    """Returns the result of a call: its value, or its exception with all attributes."""
+    """Returns the value that a call returned, or the exception that it raised with all its attributes."""
     try:
         value = call(*words, **named)
     except Exception as fault:
@@ -45,7 +45,7 @@ class InFolder(unittest.TestCase):
         self.addCleanup(self.room.cleanup)
 
     def opened(self, kind=None, name="db", flag="c"):
-        """Opens a database of a class: with the extension, or in Python only."""
+        """Opens a database of the given class, with the extension or in Python only."""
         with mock.patch.object(boddurci, "Database", kind or boddurci.Database):
             db = boddurci.open(os.path.join(self.room.name, name), flag)
         self.addCleanup(db.close)
@@ -67,7 +67,7 @@ class Left(unittest.TestCase):
 
 @NEEDS
 class Beside(InFolder):
-    """Makes each call on a database with the extension and on a database without it."""
+    """A test that makes each call on a database with the extension and on one without it."""
 
     def setUp(self):
         super().setUp()
@@ -75,7 +75,7 @@ class Beside(InFolder):
         self.programs = [[db.program(text) for text in (COUNTER, LEASE)] for db in self.both]
 
     def same(self, call):
-        """Makes a call on both databases, and compares the results. The call takes a database and its programs."""
+        """Makes a call on both databases, and compares the results. The arguments of the call are a database and its programs."""
         quick, plain = (outcome(call, *it) for it in zip(self.both, self.programs))
         self.assertEqual(quick, plain)
 
@@ -129,7 +129,7 @@ class Beside(InFolder):
         self.same(lambda db, _: sorted(db.items()))
 
     def test_words(self):
-        """Arguments that a call does not accept, and some that it accepts."""
+        """Tests arguments that a call does not accept, and some that it accepts."""
         for call in (
             lambda db, programs: db.run(),
             lambda db, programs: db.run(programs[0]),
@@ -201,7 +201,7 @@ class Extension(InFolder):
                 db[bytearray(b"a")]
 
     def test_it_is_bound_once(self):
-        """Only the first interpreter of a process uses the extension: a second `bind` returns None."""
+        """Only the first interpreter of a process uses the extension, since a second `bind` returns None."""
         import _boddurci
 
         self.assertIsNone(_boddurci.bind())
@@ -246,7 +246,7 @@ class Extension(InFolder):
             self.assertEqual(db[b"a"], b"meanwhile")
 
     def test_lists_beside_a_thread(self):
-        """A list of all pairs is consistent, although several steps read it."""
+        """A list of all pairs is consistent, although it is read in several steps while a thread stores."""
         db, is_over = self.opened(), threading.Event()
         db.update({b"%d" % i: b"x" for i in range(2500)})
 
@@ -271,7 +271,7 @@ class Extension(InFolder):
             sys.setswitchinterval(interval)
 
     def test_a_close_beside_threads(self):
-        """A store before the end of a close is saved, and a later one is refused."""
+        """A store before the end of a `close` is saved, and a later store is refused."""
         db, told = self.opened(), []
 
         def work(own):

@@ -1,6 +1,6 @@
 /* A set of the numbers 0 to 511, a bit each.
- * SAVE: the number was added, removed or toggled. KEEP: nothing was to be done, there is no such number or operation, or a length is
- * too short. The word is 1 if the number was in the set before, and 0 otherwise. */
+ * SAVE: the number was added, removed or toggled. KEEP: nothing was to be done, or there is no such number or operation.
+ * BODDURCI_TOO_SHORT: a length is too short. The word is 1 if the number was in the set before, and 0 otherwise. */
 #include "boddurci_record.h"
 
 enum { BITS = 512 };
@@ -15,7 +15,7 @@ uint64_t program(void *record, uint64_t record_length, const void *argument, uin
     uint64_t *words = record;
     const struct request *request = argument;
     if (record_length < BITS / 8 || argument_length < sizeof *request)
-        return KEEP;
+        return BODDURCI_TOO_SHORT;
     uint64_t number = request->number;
     if (number >= BITS)
         return KEEP;

@@ -1,7 +1,7 @@
 /* A Bloom filter of 1,024 bits with four bits for each value. The argument is a hash of a value, 16 bytes; the bits are at the first
  * half, and at the first half plus one, two and three times the second.
- * SAVE: the value is new, and is added; the word is 0. KEEP: it was added before, or may have been, and the word is 1; or a length
- * is too short, and the word is 0. */
+ * SAVE: the value is new, and is added; the word is 0. KEEP: it was added before, or may have been, and the word is 1.
+ * BODDURCI_TOO_SHORT: a length is too short. */
 #include "boddurci_record.h"
 
 enum { BITS = 1024, BITS_A_VALUE = 4 };
@@ -15,7 +15,7 @@ uint64_t program(void *record, uint64_t record_length, const void *argument, uin
     uint64_t *words = record;
     const struct hash *hash = argument;
     if (record_length < BITS / 8 || argument_length < sizeof *hash)
-        return KEEP;
+        return BODDURCI_TOO_SHORT;
     uint64_t there = 1;
     for (uint64_t i = 0; i < BITS_A_VALUE; i++) {
         uint64_t bit = (hash->first + i * hash->second) & (BITS - 1);

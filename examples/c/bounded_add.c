@@ -1,5 +1,5 @@
 /* Adds to the record's number, unless the sum would be above a bound.
- * SAVE: it was added. KEEP: the sum would be above the bound, or a length is too short. */
+ * SAVE: it was added. KEEP: the sum would be above the bound. BODDURCI_TOO_SHORT: a length is too short. */
 #include "boddurci_record.h"
 
 struct request {
@@ -11,7 +11,7 @@ uint64_t program(void *record, uint64_t record_length, const void *argument, uin
     uint64_t *sum = record;
     const struct request *request = argument;
     if (record_length < sizeof *sum || argument_length < sizeof *request)
-        return KEEP;
+        return BODDURCI_TOO_SHORT;
     if (*sum > request->bound || request->amount > request->bound - *sum)
         return KEEP;
     *sum += request->amount;

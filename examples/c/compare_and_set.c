@@ -1,5 +1,6 @@
 /* Compare and set: a number is replaced if it is the expected one.
- * SAVE: it is replaced. KEEP: it is another number, or a length is too short. The word is the number before the run. */
+ * SAVE: it is replaced. KEEP: it is another number. The word is the number before the run.
+ * BODDURCI_TOO_SHORT: a length is too short, and the word is 0. */
 #include "boddurci_record.h"
 
 struct change {
@@ -11,7 +12,7 @@ uint64_t program(void *record, uint64_t record_length, const void *argument, uin
     uint64_t *number = record;
     const struct change *change = argument;
     if (record_length < sizeof *number || argument_length < sizeof *change)
-        return KEEP;
+        return BODDURCI_TOO_SHORT;
     boddurci_reply(*number);
     if (*number != change->expected)
         return KEEP;

@@ -1,5 +1,5 @@
 /* A histogram of eight numbers: the lowest three bits of the argument's first byte select the one to increment.
- * SAVE: it was counted; the word is the number's new value. KEEP: a length is too short. */
+ * SAVE: it was counted; the word is the number's new value. BODDURCI_TOO_SHORT: a length is too short. */
 #include "boddurci_record.h"
 
 struct histogram {
@@ -11,7 +11,7 @@ uint64_t program(void *record, uint64_t record_length, const void *argument, uin
     struct histogram *histogram = record;
     const uint8_t *value = argument;
     if (record_length < sizeof *histogram || argument_length < sizeof *value)
-        return KEEP;
+        return BODDURCI_TOO_SHORT;
     uint64_t *count = &histogram->counts[*value & 7];
     *count += 1;
     boddurci_reply(*count);

@@ -1,6 +1,6 @@
 /* HyperLogLog (Flajolet et al., 2007): estimates the number of different values, by 256 registers of a byte each. The argument is a
  * hash, 8 bytes; its lowest 8 bits select a register, which keeps the greatest number of trailing zeros of the other 56 bits, plus one.
- * SAVE: a register has grown; the word is its value. KEEP: none has, or a length is too short. */
+ * SAVE: a register has grown; the word is its value. KEEP: none has. BODDURCI_TOO_SHORT: a length is too short. */
 #include "boddurci_record.h"
 
 enum { REGISTERS = 256 };
@@ -10,7 +10,7 @@ uint64_t program(void *record, uint64_t record_length, const void *argument, uin
     uint8_t *registers = record;
     const uint64_t *hash = argument;
     if (record_length < REGISTERS || argument_length < sizeof *hash)
-        return KEEP;
+        return BODDURCI_TOO_SHORT;
     uint64_t rest = *hash >> 8 | 1ull << 56;
     uint8_t rank = 1;
     /* Finds the lowest bit of the rest that is 1, in six steps. */

@@ -1,7 +1,8 @@
 /* A lease: its owner and its end; zeros are a lease that has ended.
  * SAVE: the caller has it, new or renewed, until the time in the word.
  * DELETE: it was released (a duration of 0), or had ended.
- * KEEP: another owner has it until the time in the word; or a length is too short, and the word is 0.
+ * KEEP: another owner has it until the time in the word.
+ * BODDURCI_TOO_SHORT: a length is too short; the word is 0.
  * A lease ends at 2^64 - 1 at the latest: at that time all have ended. */
 #include "boddurci_record.h"
 
@@ -17,7 +18,7 @@ uint64_t program(void *record, uint64_t record_length, const void *argument, uin
     struct lease *lease = record;
     const struct request *request = argument;
     if (record_length < sizeof *lease || argument_length < sizeof *request)
-        return KEEP;
+        return BODDURCI_TOO_SHORT;
     uint64_t now = boddurci_now();
     if (lease->ends > now && lease->holder != request->holder) {
         boddurci_reply(lease->ends);

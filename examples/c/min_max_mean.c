@@ -1,6 +1,6 @@
 /* Count, sum, minimum and maximum of a series of numbers, with the mean as the word.
- * SAVE: the number was added; the word is the mean, rounded down. KEEP: the sum or the count would be above 2^64 - 1, or
- * a length is too short. */
+ * SAVE: the number was added; the word is the mean, rounded down. KEEP: the sum or the count would be above 2^64 - 1.
+ * BODDURCI_TOO_SHORT: a length is too short. */
 #include "boddurci_record.h"
 
 struct summary {
@@ -12,7 +12,7 @@ uint64_t program(void *record, uint64_t record_length, const void *argument, uin
     struct summary *summary = record;
     const uint64_t *number = argument;
     if (record_length < sizeof *summary || argument_length < sizeof *number)
-        return KEEP;
+        return BODDURCI_TOO_SHORT;
     if (*number > UINT64_MAX - summary->sum || summary->count == UINT64_MAX)
         return KEEP;
     if (summary->count == 0 || *number < summary->least)

@@ -1,8 +1,8 @@
 /* A lease with an owner of 16 bytes, renewals, and a fencing number that grows with each new owner: by that number a late write of
  * an earlier owner is recognized.
  * SAVE: taken, renewed or released; the word is the fencing number.
- * KEEP: another owner has it, the caller of a renewal or release does not have it, there is no such operation, or a length is too
- * short; the word is 0.
+ * KEEP: another owner has it, the caller of a renewal or release does not have it, or there is no such operation; the word is 0.
+ * BODDURCI_TOO_SHORT: a length is too short; the word is 0.
  * A lease ends at 2^64 - 1 at the latest. */
 #include "boddurci_record.h"
 
@@ -25,7 +25,7 @@ uint64_t program(void *record, uint64_t record_length, const void *argument, uin
     struct lease *lease = record;
     const struct request *request = argument;
     if (record_length < sizeof *lease || argument_length < sizeof *request)
-        return KEEP;
+        return BODDURCI_TOO_SHORT;
     uint64_t now = boddurci_now();
     int lasts = lease->ends > now;
     switch (request->operation) {

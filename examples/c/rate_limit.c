@@ -1,7 +1,7 @@
 /* A rate limit: a number of calls in a window of time; zeros are a window that began at 0.
  * SAVE: admitted; the word is the number of further calls that the window admits.
- * KEEP: not admitted; the word is the remaining time of the window, or the duration of a window if none is open. If a length is too
- * short it is 0.
+ * KEEP: not admitted; the word is the remaining time of the window, or the duration of a window if none is open.
+ * BODDURCI_TOO_SHORT: a length is too short; the word is 0.
  * If no window is open, or it began later than now, a call begins one. */
 #include "boddurci_record.h"
 
@@ -17,7 +17,7 @@ uint64_t program(void *record, uint64_t record_length, const void *argument, uin
     struct window *window = record;
     const struct limit *limit = argument;
     if (record_length < sizeof *window || argument_length < sizeof *limit)
-        return KEEP;
+        return BODDURCI_TOO_SHORT;
     uint64_t now = boddurci_now();
     uint64_t age = now - window->began;
     if (now < window->began || age >= limit->duration) {

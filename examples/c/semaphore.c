@@ -1,7 +1,7 @@
 /* A semaphore of eight permits, each with a holder, above 0, and an end, so that the permit of a dead holder becomes free.
  * A caller that has a permit already renews it; a duration of 0 releases it.
  * SAVE: the caller has a permit until the time in the word, or has released it, and the word is 0.
- * KEEP: no permit is free, there was none to release, or a length is too short. The word is 0.
+ * KEEP: no permit is free, or there was none to release. BODDURCI_TOO_SHORT: a length is too short. The word is 0.
  * A permit ends at 2^64 - 1 at the latest. */
 #include "boddurci_record.h"
 
@@ -19,7 +19,7 @@ uint64_t program(void *record, uint64_t record_length, const void *argument, uin
     struct permit *permits = record;
     const struct request *request = argument;
     if (record_length < PERMITS * sizeof *permits || argument_length < sizeof *request)
-        return KEEP;
+        return BODDURCI_TOO_SHORT;
     uint64_t now = boddurci_now();
     uint64_t mine = PERMITS, free = PERMITS;
     for (uint64_t i = 0; i < PERMITS; i++) {

@@ -1,6 +1,7 @@
 /* A sliding window: a number of calls in any interval of one duration, estimated from the count of this window and the covered part of
  * the count of the last window. Duration and limit are below 2^32, and the duration is above 0.
- * SAVE: admitted; the word is the number of further calls. KEEP: not admitted, or a number or a length is out of range; the word is 0. */
+ * SAVE: admitted; the word is the number of further calls. KEEP: not admitted, or a number is out of range; the word is 0.
+ * BODDURCI_TOO_SHORT: a length is too short; the word is 0. */
 #include "boddurci_record.h"
 
 struct counts {
@@ -15,7 +16,7 @@ uint64_t program(void *record, uint64_t record_length, const void *argument, uin
     struct counts *counts = record;
     const struct limit *limit = argument;
     if (record_length < sizeof *counts || argument_length < sizeof *limit)
-        return KEEP;
+        return BODDURCI_TOO_SHORT;
     uint64_t duration = limit->duration, most = limit->most;
     if (duration == 0 || duration > UINT32_MAX || most > UINT32_MAX)
         return KEEP;

@@ -1,7 +1,8 @@
 /* A token bucket: it fills at a rate up to its capacity, and each call takes tokens. A new bucket is full.
  * SAVE: the tokens were taken; the word is the number that is left.
- * KEEP: there are too few; the word is the time to wait until there are enough, and 2^64 - 1 if there never are. If a length is too
- * short or the interval is 0, the word is 0.
+ * KEEP: there are too few; the word is the time to wait until there are enough, and 2^64 - 1 if there never are. If the interval is 0,
+ * the word is 0.
+ * BODDURCI_TOO_SHORT: a length is too short; the word is 0.
  * A clock that goes back adds nothing. If the clock was ahead once, by more than the time to fill the bucket, that time is ignored: the
  * bucket counts as a new one. The cost times the interval is below 2^63. */
 #include "boddurci_record.h"
@@ -18,7 +19,7 @@ uint64_t program(void *record, uint64_t record_length, const void *argument, uin
     struct bucket *bucket = record;
     const struct request *request = argument;
     if (record_length < sizeof *bucket || argument_length < sizeof *request)
-        return KEEP;
+        return BODDURCI_TOO_SHORT;
     uint64_t present = boddurci_present(), now = boddurci_now();
     uint64_t interval = request->interval, capacity = request->capacity, cost = request->cost;
     uint64_t tokens = capacity, filled = now;

@@ -1,7 +1,7 @@
 /* The eight most frequent values (Space-Saving; Metwally et al., 2005): eight entries of a value, above 0, and a count.
  * A value without an entry takes the one with the least count, and continues that count. A count is too high by at most the
  * least one.
- * SAVE: it was counted; the word is its count. KEEP: the value is 0, or a length is too short. */
+ * SAVE: it was counted; the word is its count. KEEP: the value is 0. BODDURCI_TOO_SHORT: a length is too short. */
 #include "boddurci_record.h"
 
 enum { ENTRIES = 8 };
@@ -14,7 +14,9 @@ uint64_t program(void *record, uint64_t record_length, const void *argument, uin
 {
     struct entry *entries = record;
     const uint64_t *value = argument;
-    if (record_length < ENTRIES * sizeof *entries || argument_length < sizeof *value || *value == 0)
+    if (record_length < ENTRIES * sizeof *entries || argument_length < sizeof *value)
+        return BODDURCI_TOO_SHORT;
+    if (*value == 0)
         return KEEP;
     uint64_t chosen = 0, least = UINT64_MAX, found = 0;
     for (uint64_t i = 0; i < ENTRIES; i++) {

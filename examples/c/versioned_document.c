@@ -1,6 +1,6 @@
 /* A document of 120 bytes with a version: to replace it, name its present version; a new one has version 0.
- * SAVE: it is replaced; the word is its new version. KEEP: it has another version, and the word is that one; or a length is too
- * short, and the word is 0. */
+ * SAVE: it is replaced; the word is its new version. KEEP: it has another version; the word is that one.
+ * BODDURCI_TOO_SHORT: a length is too short; the word is 0. */
 #include "boddurci_record.h"
 
 struct document {
@@ -13,7 +13,7 @@ uint64_t program(void *record, uint64_t record_length, const void *argument, uin
     struct document *kept = record;
     const struct document *next = argument;
     if (record_length < sizeof *kept || argument_length < sizeof *next)
-        return KEEP;
+        return BODDURCI_TOO_SHORT;
     uint64_t version = kept->version;
     if (version != next->version) {
         boddurci_reply(version);

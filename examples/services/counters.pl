@@ -1,16 +1,16 @@
 #!/usr/bin/perl
-# Converts counters that a Perl program has stored as decimal numbers in an SDBM file to records of 8 bytes for dbm. Perl still
-# reads them by SDBM_File, and unpacks them, while dbm writes.
+# Converts counters, which a Perl program has stored as decimal numbers in an SDBM file, to records of 8 bytes for dbm. Afterwards only dbm
+# writes the records; Perl can still read them with SDBM_File and unpack them.
 #
-#     counters.pl take OLD NEW          adds all counters of OLD to those of NEW, which are made if they are missing
-#     counters.pl count BASE KEY..      adds 1 to each of these, all in one save, and prints their numbers
-#     counters.pl show BASE             prints all counters that Perl reads
+#     counters.pl take OLD NEW          adds each counter of OLD to the counter of NEW with the same key, or makes it
+#     counters.pl count BASE KEY..      adds 1 to the counters with these keys, all in one save, and prints the new numbers
+#     counters.pl show BASE             prints all counters, as Perl reads them
 #
-# Others may count in NEW while it takes: each addition is one step, and no count is lost. A save has some 8 MB of additions and a mark, the
-# key `taken from PATH`. So repeat a take that was interrupted: it continues after its last save, and adds no counter twice. Nobody may
-# count in OLD any more.
+# Other processes may count in NEW during a take: each addition is one step, so no count is lost. They must not count in OLD any more. A
+# save has about 8 MB of additions, and the number of counters that are done, in the key `taken from PATH`. If a take was interrupted,
+# repeat it: it continues after its last save, and adds no counter twice.
 #
-# DBM names the program, or dbm is on the PATH.
+# The variable DBM has the path of dbm; if it is not set, dbm is looked up on the PATH.
 use strict;
 use warnings;
 use Cwd qw(abs_path);
@@ -19,7 +19,7 @@ use SDBM_File;
 
 my $dbm = $ENV{DBM} // "dbm";
 
-# Runs dbm on these words, without a shell. Returns its status and output.
+# Runs dbm with these arguments, without a shell. Returns its status and the lines of its output.
 sub run_of {
     open my $out, "-|", $dbm, @_ or die "counters.pl: $dbm: $!\n";
     my @said = <$out>;
@@ -30,7 +30,7 @@ sub run_of {
 # Returns the answers of dbm to the lines of a script on a base.
 sub answers {
     my ($base, @lines) = @_;
-    # Pipes in both directions would block if both were full, so the lines are in a file.
+    # With a pipe in each direction, both processes could block on a full pipe. So dbm reads the lines from a file.
     open my $script, "+>", undef or die "no file for the lines: $!\n";
     print $script map { "$_\n" } @lines;
     seek $script, 0, 0;
@@ -43,8 +43,8 @@ sub answers {
     return @said;
 }
 
-# Returns whether a save of dbm was interrupted after its commit, which is the first byte of the redo file. Before the commit it changes no
-# file.
+# Returns whether a save of dbm was interrupted after its commit. The first byte of the redo file is 1 then. Before the commit, a save
+# changes neither data file.
 sub is_cut_off {
     my ($base) = @_;
     open my $redo, "<:raw", "$base.redo" or return 0;
@@ -53,8 +53,8 @@ sub is_cut_off {
     return $mark eq "\1";
 }
 
-# Reads the pairs of a base by SDBM_File, under the lock of dbm if it exists, and passes each to a function. Before that dbm recovers an
-# interrupted save, which Perl does not know.
+# Reads the pairs of a base with SDBM_File, under the lock of dbm if it exists, and passes each pair to a function. SDBM_File knows nothing
+# of interrupted saves, so dbm recovers such a save first.
 sub each_pair {
     my ($base, $does) = @_;
     while (open my $lock, "<", "$base.lock") {
@@ -75,7 +75,7 @@ sub read_pairs {
     untie %pairs;
 }
 
-# Returns a stock program as a line of a script.
+# Returns the line of a script that submits a stock program.
 sub program_of {
     my ($status, $image) = run_of("asm", "\@$_[0]");
     die "counters.pl: dbm ended with $status\n" if $status;
@@ -83,7 +83,7 @@ sub program_of {
     return "program $image";
 }
 
-# Returns the lock of a take. dbm inherits it, so a take that is killed keeps it until its dbm has ended.
+# Locks a file for a take, and returns its handle. dbm inherits the handle, so after a kill of the take the lock remains until dbm ends.
 sub lock_of {
     my ($path) = @_;
     local $^F = 1000;

@@ -1,15 +1,15 @@
-/* A lease service: a client that takes a name has it for some time, and gets a number that grows with each new owner. By that number a late
- * request of an earlier owner is recognized.
+/* A lease service: a client takes a name for some time, and gets a number that is greater for each new owner. A guarded resource recognizes
+ * a late request of an earlier owner by its lower number.
  *
  *     cc -O2 -I ../../out/boddurci leased.c ../../out/boddurci/libboddurci.a -lpthread -o leased
  *     ./leased BASE SOCKET ../c/owned_lease.bin
  *
- * It answers lines on a Unix socket, `take NAME OWNER MILLISECONDS`, `renew NAME OWNER MILLISECONDS` and `give NAME OWNER`, by `yes NUMBER`
- * or `no`. Words have no spaces, names up to 256 bytes and owners up to 16. A `yes` is sent once its lease is saved, so it survives a kill
- * of the service: start the service again. SIGTERM ends it. Each client has a thread of its own, so clients that stay connected keep nobody
- * out, and threads that save at the same time share a save.
+ * The lines on the Unix socket are `take NAME OWNER MILLISECONDS`, `renew NAME OWNER MILLISECONDS` and `give NAME OWNER`, and the answers
+ * are `yes NUMBER` and `no`. A name has up to 256 bytes, an owner up to 16, and neither has spaces. A `yes` is sent after its lease is
+ * saved, so the lease survives a kill and a restart of the service. SIGTERM or SIGINT ends the service. Each client has a separate thread,
+ * so clients that stay connected do not block others. Threads that save at the same time share a save.
  *
- * The names are the keys. If strangers choose them, hash them with a secret first, as limiter.py does. */
+ * The names are the keys. If untrusted users choose names, hash the names with a secret first, as limiter.py does. */
 #define _POSIX_C_SOURCE 200809L
 #include <boddurci_files.h>
 #include <pthread.h>
@@ -25,7 +25,7 @@
 enum { STACK = 1 << 20, RECORD = 40, OWNER = 16, NAME = 256 };
 enum { TAKE, RENEW, GIVE, NONE };
 
-/* The argument of examples/c/owned_lease.c. Both the processor and the program have the lowest byte of a number first. */
+/* The argument of examples/c/owned_lease.c. Its numbers have the lowest byte first, as on the processor. */
 struct request {
     uint8_t owner[OWNER];
     uint64_t duration, operation;
@@ -35,7 +35,7 @@ static boddurci_base *base;
 static uint32_t lease;
 static int listener;
 
-/* Ends the service. All promised leases are saved already. */
+/* Ends the service. Each lease that was answered `yes` is saved already. */
 static void end_by(const char *what, const char *why)
 {
     fprintf(stderr, "leased: %s: %s\n", what, why);
@@ -95,7 +95,7 @@ static void answer(const char *line, FILE *peer)
     fflush(peer);
 }
 
-/* The thread of a client. It answers lines up to one that is too long or does not end. */
+/* The thread of a client. It ends at a line that is too long or has no LF. */
 static void *serve(void *argument)
 {
     char line[512];
@@ -113,7 +113,7 @@ static void *serve(void *argument)
     return NULL;
 }
 
-/* Begins a thread for a client, or closes its connection if the thread cannot be created. */
+/* Starts the thread of a client, or closes the connection if the thread cannot be created. */
 static void serve_apart(int peer, const pthread_attr_t *detached)
 {
     pthread_t thread;
@@ -127,7 +127,7 @@ static void serve_apart(int peer, const pthread_attr_t *detached)
     close(peer);
 }
 
-/* The thread that accepts clients. If the process has no more descriptors it tries again a little later. */
+/* The thread that accepts clients. If `accept` fails, for example because no descriptor is free, it tries again 10 milliseconds later. */
 static void *accept_clients(void *unused)
 {
     const struct timespec pause = {0, 10000000};

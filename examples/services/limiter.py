@@ -1,14 +1,14 @@
 #!/usr/bin/env python3
-"""A rate limiter as a service, for frequent calls: each user may make ten calls at once, and one more every 100 milliseconds.
+"""A rate limiter as a service, for frequent calls. Each user may make ten calls at once, and one more every 100 milliseconds.
 
     limiter.py BASE SOCKET
 
-Each line on the Unix socket is a user, and the answer is `yes LEFT` or `no MILLISECONDS`. The database is saved every second, and when
-SIGTERM or SIGINT ends the service. A kill only forgets the calls that were admitted since the last save.
+Each line on the Unix socket is the name of a user, and the answer is `yes LEFT` or `no MILLISECONDS`. The database is saved every second,
+and when SIGTERM or SIGINT ends the service. A kill loses only the calls that were admitted since the last save.
 
-Users choose their names. If the names were the keys, users could choose names whose hashes agree, which makes BASE.pag as long as possible.
-So a key is a hash of the name with a secret, which is made with the database, in BASE.secret. If you delete that file all users start
-again.
+Users choose their names. If the names were the keys, users could choose names whose hashes agree, and BASE.pag would become as long as
+possible. So a key is the hash of a name with a secret. The service makes the secret in BASE.secret together with the database. If you
+delete BASE.secret, all users start with full buckets.
 """
 
 import contextlib
@@ -28,21 +28,21 @@ sys.path.append(str(HERE.parent.parent / "bindings/python"))
 
 import boddurci
 
-# The milliseconds for one more token, the most tokens, and the tokens of a call.
+# The milliseconds per token, the capacity in tokens, and the cost of a call in tokens.
 RATE = struct.pack("<3Q", 100, 10, 1)
 
-# The most bytes of a user's name.
+# The limit on the bytes of a user's name.
 LONGEST = 1000
 
-# The most bytes of BASE.pag: room for some half a million users, so invented names cannot fill the disk.
+# The limit on the length of BASE.pag, so that invented names cannot fill the disk. It is enough for about half a million users.
 MOST_BYTES = 64 << 20
 
-# The bytes of the secret.
+# The length of the secret in bytes.
 SECRET = 32
 
 
 class Asking(socketserver.StreamRequestHandler):
-    """A client, in a separate thread. A line that is too long or truncated ends the connection."""
+    """The connection of a client, in a separate thread. A line that is too long or has no LF ends the connection."""
 
     def handle(self):
         while True:
@@ -74,7 +74,7 @@ class Limiter(socketserver.ThreadingUnixStreamServer):
 
 def secret_of(base):
     """Returns the secret of a database, and makes it if it is missing. The link is made atomically, so services that start at the same time
-    have one secret. A secret of another length ends the service: with an empty one the hash would have no key."""
+    use the same secret. A secret with a wrong length ends the service, since an empty secret would leave the hash without a key."""
     path = pathlib.Path(base + ".secret")
     if not path.exists():
         number, new = tempfile.mkstemp(prefix=f"{path.name}.", dir=path.parent)
@@ -93,7 +93,7 @@ def secret_of(base):
 
 
 def sync_folder(path):
-    """Makes the names in a folder durable."""
+    """Makes the directory entries of a folder durable."""
     number = os.open(path, os.O_RDONLY | os.O_DIRECTORY)
     try:
         os.fsync(number)

@@ -1,20 +1,20 @@
-/* The store behind Redis's protocol (RESP2): redis-cli and the Redis clients of all languages use it.
+/* A server that speaks Redis's protocol (RESP2), for redis-cli and the Redis clients of any language.
  *
  *     cc -O2 -I ../../out/boddurci respd.c ../../out/boddurci/libboddurci.a -lpthread -o respd
- *     ./respd BASE 6380              listens on this port of 127.0.0.1; --wide before BASE is for wide pages
+ *     ./respd BASE 6380              listens on this port of 127.0.0.1; put --wide before BASE for wide pages
  *     redis-cli -p 6380 incr hits
  *
- * It knows GET, SET (also with NX), SETNX, DEL, EXISTS, INCR, INCRBY, DBSIZE, KEYS PREFIX*, PING, ECHO, QUIT and RUN. It answers what
- * clients send first (COMMAND, CONFIG GET, CLIENT, HELLO, SELECT 0). One thread serves all clients, in rounds. A round executes the
- * commands that have arrived, saves once, and then sends the answers: so a kill of the service loses nothing that was answered. If a save
- * fails, the service ends and sends no answer of that round. SIGTERM ends it after a round.
+ * The commands are GET, SET (with or without NX), SETNX, DEL, EXISTS, INCR, INCRBY, DBSIZE, KEYS PREFIX*, PING, ECHO, QUIT and RUN. The
+ * commands that clients send when they connect (COMMAND, CONFIG GET, CLIENT, HELLO, SELECT 0) have answers too. One thread serves all
+ * clients, in rounds. A round executes the commands that have arrived, saves once, and then sends the answers. So a kill of the service
+ * loses no answered change. If a save fails, the service ends and sends no answer of that round. SIGTERM or SIGINT ends it after a round.
  *
- * Numbers are decimal text, as in Redis, so GET, SET and INCR agree: INCR reads the text, adds, and stores the new text, as one step under
- * the mutex of the base. RUN runs a stock program of docs/PROGRAMS.md, whose records are binary, at the time in seconds. So use a key with
- * RUN or with the other commands, not with both. `RUN lease door 7 30` passes the numbers 7 and 30 with 8 bytes each; a single word after
- * the key is passed as it is. The answer is the code and the reply word.
+ * Numbers are decimal text, as in Redis, so GET and SET work on the numbers of INCR. INCR reads the text, adds, and stores the new text,
+ * as one step under the mutex of the base. RUN runs a stock program of docs/PROGRAMS.md at the time of day in seconds, and answers the code
+ * and the reply word. The records of these programs are binary, so use a key either with RUN or with the other commands.
+ * `RUN lease door 7 30` passes the numbers 7 and 30 as 8 bytes each. If only one word is after the key, its bytes are the argument.
  *
- * Every local user can change the base. If strangers choose its keys, hash them with a secret first, as limiter.py does. */
+ * Every local user can change the base. If untrusted users choose keys, hash the keys with a secret first, as limiter.py does. */
 #define _GNU_SOURCE
 #include <arpa/inet.h>
 #include <boddurci_files.h>
@@ -31,7 +31,7 @@
 #include <time.h>
 #include <unistd.h>
 
-/* A command has at most MOST bytes and less than WORDS words. A client whose answers have MOST bytes waits until they are sent. */
+/* A command has at most MOST bytes and fewer than WORDS words. A client with MOST bytes of unsent answers waits until they are sent. */
 enum { CLIENTS = 1000, MOST = 1 << 20, WORDS = 1024, LINE = 65536 };
 
 struct bytes {
@@ -39,16 +39,16 @@ struct bytes {
     size_t length, room;
 };
 
-/* A word of a command. Its `at` is NULL after the last one. */
+/* A word of a command. After the last word comes one whose `at` is NULL. */
 struct word {
     const uint8_t *at;
     size_t length;
 };
 
-/* `in` has the bytes that are not executed yet, `out` the answers that are not sent yet. */
+/* `in` has the received bytes that are not executed yet, and `out` the answers that are not sent yet. */
 struct client {
     int socket;
-    int ends;  /* close it once its commands are executed and its answers sent */
+    int ends;  /* close it after its commands are executed and its answers are sent */
     int waits; /* `in` may have another command */
     struct bytes in, out;
 };
@@ -67,7 +67,7 @@ static size_t client_count;
 static uint8_t value[BODDURCI_VALUE_MOST], key[BODDURCI_VALUE_MOST];
 static volatile sig_atomic_t is_over;
 
-/* Ends the service. All answers that were sent are saved already. */
+/* Ends the service. The changes of all sent answers are saved already. */
 static void end_by(const char *what, const char *why)
 {
     fprintf(stderr, "respd: %s: %s\n", what, why);
@@ -129,7 +129,8 @@ static int is_text(struct word word, const char *text)
     return word.length == strlen(text) && strncasecmp((const char *)word.at, text, word.length) == 0;
 }
 
-/* Reads a decimal number of 64 bits, without a plus, spaces or leading zeros; a negative one plus 2^64. Returns 0 if it is invalid. */
+/* Reads a decimal number of 64 bits, without a plus, spaces or leading zeros. A negative number is in two's complement. Returns 0 if the
+ * number is invalid. */
 static int number_of(struct word word, int is_signed, uint64_t *number)
 {
     char text[24] = "", again[24];
@@ -160,7 +161,7 @@ static uint32_t store(struct word name, const void *bytes, size_t length, uint32
     return status;
 }
 
-/* SET, with NX if there is a fourth word, and SETNX. */
+/* Executes SET and SETNX. A fourth word must be NX. */
 static void set(struct bytes *out, const struct word *words)
 {
     int is_setnx = is_text(words[0], "SETNX"), if_new = is_setnx || words[3].at != NULL;
@@ -213,7 +214,7 @@ static void dbsize(struct bytes *out, const struct word *words)
     answer(out, ":%zu\r\n", count);
 }
 
-/* Lists the keys with a prefix. It walks over all pairs, and all clients wait. */
+/* Lists the keys with a prefix. All clients wait, since it visits all pairs. */
 static void keys(struct bytes *out, const struct word *words)
 {
     struct bytes found = {NULL, 0, 0};
@@ -274,8 +275,8 @@ static void config(struct bytes *out, const struct word *words)
     answer(out, "%s\r\n", is_log ? "*2\r\n$10\r\nappendonly\r\n$3\r\nyes" : is_save ? "*2\r\n$4\r\nsave\r\n$0\r\n" : "*0");
 }
 
-/* Each command, with the numbers of its words. Those without a function have the answer `text`, if the second word is `second` or that is
- * NULL. */
+/* The commands, with the least and the greatest number of words. An entry applies if `second` is NULL or equals the second word. If
+ * `execute` is NULL, the answer is `text`. */
 static const struct command {
     const char *name;
     size_t least, most;
@@ -305,13 +306,13 @@ static void execute(struct bytes *out, const struct word *words, size_t count)
 
 /* ---- the protocol and the clients */
 
-/* Received bytes, and the fault in them if there is one. */
+/* Received bytes, and a fault in them or NULL. */
 struct request {
     const uint8_t *at, *end;
     const char *fault;
 };
 
-/* Reads the line of a number, as `$3`. Returns 0 if it has not arrived or is invalid. */
+/* Reads a line with a number, such as `$3`. Returns 0 if the line has not arrived or is invalid. */
 static int read_number(struct request *request, uint8_t kind, uint64_t most, const char *fault, uint64_t *number)
 {
     const uint8_t *at = request->at, *line = at < request->end ? memchr(at, '\n', (size_t)(request->end - at)) : NULL;
@@ -326,7 +327,7 @@ static int read_number(struct request *request, uint8_t kind, uint64_t most, con
     return 1;
 }
 
-/* Reads an inline command, a line of words. */
+/* Reads an inline command, which is a line of words. */
 static int read_line(struct request *request, struct word *words, size_t *count)
 {
     const uint8_t *at = request->at, *line = memchr(at, '\n', (size_t)(request->end - at));
@@ -341,13 +342,13 @@ static int read_line(struct request *request, struct word *words, size_t *count)
         if (at > from)
             words[(*count)++] = (struct word){from, (size_t)(at - from)};
     }
-    /* A page in a browser may send commands in the body of a request to this port. */
+    /* A web page could make the browser send an HTTP request to this port, with commands in its body. */
     if (*count != 0 && (is_text(words[0], "POST") || is_text(words[0], "Host:")))
         request->fault = "this is HTTP";
     return request->fault == NULL;
 }
 
-/* Reads a command. Returns 0 if it has not arrived or is invalid. */
+/* Reads a command. Returns 0 if the command has not arrived or is invalid. */
 static int read_request(struct request *request, struct word *words, size_t *count)
 {
     uint64_t number = 0, length = 0;
@@ -402,7 +403,7 @@ static void receive(struct client *client)
         client->ends = 1;
 }
 
-/* Sends as much of the answers of a client as its socket takes. Returns 0 if the client is closed. */
+/* Sends as many bytes of a client's answers as the socket accepts. Returns 0 if it closes the client. */
 static int send_answers(struct client *client)
 {
     ssize_t length = client->out.length == 0 ? 0 : send(client->socket, client->out.at, client->out.length, MSG_NOSIGNAL);

@@ -1,11 +1,12 @@
 #!/usr/bin/env python3
-"""Deletes the buckets of workers.py that are full again, so that a base does not grow by users who have left: a job for cron.
+"""A job for cron: deletes the buckets of workers.py that are full again, so that users who have left take no room in the base.
 
     sweep.py BASE
 
-It runs beside the service, whose calls wait for one step at most. A bucket that is missing is full, so its deletion changes no answer; and
-a call that comes first keeps its bucket, since the test and the deletion are one step. The job prints the number of deleted buckets, and
-adds it to the counter `swept` of the base. A kill in the middle loses nothing else than that sum.
+The job may run while the service runs. Each deletion is one step, so a call of the service waits for at most one of them. A missing bucket
+counts as full, so the deletion of a full bucket changes no answer. The test and the deletion are one step, so no bucket is deleted that a
+call has just used. The job prints the number of deleted buckets, and adds it to the counter `swept` of the base. A kill of the job loses
+only this number.
 """
 
 import pathlib
@@ -16,10 +17,10 @@ sys.path.append(str(pathlib.Path(__file__).resolve().parent.parent.parent / "bin
 
 import boddurci
 
-# The bytes of the key of a bucket. Other keys are not touched.
+# The length of a bucket's key in bytes. Keys with other lengths are left alone.
 KEY = 16
 
-# Deletes a record, whose first number is the time at which the bucket is full, if that is not after now.
+# Deletes a bucket if it is full: its first number is the time at which it is full, and that time is not after the time of the run.
 DELETE_FULL = """
     jlt r2, 8, leave
     ldxdw r6, [r1]
@@ -44,7 +45,7 @@ def main():
             try:
                 count += db.run(program, key, now=time.time_ns() // 1_000_000).end == 2
             except KeyError:
-                pass  # another sweep was faster
+                pass  # another sweep has deleted the bucket
         if count:
             db.counter(b"swept").add(count)
     print(count)

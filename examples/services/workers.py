@@ -1,14 +1,15 @@
 #!/usr/bin/env python3
-"""A rate limiter by several processes, as web servers have them: each user may make ten calls at once, and one more every 100 milliseconds.
+"""A rate limiter that runs in several processes, like a web server. Each user may make ten calls at once, and one more every 100
+milliseconds.
 
     workers.py BASE SOCKET
 
-A parent opens a shared base and a Unix socket, and forks four workers, which answer lines as limiter.py does: a line is a user, and the
-answer is `yes LEFT` or `no MILLISECONDS`. Each answer is sent once its change is on the disk, so a kill of a worker, of the parent or of
-all of them forgets no call. The parent starts a worker again that has ended. SIGTERM or SIGINT ends the service, and workers end with
-their parent. Other processes may use the base at the same time, as sweep.py does.
+A parent opens a shared base and a Unix socket, and forks four workers. They answer lines as limiter.py does: a line is the name of a user,
+and the answer is `yes LEFT` or `no MILLISECONDS`. Each answer is sent after its change is on the disk, so a kill of any or all processes
+loses no answered call. If a worker ends, the parent starts another one. SIGTERM or SIGINT ends the service. If the parent is killed, its
+workers end too. Other processes, such as sweep.py, may use the base at the same time.
 
-A key is a hash of the user with the secret in BASE.secret, as in limiter.py.
+As in limiter.py, a key is the hash of a name with the secret in BASE.secret.
 """
 
 import hashlib
@@ -30,12 +31,12 @@ from limiter import Asking, secret_of
 
 WORKERS = 4
 
-# The cost of a call and the capacity of a bucket, both as the milliseconds that it takes to fill them.
+# The cost of a call and the capacity of a bucket, each in milliseconds of inflow.
 CALL = struct.pack("<2Q", 100, 1000)
 
 
 class Worker(socketserver.ThreadingMixIn, socketserver.BaseServer):
-    """A server on the socket of the parent. Its threads share the object of the database, which each child may use."""
+    """A server on the socket of the parent. All its threads use the database object that the parent opened before the fork."""
 
     daemon_threads, block_on_close = True, False
 
@@ -48,7 +49,7 @@ class Worker(socketserver.ThreadingMixIn, socketserver.BaseServer):
         return self.socket.fileno()
 
     def get_request(self):
-        # Another worker may have been faster.
+        # Raises BlockingIOError if another worker has accepted the connection.
         connection, where = self.socket.accept()
         connection.setblocking(True)
         return connection, where
@@ -66,14 +67,14 @@ class Worker(socketserver.ThreadingMixIn, socketserver.BaseServer):
 
 
 def work(worker, life):
-    """Serves until the parent has ended: it has the other end of the pipe."""
+    """Serves until the parent ends, which closes the other end of the pipe."""
     threading.Thread(target=worker.serve_forever, daemon=True).start()
     os.read(life, 1)
     os._exit(0)
 
 
 def forked(worker, pipe):
-    """Starts a worker, and returns its process."""
+    """Forks a worker, and returns its process id."""
     child = os.fork()
     if child == 0:
         try:
@@ -87,9 +88,9 @@ def forked(worker, pipe):
 
 
 def serve(worker):
-    """Keeps the workers running until a signal comes."""
+    """Replaces workers that end, until SIGTERM or SIGINT arrives."""
     pipe, signals = os.pipe(), (signal.SIGTERM, signal.SIGINT, signal.SIGCHLD)
-    # The signals are blocked, so none comes between two calls.
+    # A blocked signal stays pending until the next sigwait, so no signal is missed.
     signal.pthread_sigmask(signal.SIG_BLOCK, signals)
     children = {forked(worker, pipe) for _ in range(WORKERS)}
     while signal.sigwait(signals) == signal.SIGCHLD:
@@ -97,7 +98,7 @@ def serve(worker):
             if os.waitpid(child, os.WNOHANG)[0] == child:
                 children.remove(child)
                 children.add(forked(worker, pipe))
-    # Calls that are under way are durable or not: nobody has their answer.
+    # The workers may end in the middle of a call: nobody has received its answer.
     os.close(pipe[1])
     for child in children:
         os.waitpid(child, 0)

@@ -1,9 +1,10 @@
-"""Tries the must-fail edits of a proved crate, as many as possible in one check, on the work that its proof has left in out/.
+"""Tries the must-fail edits of a proved crate, as many as possible in one check. Uses the work that the proof of the crate has left in
+out/.
 
-A check continues after a function that it refuses, and names each refused function. Most edits change bodies of functions and no
-contract, so edits of different functions are independent. They are applied together, and an edit is refused if its function is refused.
-An edit is tried by itself in these cases: the check does not name its function, or refuses it only because it calls another refused
-function; the edit changes text outside function bodies; another edit changes the same function.
+A check that refuses a function continues, and names each refused function. Most edits change bodies of functions and no contract, so edits
+of different functions are independent. They are applied together, and an edit is refused if its function is refused. An edit is tried by
+itself in these cases: the check does not name its function, or refuses it only because it calls another refused function; the edit changes
+text outside function bodies; another edit changes the same function.
 """
 
 import re
@@ -45,7 +46,8 @@ def replacements(edit):
 
 
 def owner_of(text, at, file):
-    """Returns the part of a function's name before `::`: type and trait if the function is in an impl, otherwise the module of its file."""
+    """Returns the part of a function's name before `::`: type and trait if the function is in an impl, otherwise the module of its
+    file."""
     open_heads = [it for it in OWNER.finditer(text, 0, at) if "\n}\n" not in text[it.end() : at]]
     if not open_heads:
         return file.rpartition("/")[2][:-3]
@@ -67,7 +69,7 @@ def function_at(text, at, file, crate):
 
 
 def edited(crate, edit, texts):
-    """Applies an edit. Returns the new texts, and the functions whose bodies it changes, with None if it changes anything else."""
+    """Applies an edit. Returns the new texts, and the functions whose bodies it changes. If it changes other text, None is among these."""
     new, functions = dict(texts), set()
     for file, old, text in replacements(edit):
         if file not in new:
@@ -88,8 +90,8 @@ def texts_of(crate):
 
 
 def sorted_out(crate, texts):
-    """Returns the edits that can be tried together, each with its functions; the texts with all of them; the edits to try alone; and the
-    reasons why the rest can't be applied."""
+    """Returns the edits that can be tried together, each with its functions; the texts with all of these edits; the edits to try by
+    themselves; and the reasons why the other edits can't be applied."""
     joined, together, alone, told = texts, {}, [], {}
     for edit in crate.edits:
         try:

@@ -1,17 +1,17 @@
-"""Runs tasks in parallel, each after the tasks that it waits for. Tasks with the longest chain of dependents run first."""
+"""Runs tasks in parallel, each after the tasks that it waits for. Tasks that begin the longest chains run first."""
 
 import concurrent.futures
 import os
 import re
 
-# The usual memory of a check, in bytes; the greatest number of jobs of a task.
+# The usual memory of a check, in bytes; the maximum number of jobs of a task.
 MEMORY = 3_000_000_000
 MOST_JOBS = 4
 
 
 class Task:
-    """A task: its key, the keys of the tasks that it waits for, its estimated seconds, and a call that takes the number of its jobs. A task
-    with `fills` runs only if a place is free."""
+    """A task: its key, the keys of the tasks that it waits for, its estimated seconds, and a function that takes the number of its
+    jobs. A task with `fills` runs only if no other task can use the place."""
 
     def __init__(self, key, waits, seconds, call, fills=False):
         self.key, self.waits, self.seconds, self.call, self.fills = key, waits, seconds, call, fills
@@ -26,10 +26,10 @@ def places():
 
 
 def chains(tasks):
-    """Returns for each key the seconds of the longest chain that begins with its task."""
+    """Returns for each key the seconds of the longest chain of tasks that begins with its task."""
     seconds = {it.key: it.seconds for it in tasks}
     longest = dict(seconds)
-    # The list has each task after those that it waits for.
+    # The list has each task after the tasks that it waits for.
     for task in reversed(tasks):
         for key in task.waits:
             longest[key] = max(longest[key], seconds[key] + longest[task.key])
@@ -37,13 +37,13 @@ def chains(tasks):
 
 
 def jobs_for(task, chain, rest, spare):
-    """Returns the number of jobs of a task: one, plus the places that no other task can use; at least two if the rest ends before its
-    chain."""
+    """Returns the number of jobs of a task, at most MOST_JOBS: one, plus the places that no other task can use; at least two if the other
+    tasks end before its chain. A task with `fills` has one job."""
     return 1 if task.fills else min(MOST_JOBS, max(1 + spare, 1 + (chain > rest)))
 
 
 def run_all(tasks, at_once, given):
-    """Runs the tasks, and stores the result of each in `given` by its key."""
+    """Runs the tasks, and stores the result of each task in `given` under its key."""
     longest = chains(tasks)
     left = sorted(tasks, key=lambda it: (it.fills, -longest[it.key]))
     running = {}

@@ -8,7 +8,7 @@ import tempfile
 
 from rooms import Room
 
-# The verdict of a crate must not have these words: functions of C, values that hide a contract, calls that end the program or never return,
+# Words that the verdict of a crate must not have: functions of C, values that hide a contract, calls that end the program or never return,
 # and failures of the prover.
 REFUSED = ("foreign", "hides", "partial", "may-abort", "may-serve", "bugs")
 SECONDS = 120
@@ -22,7 +22,7 @@ def last_line(said):
 
 
 def beyond(crate, line):
-    """Returns an error if a verdict has anything that a crate must not have, else None."""
+    """Returns an error if a verdict has one of these words, otherwise None."""
     words = dict(word.partition("=")[::2] for word in line.split())
     handles = set(filter(None, words.get("main", "").split("+"))) | ({"Wait"} if "may-wait" in words else set())
     more = [f"{name}={words[name]}" for name in REFUSED if name in words] + sorted(handles - crate.tree.handles)
@@ -52,12 +52,12 @@ def prove(crate, jobs):
 
 
 def date(crate, made):
-    """Sets the time of a crate's result, so that it is newer than the sources, except for sources that were changed meanwhile."""
+    """Sets the time of a crate's result so that it is newer than the sources, except for sources that were changed in the meantime."""
     os.utime(crate.out / made, (crate.tree.began, crate.tree.began))
 
 
 def test(crate, jobs):
-    """Proves the tests of a crate, and runs them as built by both compilers. Returns an error message, or None."""
+    """Proves the tests of a crate, and runs them as both compilers build them. Returns an error message, or None."""
     if crate.has_passed("tests", crate.sum):
         return None
     with Room(crate, "tests") as room:
@@ -108,7 +108,7 @@ def first_difference(wrote, wanted):
 
 
 def run_both(crate, jobs):
-    """Runs a proved program as built by each of the two compilers. Returns an error message, or None."""
+    """Runs a proved program as each of the two compilers builds it. Returns an error message, or None."""
     why = build_otherwise(crate, jobs)
     for name, compiler in ((crate.name, "LLVM"), (f"{crate.name}.by-rattle", "Rattle's own compiler")):
         told = None if why else run(crate, crate.out / name)
@@ -117,7 +117,7 @@ def run_both(crate, jobs):
 
 
 def in_format(crates, rattle):
-    """Returns the output of rt fmt for each crate that has files which rt fmt would change."""
+    """Returns the output of rt fmt for each crate in which rt fmt would change files."""
     found = {}
     for crate in crates:
         files = [str(it) for it in crate.files() if it.suffix in (".rt", ".antt")]

@@ -1,5 +1,5 @@
-"""Rooms: copies of the tree with one crate and those below it, so that checks of several crates run in parallel. In one tree they would
-wait for each other, since rt locks a crate and all crates below it."""
+"""Rooms: copies of the tree with one crate and those below it, so that checks of several crates run in parallel. In one tree the checks
+would wait for each other, since rt locks a crate and all crates below it."""
 
 import fcntl
 import os
@@ -15,7 +15,7 @@ RUNNING, STARTING, SPENT = set(), threading.Lock(), threading.local()
 
 
 def linked(one, other):
-    """Links a file, or copies it if that is impossible. rt replaces such files, and never writes into them."""
+    """Links a file, or copies it if it cannot be linked. rt replaces such files, and never writes into them."""
     try:
         os.link(one, other)
     except OSError:
@@ -23,7 +23,7 @@ def linked(one, other):
 
 
 def linked_work(one, other):
-    """Links or copies a file of work in out/. Only proofs are linked, since other files may be written into."""
+    """Links or copies a file of the work in out/. Only proofs are linked, since rt may write into other files."""
     (linked if str(one).endswith(".oantt") else shutil.copy2)(one, other)
 
 
@@ -36,8 +36,8 @@ def copy_part(one, other, copy):
 
 
 class Room:
-    """A room for one crate. With `takes_out` it takes the crate's own out/, and moves it back at the end. Otherwise it has a copy of the
-    work of checks."""
+    """A room for one crate. With `takes_out` it takes the crate's own out/, and moves it back at the end. Otherwise it has a copy of
+    the work of checks."""
 
     def __init__(self, crate, purpose, takes_out=False):
         self.crate, self.takes_out = crate, takes_out
@@ -78,8 +78,8 @@ class Room:
         shutil.rmtree(self.at, ignore_errors=True)
 
     def rt(self, *words):
-        """Runs rt in the crate's folder, and returns its status and output. If it was killed, most likely for lack of memory, runs it once
-        more."""
+        """Runs rt in the crate's folder, and returns its status and output. If it was killed, probably because memory ran out, runs it
+        once more."""
         for _ in range(2):
             ran, said = start([rt(), *words], self.folder)
             if ran not in (-signal.SIGKILL, 256 - signal.SIGKILL):
@@ -116,7 +116,7 @@ def stop(*_):
 
 
 def lock(tree):
-    """Locks the crates against other runs of rt, once the running ones have ended. Returns the descriptors that hold the locks."""
+    """Waits until running commands of rt have ended, and locks the crates against others. Returns the descriptors that hold the locks."""
     held = [os.open(it.folder, os.O_RDONLY) for it in tree.crates.values()]
     for crate, it in zip(tree.crates.values(), held):
         try:

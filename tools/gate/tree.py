@@ -10,7 +10,7 @@ import shutil
 import subprocess
 import time
 
-# The folders of a crate that a proof reads, and the files that a program's build reads in addition.
+# The folders of a crate that a proof reads, and the files that the build of a program reads in addition.
 SOURCES = ("src", "specs", "proofs", "c")
 NOTED = ("args", "status")
 TEST = re.compile(r"^\s*#\[test\]", re.M)
@@ -40,25 +40,25 @@ class Crate:
 
     @functools.cached_property
     def below(self):
-        """All dependencies, direct and indirect, each after its own dependencies."""
+        """All its dependencies, direct and indirect, each after its own dependencies."""
         found = []
         for crate in self.uses:
             found += [it for it in [*crate.below, crate] if it not in found]
         return found
 
     def files(self):
-        """Returns the files that its proof reads, sorted."""
+        """Returns the files that the crate's proof reads, sorted."""
         found = [path for part in SOURCES for path in (self.folder / part).rglob("*") if path.is_file()]
         return sorted(found + [self.folder / name for name in NOTED if (self.folder / name).is_file()])
 
     @functools.cached_property
     def code(self):
-        """The size of its code in units of 1,000 bytes."""
+        """The size of the crate's code in units of 1,000 bytes."""
         return sum(path.stat().st_size for path in self.files() if path.suffix == ".rt") / 1000
 
     @functools.cached_property
     def load(self):
-        """The estimated seconds of a check that has nothing to prove: it reads the statements of the crates below."""
+        """The estimated seconds of a check that has nothing to prove. It reads the statements of the crates below."""
         return 10 + sum(it.code for it in self.below) / 10
 
     @functools.cached_property
@@ -67,7 +67,7 @@ class Crate:
         return self.load + 5 * self.code
 
     def own_sum(self):
-        """Returns the checksum of its files in their present state."""
+        """Returns the checksum of the crate's files as they are now."""
         told = hashlib.sha256(self.line.encode())
         for path in self.files():
             told.update(f"\n{path.relative_to(self.folder)}\n".encode() + path.read_bytes())
@@ -75,12 +75,12 @@ class Crate:
 
     @functools.cached_property
     def began(self):
-        """The checksum of its files at the first request."""
+        """The checksum of the crate's files when it was first requested."""
         return self.own_sum()
 
     @functools.cached_property
     def sum(self):
-        """The checksum of all inputs of its proof: the kit, the handles, its files and those of the crates below."""
+        """The checksum of all inputs of the crate's proof: the kit, the handles, its files and those of the crates below."""
         return summed(self.tree.kit, self.tree.handles_line, self.began, *[it.sum for it in self.uses])
 
     @functools.cached_property
@@ -88,7 +88,7 @@ class Crate:
         return summed(self.sum, *[f"{it.name}\n{it.read_text(encoding='utf-8')}" for it in self.edits])
 
     def passed(self):
-        """Returns its tasks that have passed, by name, each with the checksums of its inputs and of its results."""
+        """Returns the tasks of the crate that have passed, by name, each with the checksums of its inputs and of its results."""
         try:
             return json.loads((self.out / "passed.json").read_text())
         except (OSError, ValueError):
@@ -101,7 +101,7 @@ class Crate:
         return kept.get("sum") == standing_on and all(file_sum(self.out / name) == it for name, it in made.items())
 
     def note_passed(self, what, standing_on, made=()):
-        """Records that a task has passed, unless its inputs were changed meanwhile. Returns whether it did."""
+        """Records that a task has passed, unless its inputs were changed in the meantime. Returns whether it recorded that."""
         if any(it.own_sum() != it.began for it in [self, *self.below]):
             return False
         with self.tree.noting:

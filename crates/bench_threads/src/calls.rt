@@ -11,7 +11,7 @@ use std::thread::Threads;
 use store_cmd::{Command, Program, SharedCommand};
 use store_shared::{Calls, NoGate, Session, Store};
 
-/// The way a session makes its calls.
+/// The way in which a session makes its calls.
 #[derive(Clone, Copy)]
 pub enum Manner {
     OneByOne,
@@ -29,7 +29,7 @@ pub enum Call {
 // The number of calls in a group.
 const GROUP: usize = 32;
 
-// The largest number of threads at once.
+// The maximum number of threads at once.
 const THREADS: usize = 4;
 
 const VALUE: [u8; 8] = [7, 0, 0, 0, 0, 0, 0, 0];
@@ -82,7 +82,7 @@ struct Caller<'a> {
     call: Call,
 }
 
-// A copy of a call.
+// Clones a call.
 fn another(call: &Call) -> Option<Call> {
     match call {
         Call::Fetch => Some(Call::Fetch),
@@ -126,7 +126,7 @@ fn make_group<R: Wait>(rt: &R, alloc: Global, caller: &mut Caller<'_>) -> Option
     caller.session.call_all(rt, calls, &mut outcomes).ok()
 }
 
-// The calls of sessions. Each session has a separate thread and its key.
+// Makes the calls of all sessions. Each session has its own thread and key.
 fn all_calls<R: Threads + Wait + Sync>(
     rt: &R,
     alloc: Global,
@@ -158,7 +158,7 @@ fn all_calls<R: Threads + Wait + Sync>(
     Some(handed)
 }
 
-/// Makes `count` calls in total with a session for each of these keys. Returns the number of entries.
+/// Makes `count` calls in total, with one session for each key. Returns the number of entries.
 pub fn by_sessions<R: Threads + Wait + Sync>(
     rt: &R,
     alloc: Global,

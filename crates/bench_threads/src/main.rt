@@ -11,12 +11,12 @@
 //! | `grouped CALL COUNT` | one session, 32 calls at once |
 //! | `crowd CALL COUNT` | four sessions in four threads, each on a separate page, 32 calls at once |
 //!
-//! A call is `fetch`, `store`, `run`, which adds 1 to a record of 8 bytes, or `long`, which runs a program of 4,000 instructions. The
-//! answer is the number of entries of the trail in the end. With `time` before it, a line's answer also has the calls a second and the
-//! nanoseconds of a call. Standard input without that word gives the same answers each time.
+//! A call is `fetch`; `store`; `run`, which adds 1 to a record of 8 bytes; or `long`, which runs a program of 4,000
+//! instructions. The answer is the final number of entries of the trail. With `time` before the line, the answer also has the
+//! calls a second and the nanoseconds for each call. Without that word, the same lines always have the same answers.
 //!
-//! `turn PAIRS CALLS` opens a store over PAIRS pairs, makes CALLS fetches by 16 sessions, and closes it. It reports the numbers of pairs
-//! and entries, and with `time` before it the microseconds to open and to close.
+//! `turn PAIRS CALLS` opens a store over PAIRS pairs, makes CALLS fetches by 16 sessions, and closes it. The answer has the
+//! numbers of pairs and entries, and with `time` before the line the microseconds for opening and closing.
 #![tactic(auto)]
 
 mod calls;

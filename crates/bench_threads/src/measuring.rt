@@ -10,7 +10,7 @@ use std::sync::Wait;
 use std::thread::Threads;
 use std::time::Instant;
 
-/// The caller.
+/// The caller of a measurement.
 #[derive(Clone, Copy)]
 enum Callers {
     Desk,
@@ -51,7 +51,7 @@ fn read_call(alloc: Global, word: &str) -> Option<Call> {
     }
 }
 
-// Reads the measurement of a line.
+// Reads a line as a measurement.
 fn read_measurement(alloc: Global, line: &str) -> Option<Measurement> {
     let (callers, rest) = line.split_once(' ')?;
     let (call, count) = rest.split_once(' ')?;
@@ -65,7 +65,7 @@ fn read_measurement(alloc: Global, line: &str) -> Option<Measurement> {
     })
 }
 
-// Makes the calls. Returns the number of entries.
+// Makes the calls of a measurement. Returns the number of entries.
 fn measure<R: Threads + Wait + Sync>(rt: &R, alloc: Global, asked: &Measurement) -> Option<usize> {
     let image = four_pages(alloc)?;
     let call = &asked.call;
@@ -108,7 +108,7 @@ fn show_turn<R: Clock + Wait>(
     )?)
 }
 
-// Reads the numbers of pairs and calls of a turn.
+// Reads the numbers of pairs and calls of a `turn` line.
 fn read_turn(words: &str) -> Option<(usize, usize)> {
     let (count, calls) = words.split_once(' ')?;
     Some((count.parse::<usize>().ok()?, calls.parse::<usize>().ok()?))

@@ -12,7 +12,7 @@ use store_cmd::{Command, Program, SharedCommand};
 /// The keys of the calls, each on a separate page.
 pub const KEYS: [&[u8]; 4] = [b"a", b"b", b"c", b"d"];
 
-// Further keys, which lead to the same pages, in the same order. Two of their values do not fit on one page.
+// Other keys, which lead to the same pages in the same order. Two of their values do not fit on one page.
 const OTHERS: [&[u8]; 4] = [b"e", b"f", b"g", b"h"];
 
 const COUNTER: &str = "jlt r2, 8, +5
@@ -49,7 +49,7 @@ fn long_text(alloc: Global) -> Result<String, AllocError> {
     Ok(text)
 }
 
-/// Arithmetic in a straight line, after which the record is saved unchanged.
+/// A straight line of arithmetic that then saves the record unchanged.
 pub fn long(alloc: Global) -> Option<Program<Global>> {
     let text = long_text(alloc).ok()?;
     accepted(alloc, text.as_str())
@@ -71,7 +71,7 @@ fn insert(alloc: Global, desk: &mut Desk<Global>, key: &[u8], len: usize) -> Opt
     }
 }
 
-// The same for each of these keys.
+// Stores `len` zeros under each of these keys.
 fn fill(alloc: Global, desk: &mut Desk<Global>, keys: &[&[u8]], len: usize) -> Option<()> {
     for key in keys {
         insert(alloc, desk, key, len)?;
@@ -92,7 +92,7 @@ pub fn many_pairs(alloc: Global, count: usize) -> Option<Image<Global>> {
     Some(desk.into_parts().0)
 }
 
-/// A database of four pages, each with a record of 8 zeros and one of 600.
+/// A database of four pages. Each page has one record of 8 zeros and one of 600.
 pub fn four_pages(alloc: Global) -> Option<Image<Global>> {
     let image = Image::empty(alloc, KeyBytes::Signed, PageSize::Small);
     let Ok(mut desk) = Desk::open(alloc, image, 8) else {

@@ -8,10 +8,11 @@ use std::sync::Wait;
 use std::time::Instant;
 use store_shared::{Calls, NoGate, Store};
 
-// The number of sessions that call a store.
+// The number of sessions that call the store.
 const SESSIONS: usize = 16;
 
-/// The number of pairs at the opening of a store, the number of entries when it was closed, and the microseconds to open and to close it.
+/// The number of pairs when a store was opened, the number of entries when it was closed, and the microseconds that opening and
+/// closing took.
 #[derive(Clone, Copy)]
 pub struct Turn {
     pub pairs: usize,

@@ -14,8 +14,8 @@
 //!    log of every answered call in order.
 //! 6. [`Image::write`] writes both files into two [`Sink`]s.
 //!
-//! [`run_jobs`] does steps 3 to 5 for a list of [`Task`]s: workers run one program on the records of many keys. A [`Registry`]
-//! stores programs by number and verifies each distinct program image only once.
+//! [`run_jobs`] does steps 3 to 5 for a list of [`Task`]s: each runs a program on the record of a key. A [`Registry`] stores
+//! programs by number and verifies each accepted program image only once.
 //!
 //! `docs/THREADS.md` is the guide, and `crates/example_threads` is an example service.
 #![tactic(auto)]

@@ -57,12 +57,12 @@ pub record HandleShows (old new : Option Db) (P : Db → Type 0) : Type 0 where
   pub same : new ≡ old
   pub is : P db
 
--- Why nothing is done: the handle is closed, or its database denies the call for a reason of P.
+-- The reason why a call does nothing: the handle is closed, or P denies the call on its database with this status.
 abbrev pub Why : (Db → Status → Type 0) → Option Db → Status → Type 0
 Why P None status = status ≡ Closed
 Why P (Some d) status = P d status
 
--- Nothing is done, for a reason that the status names.
+-- The call does nothing, for the reason that its status names.
 pub record CallDenies (P : Db → Status → Type 0) (old : Option Db) (code : ℕ) (new : Option Db) : Type 0 where
   pub status : Status
   pub code_is : code ≡ status_code status
@@ -86,7 +86,7 @@ pub record DoesCommand (d : Db) (command : Command Global) (reply : Reply Global
   pub base : d'.base ≡ d.base
   pub marks : HasMoreMarks d.marks d'.marks
 
--- a command's size is invalid; or its size is valid, and memory ran out or `.pag` would be too long
+-- A command is denied: its size is invalid; or its size is valid, and memory ran out or `.pag` would be too long.
 abbrev pub DeniesBy : Db → Command Global → Status → Type 0
 DeniesBy d command Done = ⊥
 DeniesBy d command Missing = ⊥
@@ -114,7 +114,7 @@ pub record CallAnswers (command : Command Global) (old : Option Db) (code : ℕ)
   pub code_is : code ≡ status_code (status_of_reply reply)
   pub does : At old new (λ d d'. DoesCommand d command reply d')
 
--- the answer of a call to a command
+-- a call executes the command, or denies it
 abbrev pub CallSays : Command Global → Option Db → ℕ → Option Db → Type 0
 CallSays command old code new = CallAnswers command old code new ⊎ CallDenies (λ d status. DeniesBy d command status) old code new
 
@@ -130,7 +130,7 @@ pub record IsRoomFilled {X : Type 0} (bytes old new : List X) : Type 0 where
   pub filled : take (length bytes) new ≡ bytes
   pub rest : drop (length bytes) new ≡ drop (length bytes) old
 
--- They are written, or the buffer is too short and unchanged. Their number is set either way.
+-- The items are written, or the buffer is too short and unchanged. `len` is the number of items either way.
 abbrev pub IsCopied : {X : Type 0} → List X → List X → List X → ℕ → Status → Type 0
 IsCopied bytes old new len Done = (len ≡ length bytes) × IsRoomFilled bytes old new
 IsCopied bytes old new len Missing = ⊥
@@ -190,7 +190,7 @@ pub record IsSameBesidePrograms (d d' : Db) : Type 0 where
   pub limit : d'.limit ≡ d.limit
   pub base : d'.base ≡ d.base
 
--- a program image gets its number, or is refused for a fault; everything else stays
+-- A program image gets its number, or is refused with a fault. Only the programs may change.
 abbrev pub Submits : List ℕ → Result ProgId RegFault → Db → Db → Type 0
 Submits image (Ok id) d d' = GivesNumber d.registry image id.0 d'.registry × IsSameBesidePrograms d d'
 Submits image (Err fault) d d' = RefusesImage d.registry image fault d'.registry × IsSameBesidePrograms d d'
@@ -202,7 +202,7 @@ status_of_fault (faults.Decode fault) = Refused
 status_of_fault (faults.Verify fault) = Refused
 status_of_fault faults.Full = Refused
 
--- a program image has a number
+-- a program image gets a number
 pub record NumbersProgram (image : List ℕ) (old : Option Db) (code : ℕ) (new : Option Db) (id : ℕ) : Type 0 where
   pub code_is : code ≡ status_code Done
   pub submits : At old new (Submits image (Ok (record { 0 = id })))
@@ -216,7 +216,7 @@ pub record Rejects (image : List ℕ) (old : Option Db) (code : ℕ) (new : Opti
   pub code_is : code ≡ status_code status
   pub text : IsToldAs (status_of_fault fault) (fault_text fault) room_old room_new len status
 
--- the blank of a run
+-- the length of the blank record of a run, if one is given
 abbrev pub blank_for : ℕ → ℕ → Option ℕ
 blank_for has_blank len = cond (has_blank == 0) None (Some len)
 
@@ -226,8 +226,8 @@ pub record RunsBy (number : ℕ) (key arg : List ℕ) (blank : Option ℕ) (now 
   pub there : slice_get d.registry.programs number ≡ Some program
   pub does : DoesCommand d (commands.Run key program.code arg blank now) reply d'
 
--- A run is denied: there is no such program; or otherwise its sizes are invalid; or they are valid, and memory ran out or
--- `.pag` would be too long.
+-- A run is denied: there is no such program; or its sizes are invalid; or its sizes are valid, and memory ran out or `.pag`
+-- would be too long.
 abbrev pub DeniesRun : ℕ → List ℕ → List ℕ → Option ℕ → ℕ → Db → Status → Type 0
 DeniesRun number key arg blank now d Done = ⊥
 DeniesRun number key arg blank now d Missing = ⊥
@@ -251,8 +251,8 @@ DeniesRun number key arg blank now d TooLong =
 DeniesRun number key arg blank now d NoTicket = ⊥
 DeniesRun number key arg blank now d NoStock = ⊥
 
--- a run is not requested: there is no such program; or otherwise its sizes are invalid; or they are valid, and memory ran out.
--- Its result is not known yet, so the reason is never that `.pag` is too long.
+-- A run is not put under a ticket: there is no such program; or its sizes are invalid; or its sizes are valid, and memory ran
+-- out. Its result is not known yet, so the reason is never that `.pag` is too long.
 abbrev pub DeniesAsk : ℕ → List ℕ → List ℕ → Option ℕ → ℕ → Db → Status → Type 0
 DeniesAsk number key arg blank now d Done = ⊥
 DeniesAsk number key arg blank now d Missing = ⊥
@@ -293,8 +293,7 @@ pub record RunsProgram (number : ℕ) (key arg : List ℕ) (blank : Option ℕ) 
 
 -- ---- files
 
--- The bytes of both files are written to their buffers, or one buffer is too short and both are unchanged. Both lengths are set
--- either way.
+-- The bytes of both files are written to their buffers, or one buffer is too short and both are unchanged.
 abbrev pub AreCopied : List ℕ → List ℕ → List ℕ → List ℕ → List ℕ → List ℕ → Status → Type 0
 AreCopied dir pag dir_old dir_new pag_old pag_new Done = IsRoomFilled dir dir_old dir_new × IsRoomFilled pag pag_old pag_new
 AreCopied dir pag dir_old dir_new pag_old pag_new Missing = ⊥
@@ -316,7 +315,7 @@ AreCopied dir pag dir_old dir_new pag_old pag_new TooLong = ⊥
 AreCopied dir pag dir_old dir_new pag_old pag_new NoTicket = ⊥
 AreCopied dir pag dir_old dir_new pag_old pag_new NoStock = ⊥
 
--- The bytes of both files of a database. If the database fits in the longest `.pag`, its `.pag` is no longer than that.
+-- `dir` and `pag` are the files of a database. If the database fits in the longest `.pag`, `pag` is no longer than that.
 pub record HasFiles (dir pag : List ℕ) (d : Db) : Type 0 where
   pub files : AreFiles d.image dir pag
   pub short : FitsFiles d.image → length pag ≤ pag_limit
@@ -344,7 +343,7 @@ pub record ListsChanged (old : Option Db) (code : ℕ) (new : Option Db) (number
   pub code_is : code ≡ status_code status
   pub is : HandleShows old new (λ d. IsCopied d.marks numbers_old numbers_new count status)
 
--- these pages are marked in addition to the earlier ones, and everything else stays
+-- the pages with these numbers are marked in addition to the earlier ones, and everything else stays
 pub record HasMarked (numbers : List ℕ) (d d' : Db) : Type 0 where
   pub image : d'.image ≡ d.image
   pub registry : d'.registry ≡ d.registry
@@ -359,7 +358,7 @@ pub record Remarks (numbers : List ℕ) (old : Option Db) (code : ℕ) (new : Op
 
 -- ---- a limit
 
--- the limit is the number of whole pages in these bytes, and everything else stays
+-- the limit becomes the number of whole pages in the given bytes, and everything else stays
 pub record HasLimit (bytes : ℕ) (d d' : Db) : Type 0 where
   pub limit : d'.limit ≡ bytes / page_bytes d.image.size
   pub image : d'.image ≡ d.image
@@ -384,8 +383,8 @@ kind_for unsigned_keys = cond (unsigned_keys == 0) Signed Unsigned
 abbrev pub size_for : ℕ → PageSize
 size_for wide = cond (wide == 0) Small Wide
 
--- the unique database in the bytes of both files, without programs; its `.pag` may grow to the longest. It is its own base, and
--- the file has each unmarked page exactly as a save would write it.
+-- The opened database is the only one that the bytes of both files spell. It has no programs, it is its own base, and its limit
+-- is the longest `.pag`. The file has each unmarked page exactly as a save would write it.
 pub record IsDbOpened (kind : KeyBytes) (size : PageSize) (dir pag : List ℕ) (d : Db) : Type 0 where
   pub spells : SpellsDatabase d.image dir pag
   pub kind_is : d.image.kind ≡ kind
@@ -397,7 +396,7 @@ pub record IsDbOpened (kind : KeyBytes) (size : PageSize) (dir pag : List ℕ) (
   pub base : d.base.database ≡ d.image
   pub reads : (n : ℕ) → (Contains d.marks n → ⊥) → ReadsPage size pag n (bytes_of_page size (pairs_at d.image n))
 
--- Each whole page of a file that is not marked reads as a save of the database would write it.
+-- Each unmarked whole page of a file reads as a save of the database would write it.
 abbrev pub ReadsUnmarked : Database → List ℕ → List ℕ → Type 0
 ReadsUnmarked db pag marks = (n : ℕ) → n < length pag / page_bytes db.size → (Contains marks n → ⊥) → ReadsPage db.size pag n (bytes_of_page db.size (pairs_at db n))
 
@@ -417,7 +416,7 @@ status_of_open (open_faults.Dir fault) = BadFiles
 status_of_open (open_faults.Misplaced n) = BadFiles
 status_of_open open_faults.NoMemory = NoMemory
 
--- the bytes have a fault, and its text is reported; the handle stays closed
+-- the files have a fault, whose text is reported; the handle stays closed
 pub record Faults (kind : KeyBytes) (size : PageSize) (dir pag : List ℕ) (old : Option Db) (code : ℕ) (new : Option Db) (room_old room_new : List ℕ) (len : ℕ) : Type 0 where
   pub fault : OpenFault
   pub status : Status

@@ -1,4 +1,4 @@
--- A database of which only the page of one key was read, in a handle (own).
+-- A handle with a database of which only the page of one key was read (own).
 use Rattle.std.specs.Prelude.{◌≡◌, ◌⊎◌, ℕ, List, [], Option, Some, None}
 use Rattle.std.specs.Global.{Vec}
 use Rattle.std.specs.Borrow.{Bor}
@@ -10,11 +10,11 @@ use Rattle.boddurci_handles.specs.declared.status.Status.TheVariants.{Done, BadF
 use Rattle.boddurci_handles.specs.Statuses.{status_code}
 use Rattle.boddurci_c.specs.Calls.{At, HandleShows, IsCopied}
 
--- the part that was read
+-- the part of the files that was read
 abbrev pub part_for : Bor (List ℕ) → ℕ → ℕ → Bor (List ℕ) → Part
 part_for directory len number page = record { directory = directory; len = len; number = number; page = page }
 
--- the database is that of the page of a key, and its own base; programs and limit stay
+-- the new database has only the page of a key, and is its own base; programs and limit stay
 pub record HasTurned (key : List ℕ) (part : Part) (d d' : Db) : Type 0 where
   pub opened : IsOpenedPart key part d.image.kind d.image.size d'.image
   pub registry : d'.registry ≡ d.registry
@@ -22,7 +22,7 @@ pub record HasTurned (key : List ℕ) (part : Part) (d d' : Db) : Type 0 where
   pub base : d'.base.database ≡ d'.image
   pub marks : d'.marks ≡ []
 
--- the handle has the database of the page, or that page is not enough and the database stays
+-- the handle has the database of the page; or that page is not enough, and the database is unchanged
 abbrev pub TurnsTo : List ℕ → Part → Db → Status → Db → Type 0
 TurnsTo key part d status d' = ((status ≡ Done) × HasTurned key part d d') ⊎ ((status ≡ BadFiles) × (d' ≡ d))
 
@@ -30,11 +30,11 @@ pub record TurnsPage (key : List ℕ) (part : Part) (old : Option Db) (code : �
   pub code_is : code ≡ status_code Done
   pub is : At old new (HasTurned key part)
 
--- the page is not enough
+-- the page is not enough, or memory ran out
 abbrev pub LacksPages : Db → Status → Type 0
 LacksPages d status = status ≡ BadFiles
 
--- the bytes of a plan, if there is one
+-- the bytes of a plan; no bytes if there is no plan
 abbrev pub bytes_of_plan : Option (Vec ℕ) → List ℕ
 bytes_of_plan None = []
 bytes_of_plan (Some plan) = plan.items
@@ -57,6 +57,6 @@ pub record PlansPageOf (part : Part) (old : Option Db) (code : ℕ) (new : Optio
   pub code_is : code ≡ status_code status
   pub is : HandleShows old new (λ d. PlansPage part d numbers_old numbers_new count room_old room_new len status)
 
--- the page is not enough for a plan
+-- the page is not enough for a plan, or memory ran out
 abbrev pub LacksPlan : Db → Status → Type 0
 LacksPlan d status = status ≡ Stale

@@ -15,25 +15,25 @@ use Rattle.boddurci_handles.specs.Statuses.{status_code}
 use Rattle.boddurci_c.specs.Calls.{At, IsCopied}
 use Rattle.boddurci_handles.specs.Marks.{AreAmong}
 
--- the `.pag` after a plan; unchanged if the plan is empty
+-- the `.pag` after a plan; an empty plan leaves it unchanged
 abbrev pub pages_left : List ℕ → List ℕ → List ℕ
 pages_left [] pag = pag
 pages_left (b ∷ bs) pag = renewed Pages (b ∷ bs) pag
 
--- A plan turns the old files into those of a database, which it knows; or it is empty, and they are those already. If the
--- database fits, the `.pag` is then no longer than the longest.
+-- A plan saves the database over the old files; or the plan is empty, and the old files are already those of the database. If
+-- the database fits, the new `.pag` has at most `pag_limit` bytes.
 pub record IsPlanFor (db : Database) (plan dir pag : List ℕ) : Type 0 where
   pub makes : IsSaving db plan pag dir ⊎ ((plan ≡ []) × AreFilesFor db pag dir)
   pub short : FitsFiles db → length (pages_left plan pag) ≤ pag_limit
 
--- A file of this length has these bytes on the pages with these numbers, page after page, and has every other page as a save of
--- the base would write it. A byte past its end counts as zero.
+-- A `.pag` of this length has the given bytes on the pages with these numbers, page after page. It has every other page as a
+-- save of the base would write it. Bytes past the end of the file count as zeros.
 pub record IsReadBeside (base : Database) (pag_length : ℕ) (numbers pages pag : List ℕ) : Type 0 where
   pub long : length pag ≡ pag_length
   pub reads : ReadPages base.size numbers pages pag
   pub rest : (n : ℕ) → (Contains numbers n → ⊥) → ReadsPage base.size pag n (bytes_of_page base.size (pairs_at base n))
 
--- the plan is valid for each `.pag` that was read like this
+-- the plan is valid for every `.pag` of which these pages were read
 abbrev pub PlansFor : List ℕ → ℕ → List ℕ → List ℕ → Db → List ℕ → Type 0
 PlansFor dir pag_length numbers pages d plan = (pag : List ℕ) → IsReadBeside d.base.database pag_length numbers pages pag → IsPlanFor d.image plan dir pag
 
@@ -45,7 +45,7 @@ pub record IsOwnBase (d d' : Db) : Type 0 where
   pub base : d'.base.database ≡ d.image
   pub marks : d'.marks ≡ []
 
--- each marked page is among the numbers, and the number of bytes is that of these pages
+-- all marked pages are among the numbers, and the number of bytes is that of these pages
 abbrev pub HasRead : Db → List ℕ → List ℕ → Type 0
 HasRead d numbers pages = AreAmong d.marks numbers × (length pages ≡ length numbers * page_bytes d.image.size)
 
@@ -58,8 +58,8 @@ pub record PlansOn (dir : List ℕ) (pag_length : ℕ) (numbers pages : List ℕ
   pub planned : status ≡ Done → IsOwnBase d d'
   pub stays : status ≡ ShortRoom → d' ≡ d
 
--- Why there is no plan: a marked page is not among the numbers, or the number of bytes does not match them; or a file is or
--- would be too long, or there are more numbers than such a file has pages; or memory ran out.
+-- The reason why there is no plan: a marked page is not among the numbers, or the number of bytes is not that of these pages;
+-- or a file is or would be too long, or there are more numbers than the longest `.pag` has pages; or memory ran out.
 abbrev pub DeniesPlan : List ℕ → ℕ → List ℕ → List ℕ → Db → Status → Type 0
 DeniesPlan dir pag_length numbers pages d status =
     ((status ≡ Stale) × ((AreAmong d.marks numbers → ⊥) ⊎ (length pages ≢ length numbers * page_bytes d.image.size)))

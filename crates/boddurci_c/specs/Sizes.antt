@@ -6,11 +6,11 @@ use Rattle.boddurci_handles.specs.declared.status.Status.{Status}
 use Rattle.boddurci_handles.specs.declared.status.Status.TheVariants.{Done, NoMemory}
 use Rattle.boddurci_handles.specs.Statuses.{status_code}
 
--- 1 if they look like that; 0 if not, and then they contain no database of small pages
+-- 1 if the files look like those of a database with small pages; 0 if not, and then they are not those, as `SpellsNoSmall` says
 abbrev pub IsSmallLook : KeyBytes → List ℕ → List ℕ → ℕ → Type 0
 IsSmallLook kind dir pag looks = ((looks ≡ 1) × FileLooksSmall kind dir pag) ⊎ ((looks ≡ 0) × ((FileLooksSmall kind dir pag → ⊥) × SpellsNoSmall kind dir pag))
 
--- that number is set; or memory ran out, and it is unchanged
+-- `looks` is set; or memory ran out, and `looks` is unchanged
 abbrev pub IsLook : KeyBytes → List ℕ → List ℕ → ℕ → ℕ → Status → Type 0
 IsLook kind dir pag looks_old looks status = ((status ≡ Done) × IsSmallLook kind dir pag looks) ⊎ ((status ≡ NoMemory) × (looks ≡ looks_old))
 

@@ -10,23 +10,23 @@ use Rattle.boddurci_handles.specs.declared.status.Status.TheVariants.{NoMemory, 
 use Rattle.boddurci_handles.specs.Statuses.{status_code}
 use Rattle.boddurci_c.specs.Calls.{At, CallDenies, NumbersProgram, Submits, status_of_fault}
 
--- the image is that of the proved code of the stock program with a name
+-- the program image of the stock program with a name
 pub record IsStockImage (name image : List ℕ) : Type 0 where
   pub stock : Stock
   pub named : stock_named name ≡ Some stock
   pub is : IsImage (code_of_stock stock) image
 
--- why there is no image: no stock program has the name, or memory ran out
+-- the reason why there is no image: no stock program has the name, or memory ran out
 abbrev pub DeniesStock : List ℕ → Status → Type 0
 DeniesStock name status = ((status ≡ NoStock) × (stock_named name ≡ None)) ⊎ ((status ≡ NoMemory) × IsSome (stock_named name))
 
--- the program has a number
+-- the stock program gets a number
 pub record NumbersStock (name : List ℕ) (old : Option Db) (code : ℕ) (new : Option Db) (id : ℕ) : Type 0 where
   pub image : List ℕ
   pub stock : IsStockImage name image
   pub numbers : NumbersProgram image old code new id
 
--- the program is refused as `boddurci_submit` refuses its image
+-- the stock program is refused as `boddurci_submit` would refuse its image
 pub record RejectsStock (name : List ℕ) (old : Option Db) (code : ℕ) (new : Option Db) : Type 0 where
   pub image : List ℕ
   pub stock : IsStockImage name image

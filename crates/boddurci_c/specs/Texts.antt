@@ -21,7 +21,7 @@ pub record IsTextAssembled (text image : List ℕ) : Type 0 where
   pub only : IsOnlyCode text code
   pub is_image : IsImage code image
 
--- why a text has no program image
+-- the reason why a text has no program image
 abbrev pub IsTextFault : List ℕ → TextFault → Type 0
 IsTextFault text NotText = ¬ (IsUtf8 text)
 IsTextFault text (Line fault) = IsUtf8 text × (IsLineOf fault.kind fault.line × ((fault.kind ≡ kinds.NoMemory) ⊎ DenotesNone text))
@@ -47,7 +47,7 @@ abbrev pub text_of_fault : TextFault → List ℕ
 text_of_fault NotText = codes "NotText"
 text_of_fault (Line fault) = fault_text fault
 
--- a text has no program image; the line and the text of the fault are reported
+-- the text has no program image; the line and the text of the fault are reported
 pub record Garbles (text : List ℕ) (code : ℕ) (line : ℕ) (room_old room_new : List ℕ) (len : ℕ) : Type 0 where
   pub fault : TextFault
   pub is : IsTextFault text fault

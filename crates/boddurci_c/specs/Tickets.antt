@@ -11,13 +11,13 @@ use Rattle.boddurci_handles.specs.Statuses.{status_code, status_of_reply}
 use Rattle.boddurci_c.specs.Calls.{At, HandleShows, CallDenies, DeniesAsk, DoesCommand, IsRunEnd}
 use Rattle.boddurci_handles.specs.Asked.{Asked, IsAskedOf, DeniesFinish, worked_out}
 
--- the run of the program with a number is requested of a database
+-- a requested run of the program with a number, with the page of its key in the database
 pub record IsRunAsked (number : ℕ) (key arg : List ℕ) (blank : Option ℕ) (now : ℕ) (d : Db) (a : Asked) : Type 0 where
   pub program : Accepted
   pub there : slice_get d.registry.programs number ≡ Some program
   pub asked : IsAskedOf d.image (commands.Run key program.code arg blank now) a
 
--- the run is put under the ticket
+-- the requested run is put under the ticket
 pub record AsksRun (number : ℕ) (key arg : List ℕ) (blank : Option ℕ) (now : ℕ) (old : Option Db) (code : ℕ) (new : Option Db) (ticket : Option Asked) : Type 0 where
   pub code_is : code ≡ status_code Done
   pub asked : Asked
@@ -29,7 +29,7 @@ pub record AsksNot (number : ℕ) (key arg : List ℕ) (blank : Option ℕ) (now
   pub same : ticket_new ≡ ticket_old
   pub denied : CallDenies (DeniesAsk number key arg blank now) old code new
 
--- the run under a ticket is computed; or the ticket is free, or memory ran out, and it is unchanged
+-- the run under the ticket is computed
 pub record Works (old : Option Asked) (code : ℕ) (new : Option Asked) : Type 0 where
   pub asked : Asked
   pub code_is : code ≡ status_code Done
@@ -40,7 +40,7 @@ pub record WorksNot (old : Option Asked) (code : ℕ) (new : Option Asked) : Typ
   pub same : new ≡ old
   pub why : ((code ≡ status_code NoTicket) × (old ≡ None)) ⊎ ((code ≡ status_code NoMemory) × IsSome old)
 
--- the computed run of a ticket is executed as one command on the current database, and the ticket is free
+-- The computed run of a ticket is executed as one command on the current database. The ticket is then free.
 pub record FinishesOn (d : Db) (old : Option Asked) (reply : Reply Global) (d' : Db) (new : Option Asked) : Type 0 where
   pub asked : Asked
   pub old_is : old ≡ Some asked
@@ -48,7 +48,7 @@ pub record FinishesOn (d : Db) (old : Option Asked) (reply : Reply Global) (d' :
   pub does : DoesCommand d asked.command reply d'
   pub free : new ≡ None
 
--- why the run is not finished
+-- the reason why the run of a ticket is not finished
 abbrev pub WhyNot : Option Asked → Db → Status → Type 0
 WhyNot None d status = status ≡ NoTicket
 WhyNot (Some a) d status = DeniesFinish d.limit d.image a status
@@ -59,7 +59,7 @@ pub record FinishesTicket (old : Option Db) (code : ℕ) (new : Option Db) (tick
   pub does : At old new (λ d d'. FinishesOn d ticket_old reply d' ticket_new)
   pub told : IsRunEnd reply end word
 
--- nothing is finished, and the ticket is unchanged
+-- no run is finished, and the ticket is unchanged
 pub record FinishesNot (old : Option Db) (code : ℕ) (new : Option Db) (ticket_old ticket_new : Option Asked) : Type 0 where
   pub same : ticket_new ≡ ticket_old
   pub denied : CallDenies (WhyNot ticket_old) old code new

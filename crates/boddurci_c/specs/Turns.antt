@@ -10,17 +10,17 @@ use Rattle.boddurci_handles.specs.declared.opened.Db.{Db}
 use Rattle.boddurci_handles.specs.Statuses.{status_code}
 use Rattle.boddurci_c.specs.Calls.{AreCopied, HandleShows}
 
--- before the first pair; the end is the number above all pages that have pairs
+-- The cursor is before the first pair. Its end is the lowest number above all pages with pairs.
 pub record IsStart (db : Database) (cursor : Cursor) : Type 0 where
   pub page : cursor.page ≡ 0
   pub pair : cursor.pair ≡ 0
   pub end : IsPageCount db cursor.end
 
--- none of these pages has pairs
+-- no page from `from` up to but not including `end` has pairs
 abbrev pub AreBare : Database → ℕ → ℕ → Type 0
 AreBare db from end = (k : ℕ) → from ≤ k → k < end → pairs_at db k ≡ []
 
--- the first of these pages that has pairs
+-- page n is the first of these pages that has pairs
 pub record IsFirstFrom (db : Database) (from end n : ℕ) : Type 0 where
   pub low : from ≤ n
   pub high : n < end
@@ -39,7 +39,7 @@ pub record IsNextPair (db : Database) (cursor : Cursor) (n i : ℕ) : Type 0 whe
 abbrev pub IsCursorOver : Database → Cursor → Type 0
 IsCursorOver db cursor = (cursor.end ≤ cursor.page) ⊎ ((length (pairs_at db cursor.page) ≤ cursor.pair) × AreBare db (cursor.page + 1) cursor.end)
 
--- after pair i of page n
+-- the cursor after pair i of page n
 abbrev pub cursor_behind : Cursor → ℕ → ℕ → Cursor
 cursor_behind cursor n i = record { page = n; end = cursor.end; pair = i + 1 }
 

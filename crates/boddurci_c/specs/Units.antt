@@ -23,6 +23,6 @@ unit_in (faults.Decode fault) = unit_decoded fault
 unit_in (faults.Verify fault) = place_of fault
 unit_in faults.Full = None
 
--- the number for no unit
+-- the number that means no unit
 abbrev pub nowhere : ℕ
 nowhere = 2 ^ 64 - 1

@@ -23,7 +23,7 @@ use std::sync::Arc;
 use store_cmd::{Command, Program, Reply, check_pair, check_run};
 use store_moves::{key_in, work_at};
 
-// Executes a command about a key, whose size must be valid, if the pages that it puts in keep `.pag` within its limit.
+// Executes a command that has a key and a valid size, unless it would extend `.pag` past its limit.
 fn perform(alloc: Global, db: &mut Db, command: Command<Global>) -> Result<Reply<Global>, Status>
     requires keyed { HasKey command }
     requires small { IsSmall db.old.image.size command }
@@ -90,8 +90,8 @@ pub fn delete(alloc: Global, db: &mut Db, key: &[u8]) -> Result<Reply<Global>, S
     perform(alloc, db, Command::Delete { key })
 }
 
-/// Fetches the value of a key into `room`, and sets its length, even if it does not fit. If the key is missing, both are
-/// unchanged.
+/// Copies the value of a key to `room` if it fits, and sets `len` to its length either way. If the key is missing, `room` and
+/// `len` are unchanged.
 pub fn fetch(db: &Db, key: &[u8], room: &mut [u8], len: &mut usize) -> Status
     ensures { FetchesIn key.now db.now result room.old room.new len.old len.new }
 {

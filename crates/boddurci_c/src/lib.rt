@@ -7,7 +7,6 @@ ghost use Rattle.store_cmd.specs.declared.Command.TheVariants.{Store, Delete};
 ghost use Rattle.boddurci_c.specs.Calls.{CallDenies, Never, CallSays, Fetches, CountsPairs, RunsProgram, DeniesRun, SetsLimit, NumbersProgram, Rejects, WritesFiles, LacksMemory, ListsChanged, Remarks, IsDbOpened, OpensOr, open_word, mode_for, blank_for, kind_for, size_for, empty_registry, status_of_fault, status_of_open};
 ghost use Rattle.boddurci_handles.specs.Pieces.{bytes_read};
 ghost use Rattle.boddurci_c.specs.Readings.{IsSpent, ReadsOr};
-ghost use Rattle.boddurci_c.specs.Sizes.{LooksOr};
 ghost use Rattle.boddurci_c.specs.Stocks.{Stocks};
 ghost use Rattle.boddurci_c.specs.Texts.{Assembles, Garbles};
 ghost use Rattle.boddurci_c.specs.Turns.{CursorBegins, CursorGoesOn};
@@ -40,7 +39,7 @@ use rooms::{copy_both, copy_out, tell};
 use sdbm_addr::{KeyBytes, Mode, PageSize};
 use sdbm_files::{MemSink, OpenFault};
 use sdbm_saves::{Marked, Part};
-use sizes::{look, look_at_reading};
+pub use sizes::{boddurci_looks_small, boddurci_reading_looks_small};
 use std::alloc::Global;
 use stocks::stock_image;
 use store_cmd::Reply;
@@ -49,7 +48,7 @@ use texts::image_of;
 use turns::{Cursor, turn};
 use units::unit_of;
 
-// The mode of a store: replace or keep an existing value.
+// The mode of a store: 0 keeps an existing value, any other number replaces it.
 fn mode_of(replace: u32) -> Mode
     ensures { result ≡ mode_for replace }
 {
@@ -98,8 +97,8 @@ pub extern "C" fn boddurci_delete(alloc: Global, slot: &mut Handle, key: &[u8]) 
     }
 }
 
-/// Fetches the value of a key into `room`, and sets its length, even if it does not fit. If the key is missing, both are
-/// unchanged.
+/// Copies the value of a key to `room` if it fits, and sets `len` to its length either way. If the key is missing, `room` and
+/// `len` are unchanged.
 #[unsafe(no_mangle)]
 pub extern "C" fn boddurci_fetch(
     alloc: Global,
@@ -132,8 +131,8 @@ pub extern "C" fn boddurci_count(alloc: Global, slot: &mut Handle, count: &mut u
     Status::Done.code()
 }
 
-/// Sets the maximum length of `.pag` in bytes that commands may cause. It is rounded down to whole pages; the maximum and the
-/// default are 1 GiB. Existing pages above it stay.
+/// Sets the length in bytes up to which commands may extend `.pag`, rounded down to whole pages. The default is 1 GiB, and a
+/// higher limit has no effect. Existing pages above the limit stay.
 #[unsafe(no_mangle)]
 pub extern "C" fn boddurci_limit(alloc: Global, slot: &mut Handle, bytes: usize) -> u32
     ensures { SetsLimit bytes slot.old.held result slot.new.held ⊎ CallDenies Never slot.old.held result slot.new.held }
@@ -159,7 +158,7 @@ fn fault_status(fault: RegFault) -> Status
     }
 }
 
-/// Submits a program image, and sets its number. If the image is invalid, sets the offending unit and writes the text of the
+/// Submits a program image, and sets its number. If the image is refused, sets the offending unit and writes the text of the
 /// fault to `room`.
 #[unsafe(no_mangle)]
 pub extern "C" fn boddurci_submit(
@@ -225,8 +224,8 @@ pub extern "C" fn boddurci_submit_stock(
     }
 }
 
-/// Assembles the text of a program into `image`, and sets the image's length, even if it does not fit. On a fault, sets its
-/// line and writes its text to `room`.
+/// Assembles the text of a program. Copies its image to `image` if it fits, and sets the length of the image either way. On a
+/// fault, sets `line` to the line of the fault and writes the text of the fault to `room`.
 #[unsafe(no_mangle)]
 pub extern "C" fn boddurci_assemble(
     alloc: Global,
@@ -250,7 +249,7 @@ pub extern "C" fn boddurci_assemble(
     }
 }
 
-// The blank of a run.
+// The length of the blank record of a run, if one is given.
 fn blank_of(has_blank: u32, blank: usize) -> Option<usize>
     ensures { result ≡ blank_for has_blank blank }
 {
@@ -258,8 +257,8 @@ fn blank_of(has_blank: u32, blank: usize) -> Option<usize>
 }
 
 /// Runs the program with a number on the record of a key. If the key is missing and a blank is given, the program runs on that
-/// number of zero bytes. Sets the program's exit number and its reply word; both are 0 after MISSING and CROWDED, and unchanged
-/// after any other refusal.
+/// number of zero bytes. Sets the exit number and the reply word of the program. Both are 0 after MISSING and CROWDED, and
+/// unchanged after any other refusal.
 #[unsafe(no_mangle)]
 pub extern "C" fn boddurci_run(
     alloc: Global,
@@ -291,8 +290,8 @@ pub extern "C" fn boddurci_run(
     }
 }
 
-/// Requests the run that `boddurci_run` would make, with a snapshot of the page of its key, and puts it under a ticket. Nothing
-/// runs yet, so the status is never that `.pag` is too long. Drops any earlier run under the ticket.
+/// Puts the run that `boddurci_run` would make under a ticket, with a snapshot of the page of its key. Nothing runs yet, so the
+/// status is never `TooLong`. Drops any earlier run under the ticket.
 #[unsafe(no_mangle)]
 pub extern "C" fn boddurci_ask(
     alloc: Global,
@@ -358,8 +357,8 @@ fn finish_on(alloc: Global, db: &mut Db, ticket: &mut Ticket) -> Result<Reply<Gl
     }
 }
 
-/// Executes the computed run of a ticket as one step of the current database, if the page of its key is unchanged. Sets the
-/// exit number and reply word like `boddurci_run`. The ticket is then free.
+/// Executes the computed run of a ticket as one step on the current database, if the page of its key is unchanged. Sets the
+/// exit number and the reply word like `boddurci_run`, and frees the ticket. After a refusal, the ticket is unchanged.
 #[unsafe(no_mangle)]
 pub extern "C" fn boddurci_finish(
     alloc: Global,
@@ -410,7 +409,7 @@ pub extern "C" fn boddurci_first(alloc: Global, slot: &mut Handle, cursor: &mut 
     Status::Done.code()
 }
 
-/// Writes the next pair of an iteration to two buffers if both parts fit. Sets both lengths either way.
+/// Copies the next pair of an iteration to two buffers if both the key and the value fit. Sets both lengths even if they do not.
 #[unsafe(no_mangle)]
 pub extern "C" fn boddurci_next(
     alloc: Global,
@@ -433,7 +432,7 @@ pub extern "C" fn boddurci_next(
     status.code()
 }
 
-/// Writes the bytes of both files to buffers if both fit. Sets both lengths.
+/// Writes the bytes of both files of the database to two buffers if both fit. Sets both lengths either way.
 #[unsafe(no_mangle)]
 pub extern "C" fn boddurci_files(
     alloc: Global,
@@ -462,7 +461,7 @@ pub extern "C" fn boddurci_files(
     }
 }
 
-/// Writes to `numbers` the pages that may have changed since the files were opened or since the last plan.
+/// Writes the numbers of the marked pages, which may differ from the file, to `numbers` if they fit. Sets `count` either way.
 #[unsafe(no_mangle)]
 pub extern "C" fn boddurci_changed(
     alloc: Global,
@@ -481,7 +480,7 @@ pub extern "C" fn boddurci_changed(
     status.code()
 }
 
-/// Marks pages as possibly changed. Call it when a plan was not carried out.
+/// Marks pages as possibly changed. Call it if a plan was not carried out.
 #[unsafe(no_mangle)]
 pub extern "C" fn boddurci_mark(alloc: Global, slot: &mut Handle, numbers: &[u32]) -> u32
     ensures { Remarks numbers.now slot.old.held result slot.new.held ⊎ CallDenies LacksMemory slot.old.held result slot.new.held }
@@ -498,10 +497,10 @@ pub extern "C" fn boddurci_mark(alloc: Global, slot: &mut Handle, numbers: &[u32
     }
 }
 
-/// Writes the plan that turns the files into those of the database, if it fits in `room`, and sets its length; the length is 0
-/// if they are equal already. The caller passes the bytes of `.dir`, the length of `.pag`, and the pages with these numbers,
-/// which must include those of `boddurci_changed`; a byte past the end of the file counts as zero. Once the plan is written, no
-/// page counts as changed.
+/// Writes the plan that turns the files into those of the database to `room` if it fits, and sets its length either way. The
+/// plan is empty if the files are already those of the database. The caller passes the bytes of `.dir`, the length of `.pag`,
+/// and the pages with the given numbers, which must include those of `boddurci_changed`. Bytes past the end of `.pag` count as
+/// zeros. Once the plan is written, no page is marked.
 #[unsafe(no_mangle)]
 pub extern "C" fn boddurci_plan(
     alloc: Global,
@@ -530,7 +529,7 @@ pub extern "C" fn boddurci_plan(
     status.code()
 }
 
-// The hash kind and the page size.
+// The hash kind and the page size that two numbers from C mean.
 fn form_of(unsigned_keys: u32, wide: u32) -> (KeyBytes, PageSize)
     ensures kind { result.0 ≡ kind_for unsigned_keys }
     ensures size { result.1 ≡ size_for wide }
@@ -543,7 +542,7 @@ fn form_of(unsigned_keys: u32, wide: u32) -> (KeyBytes, PageSize)
     }
 }
 
-/// The number of the page to which a key leads by the bytes of `.dir`, which may be invalid: `boddurci_open_page` checks it.
+/// Returns the number of the page of a key by the bytes of `.dir`. These may be invalid: `boddurci_open_page` checks the result.
 #[unsafe(no_mangle)]
 pub extern "C" fn boddurci_page_of(
     _alloc: Global,
@@ -555,10 +554,10 @@ pub extern "C" fn boddurci_page_of(
     page_of(dir, kind, key)
 }
 
-/// Replaces the database of an open handle by that of the page of a key, for one command on that key. Its programs and its limit stay. The
-/// caller passes the bytes of `.dir`, the length of `.pag`, and the number and the bytes of the page; a byte past the end of the file
-/// counts as zero. The command has the same reply as on the whole database (`store_parts::same_on_whole`). Returns `BadFiles` if that page
-/// is not enough, or if memory ran out.
+/// Replaces the database of an open handle by one that has only the page of a key, for one command on that key. The command has the
+/// same reply as on the whole database (`store_parts::same_on_whole`). Programs and limit of the handle stay. The caller passes the
+/// bytes of `.dir`, the length of `.pag`, and the number and the bytes of the page; bytes past the end of `.pag` count as zeros.
+/// Returns `BadFiles` if that page is not enough, or if memory ran out.
 #[unsafe(no_mangle)]
 pub extern "C" fn boddurci_open_page(
     alloc: Global,
@@ -585,10 +584,10 @@ pub extern "C" fn boddurci_open_page(
     status.code()
 }
 
-/// Writes the plan that saves the database of a page after its command, if it fits in `room`, and sets its length; the length is 0 if the
-/// files do not change. Writes the numbers of the pages that the plan may write to `numbers`, and sets their number: in the file, all of
-/// these except the page itself have to be zeros. The caller passes the part that it passed to `boddurci_open_page`. Returns `Stale` if
-/// that page is not enough, or if memory ran out.
+/// Writes the plan that saves a database of one page after its command to `room` if it fits, and sets its length. The length is 0 if
+/// the files do not change. Also writes the numbers of the pages that the plan may write to `numbers`, and sets `count`. All of these
+/// pages except the page of the database must be zeros in the file. The caller passes the same part as to `boddurci_open_page`.
+/// Returns `Stale` if that page is not enough, or if memory ran out.
 #[unsafe(no_mangle)]
 pub extern "C" fn boddurci_plan_page(
     alloc: Global,
@@ -619,25 +618,9 @@ pub extern "C" fn boddurci_plan_page(
     status.code()
 }
 
-/// Sets a number to 1 if files to be opened with wide pages look like those of a database with small pages, otherwise to 0.
-/// Such a database may be readable with wide pages by chance, and a change would then destroy it.
-#[unsafe(no_mangle)]
-pub extern "C" fn boddurci_looks_small(
-    alloc: Global,
-    dir: &[u8],
-    pag: &[u8],
-    unsigned_keys: u32,
-    looks: &mut u32,
-) -> u32
-    ensures { LooksOr (kind_for unsigned_keys) dir.now pag.now result looks.old looks.new }
-{
-    let (kind, _) = form_of(unsigned_keys, 0);
-    look(alloc, dir, pag, kind, looks).code()
-}
-
 /// Reads the next piece of a `.pag`. The first piece sets the page size; later pieces do not change it. Returns `BadFiles` if
-/// the earlier pieces end inside a page, and `TooLong` if the total would be 2^63 bytes or more; the reading is then unchanged.
-/// Returns `NoMemory` if out of memory; the reading is then free.
+/// the earlier pieces end inside a page, and `TooLong` if the total would be 2^63 bytes or more; both leave the reading
+/// unchanged. If memory runs out, returns `NoMemory` and frees the reading.
 #[unsafe(no_mangle)]
 pub extern "C" fn boddurci_read(
     alloc: Global,
@@ -657,22 +640,6 @@ pub extern "C" fn boddurci_end_reading(alloc: Global, reading: &mut Reading)
     ensures { reading.new.read ≡ None }
 {
     let _ = reading.take(alloc);
-}
-
-/// Like `boddurci_looks_small`, for a `.pag` that was read in pieces.
-#[unsafe(no_mangle)]
-pub extern "C" fn boddurci_reading_looks_small(
-    alloc: Global,
-    reading: &mut Reading,
-    dir: &[u8],
-    unsigned_keys: u32,
-    looks: &mut u32,
-) -> u32
-    ensures look { LooksOr (kind_for unsigned_keys) dir.now (bytes_read reading.old.read) result looks.old looks.new }
-    ensures same { reading.new.read ≡ reading.old.read }
-{
-    let (kind, _) = form_of(unsigned_keys, 0);
-    look_at_reading(alloc, dir, reading, kind, looks).code()
 }
 
 /// Returns 1 if a handle is open, otherwise 0.
@@ -728,8 +695,8 @@ fn open_status(fault: OpenFault) -> Status
     }
 }
 
-/// Opens a closed handle on the database in the bytes of its files. On a fault, writes its text to a buffer. Empty files are an
-/// empty database.
+/// Opens a closed handle on the database in the bytes of both files. Empty files are an empty database. On a fault, writes the
+/// text of the fault to `room`.
 #[unsafe(no_mangle)]
 pub extern "C" fn boddurci_open(
     alloc: Global,
@@ -756,7 +723,7 @@ pub extern "C" fn boddurci_open(
     }
 }
 
-// Opens a closed handle on the pages of a reading, which is then free.
+// Opens a closed handle on the pages of a reading, and frees the reading.
 fn open_reading_at(
     alloc: Global,
     slot: &mut Handle,
@@ -786,8 +753,8 @@ fn open_reading_at(
     }
 }
 
-/// Opens a closed handle like `boddurci_open`, with a `.pag` that was read in pieces. The reading is then free; after any
-/// refusal it is unchanged. A free reading counts as an empty file.
+/// Like `boddurci_open`, for a `.pag` that was read in pieces. Frees the reading if the handle is opened; otherwise the reading
+/// is unchanged. A free reading counts as an empty file.
 #[unsafe(no_mangle)]
 pub extern "C" fn boddurci_open_reading(
     alloc: Global,

@@ -8,12 +8,12 @@ use boddurci_logs::{LogPlace, close, open, read, save};
 use sdbm_log::LogFiles;
 use std::alloc::Global;
 
-/// Writes the steps that open the log of a base with at least this much room, and the log after them. The steps sync the data
-/// that was read, recover the data files if the redo file has its mark, and make the redo file an empty log. The data files are
-/// needed only if it has the mark.
+/// Writes the steps that open the log of a base, and sets `log` to the log after them, which has at least the given room. The
+/// steps sync the data that was read, recover the data files if the redo file has its mark, and make the redo file an empty log.
+/// `pages` and `directory` are needed only if the redo file has its mark.
 ///
-/// Returns `ShortRoom`, and sets only the lengths, if a buffer is too short; `BadFiles` if the redo file has no plan of these
-/// files; `Stale` if its log is damaged; `TooLong` if the room is over 2^30; or `NoMemory`.
+/// Returns `ShortRoom`, and sets only the lengths, if a buffer is too short; `BadFiles` if the redo file has a plan that is
+/// incomplete or not one of these data files; `Stale` if its log is damaged; `TooLong` if the room is over 2^30; or `NoMemory`.
 #[unsafe(no_mangle)]
 pub extern "C" fn boddurci_log_open(
     alloc: Global,
@@ -37,10 +37,10 @@ pub extern "C" fn boddurci_log_open(
     open(alloc, found, room, log, bytes, bytes_len, words, words_len).code()
 }
 
-/// Writes the steps that bring copies of the data files up to date with the files of a base. There are no steps if the redo
-/// file has no plan.
+/// Writes the steps that make copies of the data files of a base equal to the data files after a recovery. There are no steps if
+/// the redo file has no plan.
 ///
-/// Returns the same statuses as `boddurci_log_open`.
+/// Returns the statuses of `boddurci_log_open` except `TooLong`.
 #[unsafe(no_mangle)]
 pub extern "C" fn boddurci_log_read(
     alloc: Global,
@@ -62,8 +62,8 @@ pub extern "C" fn boddurci_log_read(
     read(alloc, found, bytes, bytes_len, words, words_len).code()
 }
 
-/// Writes the steps of a save in a log, and sets the number of words that commit it and the log after all steps. `bytes` has
-/// room for 18 bytes, followed by the plan; the bytes before the plan are written.
+/// Writes the steps of a save, and sets `log` to the log after all of them. The steps of the first `committed` words commit the
+/// save. `bytes` begins with 18 free bytes, which the call writes, and then has the plan.
 ///
 /// Returns `ShortRoom`, and sets only the lengths, if the buffer for words is too short; `BadFiles` if the bytes are not a
 /// plan; `TooLong` if the plan has 3,000,000,000 bytes or more, or the log ends after 3,000,000,000; or `NoMemory`.
@@ -81,7 +81,7 @@ pub extern "C" fn boddurci_log_save(
     save(alloc, log, bytes, words, words_len, committed).code()
 }
 
-/// Writes the steps that close a log: they sync both data files and clear the mark. They write no bytes of a buffer.
+/// Writes the steps that close a log: they sync both data files and clear the mark. They use no buffer.
 ///
 /// Returns `ShortRoom` if the buffer is too short, or `NoMemory`.
 #[unsafe(no_mangle)]

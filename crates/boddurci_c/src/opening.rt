@@ -17,7 +17,7 @@ use std::alloc::{AllocError, Global};
 // The default limit of a `.pag` in bytes, and the highest limit that takes effect.
 const LONGEST: usize = 1_073_741_824;
 
-/// The database in the bytes of both files, without programs. Its `.pag` may grow to 1 GiB.
+/// Opens the database that the bytes of both files spell, without programs. Its `.pag` may grow to 1 GiB.
 ///
 /// # Errors
 /// Those of `Image::open`.
@@ -103,7 +103,7 @@ fn open_read(
     })
 }
 
-/// The number of whole pages in a file of some bytes.
+/// The number of whole pages in a file of this length.
 pub fn pages_in(bytes: usize, size: PageSize) -> usize
     ensures { result ≡ bytes / page_bytes size }
 {

@@ -11,7 +11,7 @@ use sdbm_saves::Part;
 use std::alloc::Global;
 use store_parts::{open_part, plan_after};
 
-// Returns true if the page has the page size, and the file has whole pages.
+// Returns true if the page has the length of a page, and the file consists of whole pages.
 fn has_whole_pages(part: Part<'_>, size: PageSize) -> bool
     ensures page { result ≡ true → length part.entry.page.now ≡ page_bytes size }
     ensures whole { result ≡ true → part.entry.len % page_bytes size ≡ 0 }
@@ -22,8 +22,8 @@ fn has_whole_pages(part: Part<'_>, size: PageSize) -> bool
     part.len % size.bytes() == 0
 }
 
-/// Replaces the database of a handle by that of the page of a key. Programs and limit stay. Returns `BadFiles` if the page is not enough, or
-/// if memory ran out; the database then stays.
+/// Replaces the database of a handle by one that has only the page of a key. Programs and limit stay. Returns `BadFiles`, and leaves
+/// the database unchanged, if the page is not enough or memory ran out.
 pub fn turn_to(alloc: Global, db: &mut Db, key: &[u8], part: Part<'_>) -> Status
     ensures { TurnsTo key.now part.entry db.old result db.new }
 {
@@ -41,8 +41,8 @@ pub fn turn_to(alloc: Global, db: &mut Db, key: &[u8], part: Part<'_>) -> Status
     Status::Done
 }
 
-/// Writes the plan of the page's database to `room`, and the numbers of the pages that it may write to `numbers`, if they fit. Sets both
-/// lengths. Returns `Stale` if the page is not enough, or if memory ran out; everything then stays.
+/// Writes the plan of a database of one page to `room`, and the numbers of the pages that the plan may write to `numbers`, if they
+/// fit. Sets both lengths. Returns `Stale`, and changes nothing, if the page is not enough or memory ran out.
 pub fn plan_page(
     alloc: Global,
     db: &Db,
@@ -65,7 +65,7 @@ pub fn plan_page(
     both_done(first, copy_out(bytes_in(&plan), room, len))
 }
 
-// The bytes of a plan, or none.
+// The bytes of a plan; no bytes if there is no plan.
 fn bytes_in(plan: &Option<Vec<u8>>) -> &[u8]
     ensures { result.now ≡ bytes_of_plan plan.now }
 {

@@ -8,9 +8,9 @@ use boddurci_handles::{Base, Db, Marks, Status};
 use sdbm_saves::{Marked, SavePlanFault, plan_marked};
 use std::alloc::{AllocError, Global};
 
-/// Writes the plan of a save to `room` if it fits, and sets its length. The plan turns the old files, of which some pages were
-/// read, into those of the database; it is empty if they are equal already. The database then becomes the base, and no page is
-/// marked. If the database fits in the longest `.pag`, the new `.pag` is no longer than that.
+/// Writes the plan of a save to `room` if it fits, and sets its length either way. The plan turns the old files, of which some
+/// pages were read, into those of the database; it is empty if they are already those. Once the plan is written, the database is
+/// its own base, and no page is marked. If the database fits in the longest `.pag`, the new `.pag` is no longer than that.
 pub fn plan(alloc: Global, db: &mut Db, old: Marked<'_>, room: &mut [u8], len: &mut usize) -> Status
     ensures { PlansOn old.entry.directory.now old.entry.len old.entry.numbers.now old.entry.pages.now db.old room.old room.new len.new result db.new
         ⊎ (DeniesPlan old.entry.directory.now old.entry.len old.entry.numbers.now old.entry.pages.now db.old result
@@ -56,7 +56,7 @@ fn plan_of(alloc: Global, db: &Db, old: Marked<'_>) -> Result<Vec<u8>, Status>
     }
 }
 
-// Returns true if each mark is one of some numbers.
+// Returns true if all marked pages are among the numbers.
 fn are_among(alloc: Global, marks: &Marks, numbers: &[u32]) -> Result<bool, AllocError>
     ensures { IfOk result (λ are. IsTrue are ↔ AreAmong marks.now numbers.now) }
 {

@@ -6,7 +6,7 @@ use boddurci_handles::Status;
 use std::alloc::Global;
 use std::fmt::Display;
 
-/// Writes bytes or numbers to the front of a buffer if they fit, and sets their number.
+/// Copies items to the front of a buffer if they fit, and sets `len` to their number either way.
 pub fn copy_out<T: Copy>(items: &[T], room: &mut [T], len: &mut usize) -> Status
     ensures { IsCopied items.now room.old room.new len.new result }
 {

@@ -8,10 +8,10 @@ use bpf_insn::encode;
 use std::alloc::Global;
 use std::fmt;
 
-/// Why a text has no program image. It prints as the fault of `assemble`, or as `NotText`.
+/// The reason why a text has no program image. It prints as the fault of `assemble`, or as `NotText`.
 #[derive(Clone, Copy, Debug, PartialEq, Eq)]
 pub enum TextFault {
-    /// It is not UTF-8.
+    /// The text is not UTF-8.
     NotText,
     /// The text is not a program, or memory ran out.
     Line(AsmFault),

@@ -9,7 +9,7 @@ use boddurci_handles::Status;
 use sdbm_files::Image;
 use std::alloc::Global;
 
-/// The position of an iteration: a page, the number of its pairs already visited, and the number above all pages, at which the
+/// The position of an iteration: a page, the number of pairs of that page already visited, and the page number at which the
 /// iteration ends.
 #[repr(C)]
 #[derive(Clone, Copy)]
@@ -19,7 +19,7 @@ pub struct Cursor {
     pub pair: usize,
 }
 
-// A pair, and the number of pairs of its page visited after it.
+// A pair, and the number of pairs of its page up to and including it.
 #[derive(Clone, Copy)]
 struct Met<'a> {
     key: &'a [u8],
@@ -37,7 +37,7 @@ fn is_bare(image: &Image<Global>, number: u32) -> bool
     }
 }
 
-// Returns true if a page has a pair with an index.
+// Returns true if a page has a pair with the index i.
 fn has_pair(image: &Image<Global>, number: u32, i: usize) -> bool
     ensures { IsTrue result ↔ (i < length (pairs_at image.now number)) }
 {
@@ -47,7 +47,7 @@ fn has_pair(image: &Image<Global>, number: u32, i: usize) -> bool
     }
 }
 
-// The first page with pairs from `from` on and below `end`.
+// The first page that has pairs, from `from` up to but not including `end`.
 fn next_page(image: &Image<Global>, from: u32, end: u32) -> Option<u32>
     ensures some { IfSome result (IsFirstFrom image.now from end) }
     ensures none { IfNone result (AreBare image.now from end) }
@@ -60,7 +60,7 @@ fn next_page(image: &Image<Global>, from: u32, end: u32) -> Option<u32>
     None
 }
 
-// The page and the index of the next pair.
+// The page of the next pair, and the index of the pair in that page.
 fn seek(image: &Image<Global>, cursor: Cursor) -> Option<(u32, usize)>
     ensures some { IfSome result (λ at. IsNextPair image.now cursor at.0 at.1) }
     ensures none { IfNone result (IsCursorOver image.now cursor) }
@@ -96,7 +96,8 @@ fn pair_at(image: &Image<Global>, number: u32, i: usize) -> Met<'_>
     }
 }
 
-/// Writes the next pair to two buffers if both parts fit, and advances the cursor past it. Sets both lengths either way.
+/// Copies the next pair to two buffers if both the key and the value fit, and advances the cursor past it. Sets both lengths even if
+/// they do not fit.
 pub fn turn(
     image: &Image<Global>,
     cursor: &mut Cursor,

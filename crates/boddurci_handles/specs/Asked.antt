@@ -22,16 +22,16 @@ pub record Asked : Type 0 where
   pub page : Content
   pub is_worked : Bool
 
--- the result on that page
+-- the result of the command on the snapshot
 abbrev pub asked_result : Asked → PageResult Global
 asked_result a = works a.place a.kind a.page.size a.page.pairs 0 a.command
 
--- the result was computed, and its program ended
+-- w is the result of the command, whose program ends on the snapshot
 pub record IsWorkedOut (a : Asked) (w : Worked Global) : Type 0 where
   pub is : IsWorked (asked_result a) w
   pub ends : HasEnd a.page.pairs 0 a.command
 
--- it can be computed, and its result, if any, is that
+-- the command can be computed on the snapshot, and `worked`, if there is one, is its result
 pub record IsAskedJob (a : Asked) (worked : Option (Worked Global)) : Type 0 where
   pub workable : IsWorkable a.place a.kind a.page.size a.page.pairs a.command
   pub done : IfSome worked (IsWorkedOut a)
@@ -43,18 +43,18 @@ pub record IsCurrent (db : Database) (a : Asked) : Type 0 where
   pub size : a.page.size ≡ db.size
   pub pairs : a.page.pairs ≡ pairs_at db a.place.page
 
--- a command requested of a database, and not computed yet
+-- a requested command with the current page of its key in a database, not computed yet
 pub record IsAskedOf (db : Database) (command : Command Global) (a : Asked) : Type 0 where
   pub command_is : a.command ≡ command
   pub current : IsCurrent db a
   pub waits : a.is_worked ≡ false
 
--- the same, computed
+-- the requested command after its result was computed
 abbrev pub worked_out : Asked → Asked
 worked_out a = record { command = a.command; place = a.place; kind = a.kind; page = a.page; is_worked = true }
 
--- why a requested command is not finished on a database: it was not computed; or its page has changed; or otherwise `.pag`
--- would be too long, or memory ran out
+-- The reason why a requested command is not finished on a database: it was not computed; or its page has changed; or its page
+-- is unchanged, and `.pag` would be too long or memory ran out.
 abbrev pub DeniesFinish : ℕ → Database → Asked → Status → Type 0
 DeniesFinish limit db a status =
     ((status ≡ NoTicket) × (a.is_worked ≡ false))

@@ -1,4 +1,4 @@
--- The maximum growth of `.pag` (own): the longest that can be written, or a lower limit.
+-- The limit up to which `.pag` may grow (own): the greatest length that can be written, or a lower one.
 use Rattle.std.specs.Prelude.{◌≡◌, ◌≢◌, ◌<◌, ◌&&◌, ◌||◌, ℕ, nat_lt, Bool, true, false, cond, List, [], length, Option, Some, None}
 use Rattle.std.specs.List.{list_all}
 use Rattle.std.specs.declared.alloc.Global.{Global}
@@ -12,7 +12,7 @@ use Rattle.store_cmd.specs.declared.Command.{Command}
 use Rattle.store_moves.specs.Leads.{IsPlaceOf}
 use Rattle.store_moves.specs.Works.{works, key_of}
 
--- true if there are pairs
+-- true if the list of pairs is not empty
 abbrev pub has_pairs : List Pair → Bool
 has_pairs pairs = nat_lt 0 (length pairs)
 
@@ -20,7 +20,7 @@ has_pairs pairs = nat_lt 0 (length pairs)
 abbrev pub most_in : PageSize → ℕ → ℕ
 most_in size limit = cond (nat_lt limit (most_pages size)) limit (most_pages size)
 
--- a page under its number is one of the first `most`, or has no pairs and takes no place
+-- true if the page has no pairs, or its number is below `most`
 abbrev pub has_room : ℕ → ℕ × Content → Bool
 has_room most e = is_bare e.1.pairs || nat_lt e.0 most
 
@@ -28,13 +28,13 @@ has_room most e = is_bare e.1.pairs || nat_lt e.0 most
 abbrev pub FitsWithin : ℕ → Database → Type 0
 FitsWithin most db = (n : ℕ) → pairs_at db n ≢ [] → n < most
 
--- Each page that a change puts in is one of the first `most`. A page that had pairs before has its place already, even above
--- `most`.
+-- True if all pages with pairs that a change puts in are among the first `most`. The page itself may be past them if it had pairs
+-- before (`there`).
 abbrev pub may_grow : ℕ → Bool → ℕ → Option PageChange → Bool
 may_grow most there number None = true
 may_grow most there number (Some change) = (there || has_room most (number, change.leaf)) && list_all (has_room most) change.twins
 
--- the result of a command on the page of its key has a new page that exceeds the limit or the longest `.pag`
+-- the command would put pairs on a page that had none and that is past the limit or past the longest `.pag`
 pub record Outgrows (limit : ℕ) (db : Database) (command : Command Global) : Type 0 where
   pub place : Place
   pub leads : IsPlaceOf db (key_of command) place

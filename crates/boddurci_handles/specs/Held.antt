@@ -1,5 +1,5 @@
--- The ownership of a handle: nothing if it is null; otherwise the box of an open database. Likewise a ticket owns the box of a
--- job, and a reading the box of pieces.
+-- A handle owns nothing if it is null, and otherwise the box of an open database. Likewise a ticket owns the box of a job, and a
+-- reading the box of pieces.
 use Rattle.std.specs.Prelude.{Option, Some, None}
 use Rattle.std.specs.Coded.{Coded, coded_option}
 use base.Fml.{Fml, feq}
@@ -18,7 +18,7 @@ abbrev pub held_at : Global → Ptr → Option Db → Fml
 held_at a p None = feq Ptr p null_ptr
 held_at a p (Some db) = box_owns (ghosts.dealloc_token a) the_row p db
 
--- the code of a handle's contents
+-- the coding of the contents of a handle
 abbrev pub coded_held : Coded (Option Db)
 coded_held = coded_option the_row.coded
 
@@ -26,7 +26,7 @@ abbrev pub asked_at : Global → Ptr → Option Job → Fml
 asked_at a p None = feq Ptr p null_ptr
 asked_at a p (Some job) = box_owns (ghosts.dealloc_token a) job_row p job
 
--- the code of a ticket's contents
+-- the coding of the contents of a ticket
 abbrev pub coded_asked : Coded (Option Job)
 coded_asked = coded_option job_row.coded
 
@@ -34,6 +34,6 @@ abbrev pub read_at : Global → Ptr → Option Pieces → Fml
 read_at a p None = feq Ptr p null_ptr
 read_at a p (Some pieces) = box_owns (ghosts.dealloc_token a) pieces_row p pieces
 
--- the code of a reading's contents
+-- the coding of the contents of a reading
 abbrev pub coded_read : Coded (Option Pieces)
 coded_read = coded_option pieces_row.coded

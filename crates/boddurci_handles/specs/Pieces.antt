@@ -7,7 +7,7 @@ use Rattle.boddurci_handles.specs.declared.pieces.Pieces.{Pieces}
 use Rattle.boddurci_handles.specs.declared.status.Status.{Status}
 use Rattle.boddurci_handles.specs.declared.status.Status.TheVariants.{Done, BadFiles, NoMemory, TooLong}
 
--- the part of the file read so far; the first piece begins a file with pages of this size
+-- the part of the file read so far; before the first piece, an empty file with pages of this size
 abbrev pub read_so_far : PageSize → Option Pieces → PagRead
 read_so_far size None = record { size = size; bytes = [] }
 read_so_far size (Some pieces) = pieces.pages
@@ -22,7 +22,7 @@ pub record MayFollow (read : PagRead) (piece : List ℕ) : Type 0 where
   pub whole : length read.bytes % page_bytes read.size ≡ 0
   pub short : length read.bytes + length piece < 2 ^ 63
 
--- why a piece may not follow
+-- the reason why a piece may not follow
 abbrev pub DeniesPiece : PagRead → List ℕ → Status → Type 0
 DeniesPiece read piece status =
     ((status ≡ BadFiles) × (length read.bytes % page_bytes read.size ≢ 0)) ⊎ ((status ≡ TooLong) × (2 ^ 63 ≤ length read.bytes + length piece))

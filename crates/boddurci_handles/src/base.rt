@@ -17,7 +17,7 @@ impl Model for Base {
 }
 
 impl Base {
-    /// Records the current database.
+    /// Records the current database as the base.
     pub fn of(image: &Image<Global>) -> Base
         ensures { result.database ≡ image.now }
     {
@@ -32,5 +32,5 @@ impl Drop for Base {
     }
 }
 
-// It has no bytes, so it may move to another thread.
+// A base has no bytes, so it may move to another thread.
 unsafe impl Send for Base {}

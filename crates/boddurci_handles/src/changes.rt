@@ -26,7 +26,7 @@ use std::sync::Arc;
 use store_cmd::Reply;
 use store_moves::{RunInput, act_run, act_store, put_in, ran};
 
-// Returns true if a page to be put in under a number has no pairs, and neither had that number.
+// Returns true if the new page has no pairs, and the page that it replaces has none either.
 fn stays_bare(image: &Image<Global>, number: u32, page: &SharedPage<Global>) -> bool
     ensures { result ≡ true → page.now.pairs ≡ pairs_at image.now number }
 {
@@ -36,7 +36,7 @@ fn stays_bare(image: &Image<Global>, number: u32, page: &SharedPage<Global>) -> 
     !has_pairs(image, number)
 }
 
-// Marks the pages whose pairs a change replaces: the page with this number, and its twins.
+// Marks the pages whose pairs a change replaces: the page with this number, and its twins that do not stay empty.
 fn mark_change(
     image: &Image<Global>,
     marks: &mut Marks,
@@ -59,7 +59,7 @@ fn mark_change(
     Ok(())
 }
 
-/// Puts in the change of a place's page like `put_in`, and marks the pages whose pairs change.
+/// Puts the change of a page into the database like `put_in`, and marks the pages whose pairs change.
 ///
 /// # Errors
 /// `AllocError` if out of memory. Nothing is changed, and the plan is returned.
@@ -92,8 +92,8 @@ pub fn put_marked(
 }
 
 /// Stores a pair like `act_store`, marks its page, and returns true if it was stored. Returns `false` and changes nothing if
-/// `act_store` does, or if there is no memory for the mark. A page without pairs is not marked, so the marks take no more
-/// memory than `.pag` has pages.
+/// `act_store` returns false, if there is no memory for the mark, or if the page has no pairs. So only pages with pairs are
+/// marked, and there are no more marks than pages in `.pag`.
 pub fn store_there(
     image: &mut Image<Global>,
     marks: &mut Marks,
@@ -125,7 +125,7 @@ pub fn store_there(
 }
 
 /// Runs a program on a record in place like `act_run`, marks its page, and returns the reply. Returns `None` and changes
-/// nothing if `act_run` does, or if there is no memory for the mark. A page without pairs is not marked, as in `store_there`.
+/// nothing if `act_run` returns `None`, if there is no memory for the mark, or if the page has no pairs, as in `store_there`.
 pub fn run_there(
     image: &mut Image<Global>,
     marks: &mut Marks,

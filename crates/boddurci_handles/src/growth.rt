@@ -34,8 +34,8 @@ pub fn most_pages(size: PageSize, limit: usize) -> u32
     most
 }
 
-/// Returns true if each page that a change puts in is one of the first `most`. A page with pairs before the change (`there`)
-/// has its place already, and a page without pairs takes none.
+/// Returns true if all pages with pairs that a change puts in are among the first `most`. The page itself may be past them if it
+/// had pairs before the change (`there`).
 pub fn may_grow(most: u32, there: bool, number: u32, change: &Option<Plan<Global>>) -> bool
     ensures { result ≡ may_grow most there number (option_map change_of change.now) }
 {
@@ -47,7 +47,7 @@ pub fn may_grow(most: u32, there: bool, number: u32, change: &Option<Plan<Global
     }
 }
 
-/// Returns true if the page with a number has pairs.
+/// Returns true if the page with this number has pairs.
 pub fn has_pairs(image: &Image<Global>, number: u32) -> bool
     ensures { result ≡ has_pairs (pairs_at image.now number) }
 {
@@ -57,7 +57,7 @@ pub fn has_pairs(image: &Image<Global>, number: u32) -> bool
     }
 }
 
-/// Returns true if there is a page and it has pairs.
+/// Returns true if a page is given and has pairs.
 pub fn lends_pairs(page: Option<&Page<Global>>) -> bool
     ensures { result ≡ has_pairs (pairs_lent page.entry) }
 {
@@ -67,14 +67,14 @@ pub fn lends_pairs(page: Option<&Page<Global>>) -> bool
     }
 }
 
-// Returns true if the page under a number is one of the first `most`, or has no pairs.
+// Returns true if a page has no pairs, or its number is below `most`.
 fn has_room(most: u32, number: u32, page: &SharedPage<Global>) -> bool
     ensures { result ≡ has_room most (number, page.now) }
 {
     page.page().is_empty() || number < most
 }
 
-// Like `has_room`, for each of some pages under their numbers.
+// Returns true if `has_room` is true for every twin.
 fn have_room(most: u32, twins: &[(u32, SharedPage<Global>)]) -> bool
     ensures { result ≡ list_all (has_room most) twins.now }
 {

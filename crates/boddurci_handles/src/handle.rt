@@ -9,7 +9,7 @@ use crate::opened::Db;
 use std::alloc::Global;
 use std::marker::Model;
 
-/// A database as seen by C: closed, or the owner of an open one. It is a single pointer, which is null if the handle is closed.
+/// A handle of C, which is closed or owns an open database. It is a single pointer, which is null if the handle is closed.
 #[repr(C)]
 pub struct Handle {
     at: *mut u8,

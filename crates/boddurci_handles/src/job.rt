@@ -46,8 +46,8 @@ impl Model for Job {
 }
 
 impl Job {
-    /// Requests a command about a key; `check_sizes` must accept it for the page size of the database. The page is shared, not
-    /// copied.
+    /// Makes a job for a command that has a key. `check_sizes` must accept the command for the page size of the database. The
+    /// page is shared, not copied.
     ///
     /// # Errors
     /// `AllocError` if the page's owner count is at its maximum.
@@ -68,7 +68,7 @@ impl Job {
         })
     }
 
-    /// Computes the command's result from the snapshot of the page; touches nothing else. Repeating it gives the same result.
+    /// Computes the result of the command from the snapshot, and changes only the job. Repeating it gives the same result.
     ///
     /// # Errors
     /// `AllocError` if there is no memory for the reply or for the changed pages. The job is unchanged.
@@ -104,12 +104,12 @@ impl Job {
         self.page.is_still(image, place.page)
     }
 
-    /// Executes the command as one step of a database in which the page of its key is unchanged. The `.pag` may have `limit`
-    /// pages.
+    /// Executes the command as one step of a database in which the page of its key is unchanged. `limit` is the maximum number
+    /// of pages of `.pag`.
     ///
     /// # Errors
     /// `NoTicket` if the job was not computed; `Changed` if the page has changed; `TooLong` if `.pag` would have more pages
-    /// than the limit or the format allows; otherwise `NoMemory`. The database and the job are unchanged.
+    /// than the limit or the format allows; `NoMemory` if memory ran out. The database and the job are unchanged.
     pub fn finish(
         &mut self,
         image: &mut Image<Global>,
@@ -156,7 +156,7 @@ impl Job {
         }
     }
 
-    // Puts the result in, which must be within the limit.
+    // Puts the result into the database. It must be within the limit.
     fn put(
         &mut self,
         image: &mut Image<Global>,

@@ -46,14 +46,14 @@ impl Marks {
         }
     }
 
-    /// The numbers.
+    /// The numbers, in order of insertion.
     pub fn as_slice(&self) -> &[u32]
         ensures { result.now ≡ self.now }
     {
         self.numbers.as_slice()
     }
 
-    /// Returns true if the set has a number.
+    /// Returns true if the set contains a number.
     pub fn has(&self, number: u32) -> bool
         ensures { IsTrue result ↔ Contains self.now number }
     {
@@ -82,7 +82,7 @@ impl Marks {
         Ok(())
     }
 
-    /// Adds each of some numbers that is not in the set.
+    /// Adds those of the numbers that are not in the set.
     ///
     /// # Errors
     /// `AllocError` if out of memory. The set is unchanged.

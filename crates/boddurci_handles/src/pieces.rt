@@ -19,8 +19,8 @@ pub struct Pieces {
 
 /// Reads the next piece of a `.pag`. The first piece sets the page size; later pieces do not change it.
 ///
-/// Returns `BadFiles` if the earlier pieces end inside a page, and `TooLong` if the total would be 2^63 bytes or more; the
-/// reading is then unchanged. Returns `NoMemory` if out of memory; the reading then has no pieces.
+/// Returns `BadFiles` if the earlier pieces end inside a page, and `TooLong` if the total would be 2^63 bytes or more; both
+/// leave the reading unchanged. If memory runs out, returns `NoMemory`, and the reading has no pieces.
 pub fn read_piece(alloc: Global, reading: &mut Reading, size: PageSize, piece: &[u8]) -> Status
     ensures { ReadsPiece size piece.now reading.old.read reading.new.read result }
 {

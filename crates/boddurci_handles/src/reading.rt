@@ -9,8 +9,8 @@ use crate::pieces::Pieces;
 use std::alloc::Global;
 use std::marker::Model;
 
-/// A `.pag` being read by C: free, or the owner of the pieces read. It is a single pointer, which is null if the reading is
-/// free.
+/// A reading of C, which is free or owns the pieces of a `.pag` that were read. It is a single pointer, which is null if the
+/// reading is free.
 #[repr(C)]
 pub struct Reading {
     at: *mut u8,

@@ -5,7 +5,7 @@ ghost use Rattle.boddurci_handles.specs.Statuses.{status_code, status_of_reply, 
 use std::alloc::Global;
 use store_cmd::{Reply, SizeFault};
 
-/// The status of a call: success, a fact about the database, or why nothing was done.
+/// The status of a call: success, a fact about the database, or the reason why nothing was done.
 #[derive(Clone, Copy, Debug, PartialEq, Eq)]
 pub enum Status {
     /// Success: found, stored, deleted, counted, run, numbered, opened, written, requested or computed.
@@ -22,17 +22,17 @@ pub enum Status {
     Refused,
     /// The text is not a program.
     BadText,
-    /// The bytes of the files are not a database.
+    /// The bytes of the files are not a database, or lack something that the call needs.
     BadFiles,
     /// The page of the key has changed since the run was requested.
     Changed,
-    /// A page that may have changed was not read for a plan, or the number of page bytes does not match the page numbers.
+    /// The pages that were read for a plan are not enough or do not match their numbers, or a log is damaged.
     Stale,
     /// The handle is closed.
     Closed,
     /// The handle is already open.
     Open,
-    /// The key plus the value or the blank is longer than a pair may be.
+    /// The key with the value, or with the blank, is longer than a pair may be.
     PairTooLarge,
     /// The argument of a run is longer than the limit.
     ArgTooLong,
@@ -40,7 +40,7 @@ pub enum Status {
     NoProgram,
     /// Out of memory.
     NoMemory,
-    /// `.pag` would be longer than can be written; or, of a plan, a file has 2^32 bytes or more.
+    /// `.pag` would be longer than its limit, or another length is above the limit of its call.
     TooLong,
     /// The ticket has no job, or its job is not computed.
     NoTicket,

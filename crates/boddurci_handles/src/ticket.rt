@@ -9,7 +9,7 @@ use crate::loose::Loose;
 use std::alloc::Global;
 use std::marker::Model;
 
-/// A requested run as seen by C: free, or the owner of a job. It is a single pointer, which is null if the ticket is free.
+/// A ticket of C, which is free or owns the job of a requested run. It is a single pointer, which is null if the ticket is free.
 #[repr(C)]
 pub struct Ticket {
     at: *mut u8,

@@ -15,16 +15,16 @@ use Rattle.boddurci_handles.specs.declared.status.Status.TheVariants.{Done, Shor
 use Rattle.boddurci_logs.specs.declared.place.LogPlace.{LogPlace}
 use Rattle.boddurci_logs.specs.Words.{words_of}
 
--- items are written to the front of a buffer
+-- the items are at the front of the buffer, and the rest of it is unchanged
 abbrev pub IsFilled : {X : Type 0} → List X → List X → List X → Type 0
 IsFilled items old new = (length items ≤ length old) × (new ≡ items ++ drop (length items) old)
 
--- a buffer and steps were written
+-- a buffer and the words of steps are at the front of the two buffers of the caller
 pub record AreHandedOut (buffer : List ℕ) (steps : List Step) (bytes_old bytes_new words_old words_new : List ℕ) : Type 0 where
   pub bytes : IsFilled buffer bytes_old bytes_new
   pub words : IsFilled (words_of steps) words_old words_new
 
--- a buffer and steps do not fit
+-- a buffer or the words of steps do not fit
 abbrev pub AreTooMany : List ℕ → List Step → List ℕ → List ℕ → Type 0
 AreTooMany buffer steps bytes words = (length bytes < length buffer) ⊎ (length words < length (words_of steps))
 
@@ -34,12 +34,12 @@ files_in pages directory redo = record { pages = pages; directory = directory; r
 abbrev pub log_at : LogPlace → Log
 log_at place = record { end = place.end; room = place.room; count = place.count }
 
--- an image that was read as `found`: its redo file, and, if that has its mark, both data files
+-- The image agrees with what was read as `found`: in its redo file, and in both data files if the redo file has its mark.
 pub record ReadsLike (found image : Image) : Type 0 where
   pub redo : image.redo ≡ found.redo
   pub both : get_or found.redo 0 0 ≡ 1 → files image ≡ files found
 
--- steps that open the log that was read, with the log after them; it has at least this much room
+-- The steps open the log that was read. The log after them is empty and has at least the requested room.
 pub record AreOpenSteps (found : Image) (room : ℕ) (buffer : List ℕ) (steps : List Step) (log : LogPlace) : Type 0 where
   pub can : (image : Image) → ReadsLike found image → CanRecover image
   pub calls : (image : Image) → ReadsLike found image → AreOpenCalls image log.room (acts_of buffer steps)
@@ -47,15 +47,15 @@ pub record AreOpenSteps (found : Image) (room : ℕ) (buffer : List ℕ) (steps 
   pub end : log.end ≡ 0
   pub count : log.count ≡ 0
 
--- steps that make copies of the data files according to what was read
+-- the steps make copies of the data files equal to the data files after a recovery
 abbrev pub AreReadSteps : Image → List ℕ → List Step → Type 0
 AreReadSteps found buffer steps = CanRecover found × ((image : Image) → ReadsLike found image → CanDo (acts_of buffer steps) image × (files (seen_after (acts_of buffer steps) image) ≡ files_of image))
 
--- steps of a save of a plan in a log, with the log after them; the first words are those that commit it
+-- The steps save a plan in a log, and `new` is the log after them. The `commit` steps commit the save, the `apply` steps apply it.
 pub record AreSaveSteps (plan : List ℕ) (old new : LogPlace) (buffer : List ℕ) (commit apply : List Step) : Type 0 where
   pub calls : AreSaveCalls (log_at old) (log_at new) plan (acts_of buffer commit) (acts_of buffer apply)
 
--- A buffer and steps are written if both fit; their lengths are set either way.
+-- A buffer and the words of steps are written if both fit. Both lengths are set, unless memory ran out.
 pub record HandsOut (buffer : List ℕ) (steps : List Step) (bytes_old bytes_new : List ℕ) (bytes_len : ℕ) (words_old words_new : List ℕ) (words_len : ℕ) (status : Status) : Type 0 where
   pub done : status ≡ Done → AreHandedOut buffer steps bytes_old bytes_new words_old words_new
   pub untouched : status ≢ Done → (bytes_new ≡ bytes_old) × (words_new ≡ words_old)
@@ -63,7 +63,7 @@ pub record HandsOut (buffer : List ℕ) (steps : List Step) (bytes_old bytes_new
   pub told : status ≢ NoMemory → (bytes_len ≡ length buffer) × (words_len ≡ length (words_of steps))
   pub only : (status ≡ Done) ⊎ ((status ≡ ShortRoom) ⊎ (status ≡ NoMemory))
 
--- The answer about steps that open a log.
+-- The answer of a call for the steps that open a log.
 pub record OpenAnswer (found : Image) (room : ℕ) (log_old log_new : LogPlace) (bytes_old bytes_new : List ℕ) (bytes_len : ℕ) (words_old words_new : List ℕ) (words_len : ℕ) (status : Status) : Type 0 where
   pub done : status ≡ Done → (buffer : List ℕ) × (steps : List Step) × (AreOpenSteps found room buffer steps log_new
       × (AreHandedOut buffer steps bytes_old bytes_new words_old words_new × ((bytes_len ≡ length buffer) × (words_len ≡ length (words_of steps)))))
@@ -72,7 +72,7 @@ pub record OpenAnswer (found : Image) (room : ℕ) (log_old log_new : LogPlace) 
   pub refused : (status ≡ BadFiles) ⊎ (status ≡ Stale) → CanRecover found → ⊥
   pub too_long : status ≡ TooLong → 2 ^ 30 < room
 
--- The answer about steps for a reader.
+-- The answer of a call for the steps of a reader.
 pub record ReadAnswer (found : Image) (bytes_old bytes_new : List ℕ) (bytes_len : ℕ) (words_old words_new : List ℕ) (words_len : ℕ) (status : Status) : Type 0 where
   pub done : status ≡ Done → (buffer : List ℕ) × (steps : List Step) × (AreReadSteps found buffer steps
       × (AreHandedOut buffer steps bytes_old bytes_new words_old words_new × ((bytes_len ≡ length buffer) × (words_len ≡ length (words_of steps)))))
@@ -80,7 +80,7 @@ pub record ReadAnswer (found : Image) (bytes_old bytes_new : List ℕ) (bytes_le
   pub short : status ≡ ShortRoom → (length bytes_old < bytes_len) ⊎ (length words_old < words_len)
   pub refused : (status ≡ BadFiles) ⊎ (status ≡ Stale) → CanRecover found → ⊥
 
--- The answer about steps of a save. The plan follows the first 18 bytes, and the steps write bytes of the buffer.
+-- The answer of a call for the steps of a save. The plan follows the first 18 bytes, and the steps write bytes of the buffer.
 pub record SaveAnswer (log_old log_new : LogPlace) (bytes_old bytes_new words_old words_new : List ℕ) (words_len committed : ℕ) (status : Status) : Type 0 where
   pub done : status ≡ Done → (commit : List Step) × (apply : List Step) × (AreSaveSteps (drop 18 bytes_old) log_old log_new bytes_new commit apply
       × (IsFilled (words_of commit ++ words_of apply) words_old words_new × ((committed ≡ length (words_of commit)) × (words_len ≡ length (words_of commit ++ words_of apply)))))
@@ -90,7 +90,7 @@ pub record SaveAnswer (log_old log_new : LogPlace) (bytes_old bytes_new words_ol
   pub refused : status ≡ BadFiles → (length bytes_old < 18) ⊎ (IsPlan (drop 18 bytes_old) → ⊥)
   pub too_long : status ≡ TooLong → (3000000018 ≤ length bytes_old) ⊎ (3000000000 < log_old.end)
 
--- The answer about steps that close a log.
+-- The answer of a call for the steps that close a log.
 pub record CloseAnswer (words_old words_new : List ℕ) (words_len : ℕ) (status : Status) : Type 0 where
   pub done : status ≡ Done → (steps : List Step) × (IsFilled (words_of steps) words_old words_new × ((words_len ≡ length (words_of steps)) × ((buffer : List ℕ) → acts_of buffer steps ≡ close_acts)))
   pub untouched : status ≢ Done → words_new ≡ words_old

@@ -1,5 +1,5 @@
-//! The log of a base, for C: the calls on its files that open it, save in it, close it, or read its contents. This crate only
-//! lists the calls; the exports are in `boddurci_c`.
+//! Lists the file operations with which C opens the log of a base, saves in the log, closes it, or reads it. The exports for C
+//! are in `boddurci_c`.
 #![tactic(auto)]
 
 mod opening;

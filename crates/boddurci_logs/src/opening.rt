@@ -1,4 +1,4 @@
-//! Steps that open a log, and the steps of a reader.
+//! The steps that open a log, and the steps with which a reader applies a log to copies of the data files.
 ghost use Rattle.std.specs.Prelude.{◌≡◌};
 ghost use Rattle.boddurci_logs.specs.Answers.{OpenAnswer, ReadAnswer};
 ghost use Rattle.sdbm_log.specs.Saving.{image_in};
@@ -11,7 +11,7 @@ use sdbm_log::{LogFiles, open_steps, read_steps};
 use std::alloc::Global;
 use std::marker::Brand;
 
-// The maximum room that may be requested.
+// The maximum room for records that a caller may request.
 const MOST_ROOM: usize = 1 << 30;
 
 /// Writes the steps that open a log.
@@ -44,7 +44,7 @@ pub fn open(
     }
 }
 
-/// Writes the steps for a reader.
+/// Writes the steps with which a reader brings copies of the data files up to date.
 pub fn read(
     alloc: Global,
     found: LogFiles<'_>,

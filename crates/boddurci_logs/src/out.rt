@@ -8,7 +8,7 @@ use boddurci_handles::Status;
 use sdbm_log::Step;
 use std::alloc::Global;
 
-/// Writes items to the front of a buffer if they fit, and sets their number.
+/// Copies items to the front of a buffer if they fit, and sets `len` to their number either way.
 pub fn copy_out<T: Copy>(items: &[T], room: &mut [T], len: &mut usize) -> Status
     ensures done { result ≡ Done → IsFilled items.now room.old room.new }
     ensures untouched { result ≢ Done → room.new ≡ room.old }
@@ -24,7 +24,7 @@ pub fn copy_out<T: Copy>(items: &[T], room: &mut [T], len: &mut usize) -> Status
     Status::Done
 }
 
-/// Writes a buffer and the words of steps if both fit, and sets their lengths.
+/// Copies bytes and the words of steps to two buffers if both fit. Sets both lengths, unless memory runs out.
 pub fn hand_out(
     alloc: Global,
     made: (&[u8], &[Step]),
@@ -52,7 +52,7 @@ pub fn hand_out(
     Status::Done
 }
 
-/// Writes two lists of words in sequence to the front of a buffer if they fit, and sets their number.
+/// Copies two lists of words, one after the other, to the front of a buffer if they fit, and sets `len` to their number.
 pub fn copy_joined(first: &[u64], rest: &[u64], room: &mut [u64], len: &mut usize) -> Status
     ensures done { result ≡ Done → IsFilled (first.now ++ rest.now) room.old room.new }
     ensures untouched { result ≢ Done → room.new ≡ room.old }

@@ -15,7 +15,7 @@ pub struct LogPlace {
 }
 
 impl LogPlace {
-    /// The place of a log.
+    /// Makes the place from a log.
     pub fn of(log: Log) -> LogPlace
         ensures { log_at result ≡ log }
     {
@@ -26,7 +26,7 @@ impl LogPlace {
         }
     }
 
-    /// The log of a place.
+    /// Makes the log from its place.
     pub fn log(&self) -> Log
         ensures { result ≡ log_at self.now }
     {

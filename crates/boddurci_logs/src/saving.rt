@@ -11,13 +11,13 @@ use sdbm_saves::is_plan;
 use std::alloc::Global;
 use std::marker::Brand;
 
-// A plan is shorter than this, and the records of a log end here at the latest.
+// A plan must be shorter than this, and before a save the records of the log must end here at the latest.
 const MOST_BYTES: usize = 3_000_000_000;
 
 // The offset of the plan in the bytes of a save.
 const PLAN_AT: usize = 18;
 
-/// Writes the steps of a save. The plan follows the first 18 of these bytes.
+/// Writes the steps of a save. `bytes` begins with 18 free bytes, and the plan follows them.
 pub fn save(
     alloc: Global,
     log: &mut LogPlace,

@@ -9,7 +9,7 @@ use sdbm_log::{LogFault, Step};
 use sdbm_saves::DiskFile;
 use std::alloc::{AllocError, Global};
 
-/// The words of steps: for each its kind, its file, its offset in the file, its offset in the buffer, and a length.
+/// The words of steps. The five words of a step are its kind, its file, its offset in the file, its offset in the buffer, and a length.
 pub fn words_of(alloc: Global, steps: &[Step]) -> Result<Vec<u64>, AllocError>
     ensures { IfOk result (λ words. words.items ≡ words_of steps.now) }
 {

@@ -15,11 +15,11 @@ units (Some (Mark name)) = 0
 units (Some (Plain i)) = units_of i
 units (Some (Aimed i name)) = units_of i
 
--- the number of units above the line at a place; places count from 0
+-- the number of units above line i; lines are counted from 0
 abbrev pub units_above : List (Option Meaning) → ℕ → ℕ
 units_above ms i = sum_by units (take i ms)
 
--- the line at this place is the label
+-- line i is the label with this name
 abbrev pub MarksAt : List (Option Meaning) → List ℕ → ℕ → Type 0
 MarksAt ms name i = slice_get ms i ≡ Some (Some (Mark name))
 
@@ -27,19 +27,19 @@ MarksAt ms name i = slice_get ms i ≡ Some (Some (Mark name))
 abbrev pub Once : List (Option Meaning) → Type 0
 Once ms = (i j : ℕ) (name : List ℕ) → MarksAt ms name i → MarksAt ms name j → i ≡ j
 
--- a label has this number: the number of units above it
+-- `place` is the number of units above the label with this name
 abbrev pub Stands : List (Option Meaning) → List ℕ → ℕ → Type 0
 Stands ms name place = (i : ℕ) × MarksAt ms name i × (place ≡ units_above ms i)
 
--- a jump with this distance
+-- a jump with this distance; any other instruction is unchanged
 abbrev pub with_distance : Insn → ℤ → Insn
 with_distance (insns.Branch t w d s n) m = insns.Branch t w d s m
 with_distance (insns.Jump n) m = insns.Jump m
 with_distance (insns.JumpFar n) m = insns.JumpFar m
 with_distance i m = i
 
--- The instructions of a line that begins at the unit `own`, among the lines `ms`. A jump to a label goes forward from the next unit to
--- the label's number.
+-- `here` are the instructions of a line that begins at the unit `own`, among the lines `ms`. A jump to a label goes forward by the number
+-- of units from the next unit to the label.
 abbrev pub Yields : List (Option Meaning) → ℕ → Option Meaning → List Insn → Type 0
 Yields ms own None here = ⊥
 Yields ms own (Some Blank) here = here ≡ []
@@ -47,7 +47,7 @@ Yields ms own (Some (Mark name)) here = here ≡ []
 Yields ms own (Some (Plain i)) here = here ≡ i ∷ []
 Yields ms own (Some (Aimed i name)) here = (distance : ℕ) × Stands ms name (own + 1 + distance) × (here ≡ with_distance i (pos distance) ∷ [])
 
--- the code of the lines `below`; the first of them begins at the unit `own`
+-- the code of some consecutive lines of `ms`, of which the first begins at the unit `own`
 abbrev pub Gives : List (Option Meaning) → ℕ → List (Option Meaning) → List Insn → Type 0
 Gives ms own [] code = code ≡ []
 Gives ms own (m ∷ below) code = (here : List Insn) × (rest : List Insn) × Yields ms own m here × (code ≡ here ++ rest) × Gives ms (own + units m) below rest
@@ -70,6 +70,6 @@ Denotes text code = Says (meanings text) code
 abbrev pub DenotesNone : List ℕ → Type 0
 DenotesNone text = (code : List Insn) → Denotes text code → ⊥
 
--- each code that the text denotes is this one
+-- the text denotes no other code
 abbrev pub IsOnlyCode : List ℕ → List Insn → Type 0
 IsOnlyCode text code = (other : List Insn) → Denotes text other → other ≡ code

@@ -19,19 +19,19 @@ Labels = BTreeMap (Bor (List ℕ)) Definition
 abbrev pub definition_of : Labels → List ℕ → Option Definition
 definition_of labels name = get_by (λ k. slice_cmp nat_cmp name k.now) labels
 
--- The labels of the lines before a place. Each defined name has one of the lines that define it, and its number.
+-- The table defines a label of the first n lines on a line that is this label, with the number of units above that line.
 abbrev pub IsTableBelow : List (Option Meaning) → ℕ → Labels → Type 0
 IsTableBelow ms n labels = (name : List ℕ) → MatchOption (definition_of labels name)
     ((i : ℕ) → i < n → MarksAt ms name i → ⊥)
     (λ d. MarksAt ms name d.line × (d.unit ≡ units_above ms d.line))
 
--- the labels of all lines
+-- the same for the labels of all lines
 abbrev pub IsTableOf : List (Option Meaning) → Labels → Type 0
 IsTableOf ms labels = (name : List ℕ) → MatchOption (definition_of labels name)
     ((i : ℕ) → MarksAt ms name i → ⊥)
     (λ d. MarksAt ms name d.line × (d.unit ≡ units_above ms d.line))
 
--- if the line is a label, it is the one in the table
+-- if the line is a label, the table defines it on this line
 abbrev pub IsDefinition : Labels → ℕ → Option Meaning → Type 0
 IsDefinition labels at None = ⊤
 IsDefinition labels at (Some Blank) = ⊤
@@ -39,7 +39,7 @@ IsDefinition labels at (Some (Mark name)) = IfSome (definition_of labels name) (
 IsDefinition labels at (Some (Plain i)) = ⊤
 IsDefinition labels at (Some (Aimed i name)) = ⊤
 
--- the line at this place adds these instructions to the code, in any text with these labels
+-- in every text with these labels, line `at` appends these instructions to the code
 pub record Emits (labels : Labels) (at : ℕ) (m : Option Meaning) (old new : List Insn) : Type 0 where
   pub here : List Insn
   pub more : new ≡ old ++ here
@@ -53,12 +53,12 @@ abbrev pub Refuses : Labels → ℕ → Option Meaning → List Insn → Type 0
 Refuses labels at m old = (ms : List (Option Meaning)) → IsTableOf ms labels → slice_get ms at ≡ Some m → Once ms
     → unit_count old + units m ≤ unit_limit → (here : List Insn) → Yields ms (unit_count old) m here → ⊥
 
--- A label is added to the table, unless it is already in it.
+-- A label is added to the table, unless the table has it already.
 pub record Defines (old new : Labels) (name : List ℕ) (d : Definition) : Type 0 where
   pub own : definition_of new name ≡ Some (unwrap_or (definition_of old name) d)
   pub others : (other : List ℕ) → bytes_eq name other ≡ false → definition_of new other ≡ definition_of old other
 
--- the same for a line, if it is a label
+-- if the line is a label, it is added like this; any other line adds no label
 abbrev pub Records : Labels → Labels → Option Meaning → Definition → Type 0
 Records old new None d = (name : List ℕ) → definition_of new name ≡ definition_of old name
 Records old new (Some Blank) d = (name : List ℕ) → definition_of new name ≡ definition_of old name
@@ -66,6 +66,6 @@ Records old new (Some (Mark name)) d = Defines old new name d
 Records old new (Some (Plain i)) d = (name : List ℕ) → definition_of new name ≡ definition_of old name
 Records old new (Some (Aimed i name)) d = (name : List ℕ) → definition_of new name ≡ definition_of old name
 
--- no text with these labels has this line and no repeated label
+-- each text with these labels and this line defines some label twice
 abbrev pub IsSecond : Labels → ℕ → Option Meaning → Type 0
 IsSecond labels at m = (ms : List (Option Meaning)) → IsTableOf ms labels → slice_get ms at ≡ Some m → Once ms → ⊥

@@ -15,7 +15,7 @@ kind_text Label = codes "Label"
 kind_text Backward = codes "Backward"
 kind_text TooLong = codes "TooLong"
 
--- a kind after its line number; `NoMemory` has no line
+-- the name of a kind of fault after its line number; `NoMemory` has no line
 abbrev pub at_line : ℕ → FaultKind → List ℕ
 at_line line NoMemory = kind_text NoMemory
 at_line line kind = codes "line " ++ (decimal line ++ (codes ": " ++ kind_text kind))

@@ -163,7 +163,7 @@ meaning_of_body body = if length body == 0 then Some Blank
 unfoldable pub meaning : List ℕ → Option Meaning
 meaning line = meaning_of_body (trimmed (uncommented line))
 
--- the instruction of a line is one of the instruction table
+-- if the line has an instruction, that is in the instruction table
 abbrev pub HasSpellingIn : Option Meaning → Type 0
 HasSpellingIn None = ⊤
 HasSpellingIn (Some Blank) = ⊤

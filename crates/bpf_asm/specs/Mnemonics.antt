@@ -17,7 +17,7 @@ use Rattle.bpf_asm.specs.declared.row.TheConstants.{ROWS}
 
 -- ---- parts of names
 
--- an operation; empty if the size is part of its name
+-- the name of an operation; empty if its mnemonic contains a size
 abbrev pub op_name : Op → List ℕ
 op_name Add = codes "add"
 op_name Sub = codes "sub"
@@ -59,14 +59,14 @@ size_letters Half = codes "h"
 size_letters Word = codes "w"
 size_letters Double = codes "dw"
 
--- the number of bits of a part
+-- a size in bits
 abbrev pub size_digits : Size → List ℕ
 size_digits Byte = codes "8"
 size_digits Half = codes "16"
 size_digits Word = codes "32"
 size_digits Double = codes "64"
 
--- `32` after an operation of 32 bits
+-- the name of an operation, with `32` after it at 32 bits
 abbrev pub with_width : Op → Width → List ℕ
 with_width (MovSx n) w = []
 with_width (Little n) w = []
@@ -104,7 +104,7 @@ name_of rows.Exit = codes "exit"
 unfoldable pub row_named : List ℕ → Option Row
 row_named name = find (λ r. bytes_eq (name_of r) name) ROWS
 
--- the parts of a number that a sign-extending move takes at a width
+-- the sizes from which a move sign-extends at a width
 abbrev pub is_part : Size → Width → Bool
 is_part Byte w = true
 is_part Half w = true
@@ -116,7 +116,7 @@ abbrev pub takes_number : Op → Bool
 takes_number (MovSx n) = false
 takes_number op = takes_operand op
 
--- the operation of a row is in the instruction table, at its width
+-- the operation of a row is in the instruction table at this width
 abbrev pub is_row : Row → Bool
 is_row (rows.Arith op w) = takes_number op
 is_row (rows.SignMove n w) = is_part n w

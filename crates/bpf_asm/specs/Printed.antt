@@ -38,7 +38,7 @@ abbrev pub operation_row : Op → Width → Row
 operation_row (MovSx n) w = rows.SignMove n w
 operation_row op w = rows.Arith op w
 
--- the row that names an instruction
+-- the row with the mnemonic of an instruction
 abbrev pub row_for : Insn → Row
 row_for (insns.Alu op w d s) = operation_row op w
 row_for (insns.Unary op w d) = rows.Unary op w
@@ -76,7 +76,7 @@ operands_text (insns.Wide d n) = codes " " ++ pair_text (register_text d) (long_
 abbrev pub insn_text : Insn → List ℕ
 insn_text i = name_of (row_for i) ++ operands_text i
 
--- the same with its line feed
+-- the line of an instruction: its text and a line feed
 abbrev pub line_text : Insn → List ℕ
 line_text i = insn_text i ++ (10 ∷ [])
 

@@ -2,7 +2,7 @@
 use Rattle.std.specs.Prelude.{ℕ, ◌-◌, ◌==◌, ◌||◌, Bool, List, length, take, drop}
 use Rattle.std.specs.List.{slice_split, before_first, prefix_len, suffix_len}
 
--- The lines, separated by line feeds: one more than the number of line feeds (own).
+-- The lines of a text, separated by line feeds. There is one more line than line feeds (own).
 abbrev pub lines : List ℕ → List (List ℕ)
 lines text = slice_split (λ b. b == 10) text
 

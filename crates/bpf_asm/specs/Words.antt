@@ -14,7 +14,7 @@ abbrev pub Gives : {X Y E : Type 0} → (X → Y) → Result X E → Option Y �
 Gives view (Ok x) o = o ≡ Some (view x)
 Gives view (Err e) o = o ≡ None
 
--- the same for a number; one above the machine's greatest is an error
+-- the same for a number, except that a number of 2 ^ 64 or more is an error
 abbrev pub GivesUnlessLarge : {E : Type 0} → Result ℕ E → Option ℕ → Type 0
 GivesUnlessLarge (Ok n) o = o ≡ Some n
 GivesUnlessLarge (Err e) o = IfSome o (λ n. 2 ^ 64 ≤ n)
@@ -43,7 +43,7 @@ is_hex ds = (slice_index ds 0 == 48) && (slice_index ds 1 == 120)
 unfoldable pub magnitude : List ℕ → Option ℕ
 magnitude ds = if is_hex ds then numeral 16 (drop 2 ds) else numeral 10 ds
 
--- the same, with an optional '-'
+-- a decimal or hex number, with an optional '-' before it
 unfoldable pub number : List ℕ → Option ℤ
 number bs = if slice_index bs 0 == 45 then option_map (λ n. neg_ℤ (pos n)) (magnitude (drop 1 bs)) else option_map pos (magnitude bs)
 
@@ -81,7 +81,7 @@ far bs = distance bs >>= within (neg_ℤ (pos 2147483648)) (pos 2147483647)
 abbrev pub is_name_start : ℕ → Bool
 is_name_start c = (nat_le 97 c && nat_le c 122) || (c == 95)
 
--- the same, or a digit
+-- `a` to `z`, `_`, and digits
 abbrev pub is_name_part : ℕ → Bool
 is_name_part c = is_name_start c || (nat_le 48 c && nat_le c 57)
 

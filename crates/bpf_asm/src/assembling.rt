@@ -19,7 +19,7 @@ use crate::text::cut;
 use bpf_insn::{Code, Insn, UNIT_LIMIT};
 use std::alloc::{AllocError, Allocator};
 
-/// An instruction with another distance to its target.
+/// Returns a jump with this distance to its target; returns any other instruction unchanged.
 fn with_distance(insn: Insn, distance: i16) -> Insn
     ensures value { result ≡ with_distance insn distance }
     ensures has { HasSpelling insn → HasSpelling result }
@@ -47,7 +47,7 @@ fn with_distance(insn: Insn, distance: i16) -> Insn
     }
 }
 
-/// The distance from the unit after `own` to a later one. It may be truncated if the text has more units than a code can have.
+/// The distance from the unit after `own` to a later one, clamped to `i16::MAX`, which no distance in a code of 4,096 units exceeds.
 fn distance(own: usize, target: usize) -> i16
     requires { own < target }
     ensures { target ≤ unit_limit → result ≡ pos (target - (own + 1)) }
@@ -60,7 +60,7 @@ fn distance(own: usize, target: usize) -> i16
     }
 }
 
-/// The instruction of a line that begins at the unit `own`, if it has one.
+/// The instruction of a line, which begins at the unit `own`. `None` if the line has no instruction.
 fn resolved<'a, A: Allocator>(
     labels: &Labels<'a, A>,
     own: usize,
@@ -86,7 +86,7 @@ fn resolved<'a, A: Allocator>(
     }
 }
 
-/// If a line is a label, returns true only if it is the one in the table.
+/// Returns true unless the line is a label that the table does not define on this line.
 fn is_definition<'a, A: Allocator>(labels: &Labels<'a, A>, at: usize, line: &Line<'a>) -> bool
     ensures { MatchBool result (IsDefinition labels.now at (view_line line.now)) (IsSecond labels.now at (view_line line.now)) }
 {
@@ -99,7 +99,7 @@ fn is_definition<'a, A: Allocator>(labels: &Labels<'a, A>, at: usize, line: &Lin
     }
 }
 
-/// Adds the instruction of the line at a place, if it has one.
+/// Appends the instruction of line `at`, if it has one.
 fn emit_line<'a, A: Allocator, B: Allocator>(
     code: &mut Code<A>,
     labels: &Labels<'a, B>,
@@ -147,7 +147,7 @@ fn emit<'a, A: Allocator, B: Allocator>(
     Ok(code)
 }
 
-/// Reads each line.
+/// Reads all lines of a text.
 fn read_lines<A: Allocator>(alloc: A, text: &[u8]) -> Result<Vec<Line<'_>, A>, AllocError>
     ensures value { IfOk result (λ v. map view_line v.items ≡ meanings text.now) }
     ensures spelled { IfOk result (λ v. All (λ l. HasSpellingIn (view_line l)) v.items) }
@@ -164,14 +164,14 @@ fn read_lines<A: Allocator>(alloc: A, text: &[u8]) -> Result<Vec<Line<'_>, A>, A
 
 /// Assembles a text to the only code that it denotes.
 ///
-/// Each line is blank, a label or an instruction, with an optional comment after `;`. A jump to a label goes from the next unit to the
-/// number of units above the label.
+/// Each line is blank, a label or an instruction, with an optional comment after `;`. The distance of a jump to a label is the number of
+/// units between the jump and the label.
 ///
 /// # Errors
-/// `NoMemory` if memory runs out. All other errors mean that the text denotes no code. They report the first invalid line, counted from
-/// 1, and on one line the first of these: `Mnemonic`, `Operand`, `Number`, `Label`, `Backward` and `TooLong`.
+/// `NoMemory` if memory runs out. Every other error means that the text denotes no code. It names the first invalid line, counted from 1,
+/// and the first of these faults that the line has: `Mnemonic`, `Operand`, `Number`, `Label`, `Backward` and `TooLong`.
 ///
-/// Labels are looked up in a map sorted by name, so no choice of labels makes a text slow.
+/// The labels are in a map sorted by name, so no choice of label names makes a text slow to assemble.
 pub fn assemble<A: Allocator + Copy>(alloc: A, text: &str) -> Result<Code<A>, AsmFault>
     ensures ok { IfOk result (Denotes text.now) }
     ensures only { IfOk result (IsOnlyCode text.now) }

@@ -8,8 +8,8 @@ use crate::printing::write_line;
 use bpf_insn::Code;
 use std::alloc::{AllocError, Allocator};
 
-/// The text of a code, one instruction a line; `assemble` gives the code again. Numbers are in signed decimal, constants of 64 bits in
-/// hex, and distances in units with their sign. The only error is out of memory.
+/// Prints a code as text, one instruction a line. `assemble` turns the text back into the code. Numbers are in signed decimal, constants of
+/// 64 bits in hex, and distances in units with their sign. The only error is that memory ran out.
 pub fn disassemble<A: Allocator, B: Allocator>(
     alloc: A,
     code: &Code<B>,

@@ -7,20 +7,20 @@ use std::alloc::{AllocError, AllocFailed};
 use std::error::Error;
 use std::fmt;
 
-/// The fault of a line. If there are several, the first in this order is reported, except for `NoMemory`.
+/// The fault of a line. If a line has several faults, the first of the variants after `NoMemory` that applies is reported.
 #[derive(Clone, Copy, Debug, PartialEq, Eq)]
 pub enum FaultKind {
     /// Memory ran out.
     NoMemory,
     /// The line is not a label, and its first word is not a mnemonic.
     Mnemonic,
-    /// There are too many or too few operands, or the instruction does not take one of this form.
+    /// The number of operands is wrong, or an operand has a form that the instruction does not take.
     Operand,
     /// A number does not fit its field.
     Number,
     /// The label is not defined, or is already defined above.
     Label,
-    /// The jump leads to a label at or above it.
+    /// The jump to a label leads backward or to itself.
     Backward,
     /// The instruction would end past the 4,096th unit.
     TooLong,

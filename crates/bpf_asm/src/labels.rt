@@ -16,7 +16,7 @@ pub struct Definition {
     pub unit: usize,
 }
 
-/// The labels of a text, in the order of their names. Not a hash map, because the author of the text could choose names that collide.
+/// The labels of a text, sorted by name. A hash map would be slow if the author of the text chose names that collide.
 pub type Labels<'a, A> = BTreeMap<&'a [u8], Definition, A>;
 
 /// The definition of a label, if there is one.
@@ -37,7 +37,7 @@ pub fn line_units(line: &Line<'_>) -> usize
     }
 }
 
-/// Adds a label to the table, unless it is already in it.
+/// Adds a label to the table, unless the table has it already.
 fn define<'a, A: Allocator + Copy>(
     labels: &mut Labels<'a, A>,
     name: &'a [u8],
@@ -54,7 +54,7 @@ fn define<'a, A: Allocator + Copy>(
     }
 }
 
-/// The same for a line, if it is a label.
+/// Adds the label of a line with `define`, if the line is a label.
 fn record_line<'a, A: Allocator + Copy>(
     labels: &mut Labels<'a, A>,
     line: &Line<'a>,
@@ -68,7 +68,7 @@ fn record_line<'a, A: Allocator + Copy>(
     }
 }
 
-/// The labels of all lines. If a label is defined twice, the first line counts.
+/// The labels of all lines. If a label is defined twice, its first line counts.
 pub fn find_labels<'a, A: Allocator + Copy>(
     alloc: A,
     lines: &[Line<'a>],

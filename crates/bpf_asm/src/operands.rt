@@ -99,7 +99,7 @@ fn last_part(rest: &[u8]) -> Result<&[u8], FaultKind>
     }
 }
 
-/// Two operands, without margins.
+/// Splits the text into two operands, and removes the spaces and tabs around them.
 #[tactic(auto, unfolding(crate::specs::Lines::two))]
 pub fn read_two(rest: &[u8]) -> Result<(&[u8], &[u8]), FaultKind>
     ensures { Gives (λ x. (x.0.now, x.1.now)) result (two rest.now) }
@@ -109,7 +109,7 @@ pub fn read_two(rest: &[u8]) -> Result<(&[u8], &[u8]), FaultKind>
     Ok((trim(a), trim(b)))
 }
 
-/// Three operands, without margins.
+/// Splits the text into three operands, and removes the spaces and tabs around them.
 #[tactic(auto, unfolding(crate::specs::Lines::three))]
 pub fn read_three(rest: &[u8]) -> Result<(&[u8], &[u8], &[u8]), FaultKind>
     ensures { Gives (λ x. (x.0.now, x.1.now, x.2.now)) result (three rest.now) }

@@ -76,7 +76,7 @@ fn operation_row(op: Op, width: Width) -> Row
     }
 }
 
-/// The row that names an instruction.
+/// The row with the mnemonic of an instruction.
 fn row_for(insn: Insn) -> Row
     ensures { result ≡ row_for insn }
 {
@@ -131,7 +131,7 @@ fn write_operands<A: Allocator>(out: &mut String<A>, insn: Insn) -> Result<(), A
     }
 }
 
-/// The same for a constant of 64 bits.
+/// Prints the operands of a constant of 64 bits.
 #[tactic(auto, using(crate::proofs::Digits::padded16))]
 fn write_wide<A: Allocator>(out: &mut String<A>, dst: u8, value: u64) -> Result<(), AllocError>
     ensures { OnOk result (string_bytes out.new ≡ string_bytes out.old ++ operands_text (Insn.Wide dst value)) }
@@ -139,7 +139,7 @@ fn write_wide<A: Allocator>(out: &mut String<A>, dst: u8, value: u64) -> Result<
     write!(out, " r{dst}, 0x{value:016x}")
 }
 
-/// The same for a load.
+/// Prints the operands of a load.
 fn write_load<A: Allocator>(
     out: &mut String<A>,
     dst: u8,
@@ -152,7 +152,7 @@ fn write_load<A: Allocator>(
     write!(out, " r{dst}, {address}")
 }
 
-/// The same for a memory access.
+/// Prints the operands of a memory access.
 fn write_access<A: Allocator>(out: &mut String<A>, insn: Insn) -> Result<(), AllocError>
     requires { IsTrue (is_access insn) }
     ensures { OnOk result (string_bytes out.new ≡ string_bytes out.old ++ operands_text insn) }
@@ -192,7 +192,7 @@ fn write_access<A: Allocator>(out: &mut String<A>, insn: Insn) -> Result<(), All
     }
 }
 
-/// Appends an instruction's line. If allocation fails, a part of it may be appended.
+/// Appends the line of an instruction. If allocation fails, a part of the line may be appended.
 pub fn write_line<A: Allocator>(out: &mut String<A>, insn: Insn) -> Result<(), AllocError>
     ensures { OnOk result (string_bytes out.new ≡ string_bytes out.old ++ line_text insn) }
 {

@@ -5,7 +5,7 @@ ghost use Rattle.bpf_asm.specs.Mnemonics.{name_of, row_named, is_row};
 
 use bpf_insn::{Op, Size, Test, Width};
 
-/// The instructions of a mnemonic. The variants list the operands that it takes.
+/// The instructions that share a mnemonic. The comment of each variant lists the operands that they take.
 #[derive(Clone, Copy, PartialEq, Eq)]
 pub enum Row {
     /// A register, and a register or a number.
@@ -30,7 +30,7 @@ pub enum Row {
     Branch(Test, Width),
     /// A number.
     Call,
-    /// Nothing.
+    /// No operands.
     Exit,
 }
 

@@ -12,8 +12,8 @@ use bpf_insn::Code;
 use bpf_verify::{Examined, Refused, States, VerifyFault};
 use std::alloc::{AllocError, Allocator, Global};
 
-/// The explanation of a program: its instructions, each with what the verifier knows before it, and for a refused program the fault of
-/// the last of these instructions.
+/// The explanation of a program: its instructions, each with the facts that the verifier knows before it. For a refused program it ends
+/// with the instruction that the fault names, and has the fault.
 #[derive(Drop)]
 pub struct Explanation<A: Allocator = Global> {
     pub lines: Vec<Line, A>,

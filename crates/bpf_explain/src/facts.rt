@@ -1,4 +1,4 @@
-//! Prints what is known of registers and lengths.
+//! Prints the facts known about registers and lengths.
 
 use crate::reading::registers_read;
 use bpf_insn::Insn;
@@ -14,7 +14,7 @@ pub fn kind_of(state: &State, register: u8) -> Kind {
     }
 }
 
-/// Prints a register and what is known of it, as `r6 = 0..255`.
+/// Prints a register and the fact known about it, as `r6 = 0..255`.
 pub fn write_fact<A: Allocator>(
     out: &mut String<A>,
     register: u8,
@@ -32,7 +32,7 @@ pub fn write_fact<A: Allocator>(
     }
 }
 
-/// Prints what is known of each register that an instruction reads, separated by `mark`.
+/// Prints the facts known about the registers that an instruction reads, separated by `mark`.
 pub fn write_facts<A: Allocator>(
     out: &mut String<A>,
     insn: Insn,
@@ -60,8 +60,8 @@ fn write_length<A: Allocator>(
     out.push_str(")")
 }
 
-/// Prints an offset, or the least and the greatest one, as `record+0..7`. Offsets count from the region's first byte, on the stack from
-/// its end.
+/// Prints an offset, or the least and the greatest offset, as `record+0..7`. Offsets count from the first byte of the region, and on the
+/// stack from its end.
 pub fn write_place<A: Allocator>(
     out: &mut String<A>,
     name: &str,
@@ -76,7 +76,7 @@ pub fn write_place<A: Allocator>(
     write!(out, "..{hi}")
 }
 
-/// Prints a number, or the least and the greatest one.
+/// Prints the number of a range, or its least and greatest number.
 pub fn write_range<A: Allocator>(out: &mut String<A>, range: Range) -> Result<(), AllocError> {
     let (lo, hi) = (range.lo, range.hi);
     if lo == hi {
@@ -85,7 +85,7 @@ pub fn write_range<A: Allocator>(out: &mut String<A>, range: Range) -> Result<()
     write!(out, "{lo}..{hi}")
 }
 
-// Prints what is known of a number: its range, the signed range if all of it is negative, and the known bits if they say more.
+// Prints the facts known about a number: its range, the signed range if all its numbers are negative, and the bits if they say more.
 fn write_number<A: Allocator>(out: &mut String<A>, known: Known) -> Result<(), AllocError> {
     let range = known.range();
     if range.lo == 0 && range.hi == u64::MAX {

@@ -1,7 +1,7 @@
-//! Why the verifier accepts a program, or refuses it, as a text for people.
+//! Explains as a text for people why the verifier accepts or refuses a program.
 //!
-//! `explain_accepted` and `explain_refused` give a program's instructions, each with what the verifier knows before it; `text` prints
-//! them as a table. For a refused program a sentence follows with the register, its bounds and what was needed.
+//! `explain_accepted` and `explain_refused` return a program's instructions, each with the facts that the verifier knows before it. `text`
+//! prints them as a table. For a refused program a sentence follows with the register, its bounds and the requirement that it breaks.
 #![tactic(auto)]
 
 mod explaining;

@@ -73,7 +73,7 @@ pub fn lines_to<A: Allocator + Copy>(
     Ok(lines)
 }
 
-// Adds the line if it is `Some`.
+// Adds a line, if there is one.
 fn push_line<A: Allocator>(lines: &mut Vec<Line, A>, line: Option<Line>) -> Result<(), AllocError>
     ensures { OnOk result (lines.new.items ≡ lines.old.items ++ option_to_list line) }
 {

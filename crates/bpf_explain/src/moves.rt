@@ -9,7 +9,7 @@ use std::alloc::{AllocError, Allocator};
 /// The least 64-bit number whose sign bit is set.
 const NEGATIVE: u64 = 0x8000_0000_0000_0000;
 
-/// Prints why a move of a pointer is refused: the number's sign is not known, or the pointer may be moved too far.
+/// Prints the reason why a move of a pointer is refused: the sign of the number is not known, or the pointer may be moved too far.
 pub fn write_move<A: Allocator>(
     out: &mut String<A>,
     insn: Insn,

@@ -1,4 +1,4 @@
-//! Explains why an access is refused: the bytes it needs and the bytes that exist.
+//! Prints why an access is refused: the bytes that it needs, and the bytes that exist.
 
 use crate::facts::{kind_of, write_fact, write_place};
 use bpf_helpers::memory::count_of;
@@ -18,8 +18,8 @@ struct Access {
     count: i64,
 }
 
-/// The bytes that an access may touch: the region, from the least first byte to the end of the greatest last one. `there` is the number
-/// of bytes that the region is known to have.
+/// The bytes that an access may touch, from the least offset of its first byte to the greatest offset of its end. `there` is the number of
+/// bytes that the region is known to have.
 #[derive(Clone, Copy)]
 struct Extent {
     region: &'static str,
@@ -122,7 +122,7 @@ fn lies_inside(extent: Extent) -> bool {
     extent.first >= 0 && extent.end <= there
 }
 
-/// Prints the first access that may lie outside its region, with the bytes it needs and those that exist: `r1+0..7 needs 8 bytes; the
+/// Prints the first access that may lie outside its region, with the bytes that it needs and those that exist: `r1+0..7 needs 8 bytes; the
 /// record has at least 0`.
 pub fn write_need<A: Allocator>(
     out: &mut String<A>,
@@ -144,7 +144,7 @@ pub fn write_need<A: Allocator>(
     out.push_str("an access lies outside")
 }
 
-// Prints the bytes of an access relative to its register, and the register's range unless that is the start of its region.
+// Prints the bytes of an access relative to its register, and the place of the register unless it is the start of its region.
 fn write_access<A: Allocator>(
     out: &mut String<A>,
     access: Access,

@@ -3,7 +3,7 @@
 use bpf_helpers::{Helper, helper_of};
 use bpf_insn::{Insn, Op, Operand};
 
-// The register of an operand, if it is one.
+// The register of an operand, unless the operand is an immediate.
 fn register_of(operand: Operand) -> Option<u8> {
     match operand {
         Operand::Reg(register) => Some(register),

@@ -1,4 +1,4 @@
-//! Prints why an instruction is refused, as a sentence.
+//! Prints the reason why an instruction is refused, as a sentence.
 
 use crate::facts::{kind_of, write_fact, write_facts};
 use crate::lines::Line;
@@ -45,7 +45,7 @@ pub fn write_sentence<A: Allocator>(
     }
 }
 
-// Prints the first register that an instruction reads, and what is known of it.
+// Prints the first register that an instruction reads, and the fact known about it.
 fn write_first<A: Allocator>(
     out: &mut String<A>,
     insn: Insn,
@@ -55,7 +55,7 @@ fn write_first<A: Allocator>(
     write_fact(out, first.unwrap_or(0), state)
 }
 
-// Prints the first register that is read and may be unset.
+// Prints the first register that an instruction reads and that may be unset.
 fn write_unset<A: Allocator>(
     out: &mut String<A>,
     insn: Insn,
@@ -72,7 +72,7 @@ fn write_unset<A: Allocator>(
     out.push_str("a register is read that may be unset")
 }
 
-// The reasons for which a register may be unset. A call unsets R1 to R5.
+// The possible reasons why a register is unset. A call unsets R1 to R5.
 fn reason_unset(register: u8) -> &'static str {
     match register {
         1..=5 => {

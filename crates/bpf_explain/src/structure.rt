@@ -1,4 +1,4 @@
-//! Prints why a program's structure is refused, as a sentence.
+//! Prints the reason why a program's structure is refused, as a sentence.
 
 use crate::lines::Line;
 use crate::reading::{distance_of, target_of};

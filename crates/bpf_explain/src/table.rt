@@ -38,7 +38,7 @@ fn write_bounds<A: Allocator>(out: &mut String<A>, range: Option<Range>) -> Resu
     pad(out, start, RANGE_WIDTH)
 }
 
-// Prints what is known of each register that an instruction reads, and its jump target.
+// Prints the facts known about the registers that an instruction reads, and its jump target.
 fn reads_of<A: Allocator>(alloc: A, line: &Line) -> Result<String<A>, AllocError> {
     let mut out = String::new(alloc);
     let Some(state) = &line.state else {
@@ -76,8 +76,8 @@ impl Column {
     }
 }
 
-// Prints what is known in the last column of a row that begins at `row`. A fact that does not fit on a line begins the next one, in the
-// column `indent`.
+// Prints facts in the last column of a row that begins at `row`. A fact that does not fit on the current line begins the next one, in the
+// column `indent`. A fact that is longer than a line is broken at spaces.
 fn write_facts_in<A: Allocator>(
     out: &mut String<A>,
     row: usize,
@@ -100,7 +100,7 @@ fn write_facts_in<A: Allocator>(
     Ok(())
 }
 
-// Prints the columns after an instruction's numbers: its text and what is known before it. The row begins at `row`.
+// Prints the columns after an instruction's numbers: its text and the facts known before it. The row begins at `row`.
 fn write_known<A: Allocator + Copy>(
     alloc: A,
     out: &mut String<A>,
@@ -121,7 +121,7 @@ fn write_known<A: Allocator + Copy>(
     write_facts_in(out, row, indent, known.as_str())
 }
 
-// Returns true if an instruction reads a register.
+// Returns true if the instruction reads a register.
 fn reads(line: &Line) -> bool {
     let [first, _, _] = registers_read(line.insn);
     first.is_some()
@@ -161,8 +161,8 @@ impl<A: Allocator + Copy> Explanation<A> {
     }
 
     /// The explanation as a text without a line feed at its end. Each line has an instruction with its unit, its line number in the
-    /// source (if given), the possible lengths of record and argument before it, and what is known of each register that it reads. For a
-    /// refused program the last line says what was needed. If its structure is invalid, the text says nothing of registers and lengths.
+    /// source (if given), the possible lengths of record and argument before it, and the facts known about each register that it reads.
+    /// The text of a refused program ends with the reason. If its structure is invalid, the text says nothing of registers and lengths.
     ///
     /// `source` is the program's text as it was assembled.
     ///
@@ -188,7 +188,7 @@ impl<A: Allocator + Copy> Explanation<A> {
         Ok(out)
     }
 
-    /// Why a refused program is refused: one sentence with the instruction's unit and its line. Empty for an accepted program.
+    /// The reason why a program is refused: one sentence with the instruction's unit and its line. Empty for an accepted program.
     /// `source` is the program's text as it was assembled.
     ///
     /// # Errors
@@ -236,7 +236,7 @@ impl<A: Allocator> Explanation<A> {
         out.push_str("instruction")
     }
 
-    // Prints the sentence that says why the last instruction is refused.
+    // Prints the sentence with the reason why the last instruction is refused.
     fn write_refusal(
         &self,
         out: &mut String<A>,

@@ -23,7 +23,7 @@ IsPointer q P Nothing = ⊥
 IsPointer q P (Number x) = ⊥
 IsPointer q P (Pointer r o) = (r ≡ q) × P o
 
--- The value is one of the kind if the record has m bytes and the argument n. Every value is one of the kind Unset.
+-- The value v is of the kind, if the record has m bytes and the argument n. Every value is of the kind Unset.
 abbrev pub HoldsKind : Kind → ℕ → ℕ → Value → Type 0
 HoldsKind Unset m n v = ⊤
 HoldsKind (Num k) m n v = IsNumber (Contains k) v
@@ -33,7 +33,7 @@ HoldsKind (Rec lo hi) m n v = IsPointer Record (Between lo hi) v
 HoldsKind (Arg lo hi) m n v = IsPointer Argument (Between lo hi) v
 HoldsKind (Stack lo hi) m n v = IsPointer StackBytes (Between lo hi) v
 
--- there is a value, and it is one of the kind
+-- there is a value, and it is of the kind
 abbrev pub KindKeeps : Kind → ℕ → ℕ → Option Value → Type 0
 KindKeeps k m n None = ⊥
 KindKeeps k m n (Some v) = HoldsKind k m n v

@@ -17,7 +17,7 @@ use Rattle.bpf_flow.specs.declared.state.Way.TheVariants as way
 use Rattle.bpf_flow.specs.Kinds.{HoldsKind, IsPointer, Between, KindKeeps}
 use Rattle.bpf_flow.specs.States.{Fits, IsConfig}
 
--- an operation on two values of these kinds gives one of the kind k
+-- an operation on two values of the kinds a and b has a result of the kind k
 abbrev pub Gives : (Value → Value → Option Value) → Kind → Kind → Range → Range → Kind → Type 0
 Gives f a b bytes argument k = (m n : ℕ) (x y : Value) → In bytes m → In argument n → HoldsKind a m n x → HoldsKind b m n y → KindKeeps k m n (f x y)
 
@@ -78,11 +78,11 @@ edges_of way.Next s t = record { next = Some s; jump = None }
 edges_of way.Jump s t = record { next = None; jump = Some s }
 edges_of way.Both s t = record { next = Some s; jump = Some t }
 
--- From each configuration that fits s the instruction continues at the next one, and t fits there.
+-- From each configuration that fits s, the instruction leads to the next instruction and to a configuration that fits t.
 abbrev pub Passes : Insn → State → State → Type 0
 Passes i s t = (c : Config) → IsConfig c → Fits s c → (d : Config) × (effect i c ≡ Some d) × (d.place ≡ c.place + units_of i) × Fits t d
 
--- From each configuration that fits s a call of the helper continues, and t fits after it.
+-- From each configuration that fits s, a call of the helper leads to the next instruction and to a configuration that fits t.
 abbrev pub IsCalled : Helper → State → State → Type 0
 IsCalled h s t = (c : Config) → IsConfig c → Fits s c → (d : Config) × (helper_call c h ≡ Some d) × (d.place ≡ c.place + 1) × Fits t d
 
@@ -90,22 +90,22 @@ abbrev pub FitsSome : Option State → Config → Type 0
 FitsSome None c = ⊥
 FitsSome (Some s) c = Fits s c
 
--- the jump distance of an instruction
+-- the jump distance of an instruction; 0 if it does not jump
 abbrev pub distance_of : Insn → ℤ
 distance_of (Branch t w d s off) = off
 distance_of (Jump off) = off
 distance_of (JumpFar off) = off
 distance_of i = pos 0
 
--- d follows the instruction i at c, and fits the state on that edge
+-- the instruction i leads from c to d along one of its edges, and d fits the state on that edge
 abbrev pub Lands : Insn → Edges → Config → Config → Type 0
 Lands i e c d = ((d.place ≡ c.place + units_of i) × FitsSome e.next d) ⊎ ((k : ℕ) × (distance_of i ≡ pos k) × (d.place ≡ c.place + 1 + k) × FitsSome e.jump d)
 
--- the instruction ends the run, or continues to a configuration that fits
+-- from c the instruction ends the run, or leads along an edge to a configuration that fits the state there
 abbrev pub GoesTo : Insn → Edges → Config → Type 0
 GoesTo i e c = IsSome (exit_code i c) ⊎ ((d : Config) × (effect i c ≡ Some d) × Lands i e c d)
 
--- From each configuration that fits, the instruction ends the run or continues to a configuration that fits.
+-- From each configuration that fits s, the instruction ends the run, or leads along an edge to a configuration that fits the state there.
 abbrev pub Sound : Insn → State → Edges → Type 0
 Sound i s e = (c : Config) → IsConfig c → Fits s c → GoesTo i e c
 
@@ -128,7 +128,7 @@ pub record Flows (i : Insn) (s : State) (e : Edges) : Type 0 where
   pub next : IsSome e.next → HasNext i
   pub jump : IsSome e.jump → HasJump i
 
--- R10 is not written, jumps lead forward, and called helpers exist.
+-- The instruction does not write R10, does not jump backward, and calls only a helper that exists.
 abbrev pub CanFlow : Insn → Type 0
 CanFlow (Alu op w d s) = d ≢ 10
 CanFlow (Unary op w d) = d ≢ 10

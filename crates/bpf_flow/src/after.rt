@@ -93,7 +93,7 @@ fn after_access(insn: Insn, state: &mut State) -> Result<(), FlowFault>
     }
 }
 
-/// A program ends with a number in R0.
+/// Tests that a program ends with a number in R0.
 fn after_exit(state: &State) -> Result<Way, FlowFault>
     ensures { IfOk result (λ way. (s t : _) → Flows Insn.Exit state.now (edges_of way s t)) }
 {

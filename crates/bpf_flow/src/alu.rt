@@ -12,7 +12,7 @@ use crate::numbers::{Place, moved, negated, number_of, place_of, span_of, writte
 use bpf_insn::{Op, Width};
 use bpf_range::{Kind, Known, Range, transfer};
 
-/// An operation on two numbers.
+/// The kind of the result of an operation on two numbers.
 fn of_numbers(
     op: Op,
     width: Width,
@@ -32,7 +32,7 @@ fn of_numbers(
     Ok(Kind::Num(transfer(op, width, x, y)))
 }
 
-/// An operation that reads only its operand.
+/// The kind of the result of an operation that reads only its operand.
 fn of_source(
     op: Op,
     width: Width,
@@ -72,7 +72,7 @@ fn pointer_minus(place: Place, number: Known) -> Result<Kind, FlowFault>
     moved(place, back)
 }
 
-/// A sum of 64 bits. At most one operand may be a pointer.
+/// The kind of a sum of 64 bits. At most one operand may be a pointer.
 fn sum(a: Kind, b: Kind, bytes: Range, argument: Range) -> Result<Kind, FlowFault>
     ensures { IfOk result (λ k. Gives sum_of a b bytes argument k) }
 {
@@ -91,7 +91,7 @@ fn sum(a: Kind, b: Kind, bytes: Range, argument: Range) -> Result<Kind, FlowFaul
     of_numbers(Op::Add, Width::W64, a, b, bytes, argument)
 }
 
-/// A difference of 64 bits. The first operand may be a pointer.
+/// The kind of a difference of 64 bits. Only the first operand may be a pointer.
 fn difference(a: Kind, b: Kind, bytes: Range, argument: Range) -> Result<Kind, FlowFault>
     ensures { IfOk result (λ k. Gives difference_of a b bytes argument k) }
 {
@@ -104,7 +104,7 @@ fn difference(a: Kind, b: Kind, bytes: Range, argument: Range) -> Result<Kind, F
     of_numbers(Op::Sub, Width::W64, a, b, bytes, argument)
 }
 
-/// A move of 64 bits. The source must be set.
+/// The kind of a move of 64 bits. The source must be set.
 fn copied(b: Kind) -> Result<Kind, FlowFault>
     ensures { IfOk result (λ k. (m n : ℕ) (v : _) → HoldsKind b m n v → KindKeeps k m n (Rattle.bpf_helpers.specs.Machine.written_value v)) }
 {

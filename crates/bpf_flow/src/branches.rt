@@ -84,8 +84,8 @@ fn tested_operand(state: &State, width: Width, operand: Operand) -> Kind
     }
 }
 
-/// Computes the states after a conditional jump by any distance that is not negative. If both edges can be
-/// taken, `target` is the state after the jump; otherwise `state` is that of the only edge, if there is one.
+/// Computes the states after a conditional jump, which must not lead backward. If both edges can be taken, `state` is
+/// that of the edge to the next instruction, and `target` that of the jump. If only one can be taken, `state` is its state.
 pub fn flow_branch(
     test: Test,
     width: Width,

@@ -16,7 +16,7 @@ use bpf_helpers::{COPY_LIMIT, Helper, helper_of};
 use bpf_insn::Insn;
 use bpf_range::{Kind, Known};
 
-/// The state after a call whose result is one of these numbers. R1 to R5 are unset.
+/// Sets the state to that after a call with one of these answers. R1 to R5 are then unset.
 fn answered(state: &mut State, answer: Known)
     ensures { (c : _) (a : Answer) → Fits state.old c → Contains answer a.value → Fits state.new (after_answer a c) }
 {
@@ -36,7 +36,7 @@ fn answered(state: &mut State, answer: Known)
     ];
 }
 
-/// `Reply` takes a number in R1.
+/// The state after a call of `Reply`, which takes a number in R1.
 fn call_reply(state: &mut State) -> Result<(), FlowFault>
     ensures { OnOk result (IsCalled Reply state.old state.new) }
 {
@@ -49,8 +49,8 @@ fn call_reply(state: &mut State) -> Result<(), FlowFault>
     Ok(())
 }
 
-/// `Copy` takes the addresses in R1 and R2 and the number of bytes in R3. From both addresses on there must be as many
-/// bytes as the greatest number that R3 may hold. Those at R1 are written.
+/// The state after a call of `Copy`, which takes the addresses in R1 and R2 and the number of bytes in R3. At both
+/// addresses there must be as many bytes as the greatest number that R3 may hold, and those at R1 must be writable.
 fn call_copy(state: &mut State) -> Result<(), FlowFault>
     ensures { OnOk result (IsCalled Copy state.old state.new) }
 {

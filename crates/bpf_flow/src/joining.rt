@@ -9,7 +9,7 @@ use crate::numbers::{Span, number_of};
 use crate::state::State;
 use bpf_range::{Kind, Range, hull, join};
 
-/// The join of both kinds as numbers. If one of them is not a number, the result is Unset.
+/// The join of two kinds as numbers. If one of them is not a number, the result is `Unset`.
 fn join_numbers(
     a: Kind,
     a_bytes: Range,
@@ -41,7 +41,7 @@ fn hull_of_spans(a: Span, b: Span) -> Span
     }
 }
 
-/// The join of two kinds. A length counts as its range.
+/// The join of two kinds. If the kinds differ, a length counts as a number in its range.
 fn join_kinds(
     a: Kind,
     a_bytes: Range,

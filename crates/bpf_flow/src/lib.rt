@@ -1,9 +1,9 @@
 //! The state of a program's registers, and the effect of one instruction on it.
 //!
 //! A `State` says which values each register may hold. `flow` and `flow_branch` compute the state after an
-//! instruction from the state before it, or report the instruction's fault. `join_states` joins two states. All
-//! of this is true of every run: each configuration that fits the state before has an effect, and its result
-//! fits a state after.
+//! instruction from the state before it, or report the instruction's fault. `join_states` joins two states. The
+//! states are true of every run: from a configuration that fits the state before an instruction, the run ends or
+//! continues to a configuration that fits a state after it.
 #![tactic(auto)]
 
 mod after;

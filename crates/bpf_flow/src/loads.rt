@@ -13,7 +13,7 @@ use bpf_helpers::memory::count_of;
 use bpf_insn::{Insn, Size};
 use bpf_range::{Kind, Known};
 
-/// Tests an address: each access at it is inside its region.
+/// Tests that each access at an address is inside its region, and returns the region.
 fn reached(size: Size, base: u8, offset: i16, state: &State) -> Result<Region, FlowFault>
     requires { base ≤ 10 }
     ensures { IfOk result (λ q. Reaching state.now base offset (bytes_of size) q) }

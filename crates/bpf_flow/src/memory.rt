@@ -24,7 +24,7 @@ fn first_of(region: Region) -> i64
     }
 }
 
-/// An offset up to which every region of this kind has bytes, for all possible lengths.
+/// An offset up to which the region has bytes, for each of its possible lengths.
 fn last_of(region: Region, state: &State) -> i64
     ensures { (c : _) → IsConfig c → Fits state.now c → (result +ℤ base_of region) ≤ℤ pos (length (contents c region)) }
 {

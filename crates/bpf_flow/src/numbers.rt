@@ -10,7 +10,7 @@ use crate::fault::FlowFault;
 use bpf_helpers::Region;
 use bpf_range::{Kind, Known, Range};
 
-/// The numbers of a kind, if the lengths are in these ranges. `None` if it is unset or a pointer.
+/// The numbers of a kind, if the lengths are in these ranges. `None` if the kind is `Unset` or a pointer.
 pub fn number_of(kind: Kind, bytes: Range, argument: Range) -> Option<Known>
     ensures { IfSome result (λ k. (m n : ℕ) (v : _) → In bytes m → In argument n → HoldsKind kind m n v → IsNumber (Contains k) v) }
 {
@@ -30,7 +30,7 @@ pub struct Place {
     pub hi: i64,
 }
 
-/// The pointers of a kind. `None` if it is not a kind of pointer.
+/// The pointers of a kind. `None` if the kind is not a pointer.
 pub fn place_of(kind: Kind) -> Option<Place>
     ensures { IfSome result (λ p. (m n : ℕ) (v : _) → HoldsKind kind m n v → IsPointer p.region (Between p.lo p.hi) v) }
 {
@@ -109,7 +109,7 @@ pub fn negated(span: Span) -> Option<Span>
     Some(Span { lo, hi })
 }
 
-/// Pointers moved by a number of the span.
+/// The kind of pointers moved by a number of the span.
 pub fn moved(place: Place, by: Span) -> Result<Kind, FlowFault>
     ensures { IfOk result (λ k. (m n : ℕ) (o d : _) → Between place.lo place.hi o → Between by.lo by.hi d → KindKeeps k m n (moved_pointer place.region (o +ℤ d))) }
 {

@@ -12,7 +12,7 @@ use bpf_helpers::{ARGUMENT_LIMIT, RECORD_LIMIT};
 use bpf_insn::Operand;
 use bpf_range::{Kind, Known, Range};
 
-/// The state before an instruction: the kind of each register, and the lengths of the record and the argument.
+/// The state before an instruction: the kind of each register, and the ranges of the lengths of record and argument.
 #[derive(Clone, Copy, Debug)]
 pub struct State {
     pub kinds: [Kind; 11],
@@ -85,6 +85,6 @@ pub enum Way {
     End,
     Next,
     Jump,
-    /// To the next instruction, or to the target of the jump.
+    /// Both edges: to the next instruction, and to the target of the jump.
     Both,
 }

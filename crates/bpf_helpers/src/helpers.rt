@@ -8,7 +8,7 @@ ghost use Rattle.bpf_range.specs.Sets.{Contains, range_of};
 use crate::values::Env;
 use bpf_range::Known;
 
-/// A helper. Its answer is a number that a call puts into R0.
+/// A helper. A call puts the helper's answer, a number, into R0.
 #[derive(Clone, Copy, Debug, PartialEq, Eq)]
 pub enum Helper {
     /// 1: makes the number in R1 the reply word; answers 0.
@@ -59,9 +59,10 @@ pub fn copies(id: i32) -> bool
 }
 
 impl Helper {
-    /// The helper's answer for R0. `given` is its argument: for `Reply` the number in R1, which
-    /// becomes the reply word; for `Copy` the number of bytes, which the caller of `answer` copies.
-    /// The other helpers take no argument and leave the reply word unchanged. Allocates no memory.
+    /// Returns the helper's answer for R0. `given` is its argument: for `Reply` the number in R1,
+    /// which becomes the reply word; for `Copy` the number of bytes, which the caller of `answer`
+    /// copies. The other helpers take no argument and leave the reply word unchanged. Allocates no
+    /// memory.
     pub fn answer(self, given: u64, env: &Env, word: &mut u64) -> u64
         ensures value { result ≡ (answer_of self given env.entry.now word.old).value }
         ensures word { word.new ≡ (answer_of self given env.entry.now word.old).word }
@@ -78,8 +79,8 @@ impl Helper {
         }
     }
 
-    /// The greatest answer: 0 for `Reply`, 1 for `Present`, 1,024 for `Copy`, and any number for
-    /// the rest.
+    /// The greatest answer: 0 for `Reply`, 1 for `Present`, 1,024 for `Copy`, and `u64::MAX` for
+    /// `Now` and `Who`.
     fn greatest(self) -> u64
         ensures { result ≡ greatest_answer self }
     {
@@ -116,9 +117,9 @@ pub fn result(id: i32) -> Known
     }
 }
 
-/// The answer of the helper with a number, as in `Helper::answer`. `given` is R1 for 1 and the
-/// number of bytes for 5. `None` only if there is no such helper; the reply word is then unchanged.
-/// Allocates no memory.
+/// Returns the answer of the helper with a number, like `Helper::answer`. `given` is the number in
+/// R1 for helper 1, and the number of bytes for helper 5. Returns `None` only if there is no such
+/// helper; the reply word is then unchanged. Allocates no memory.
 pub fn call(id: i32, given: u64, env: &Env, word: &mut u64) -> Option<u64>
     ensures { Answers id given env.entry.now word.old result word.new }
 {

@@ -1,6 +1,6 @@
 //! The values of a running program's registers, and the environment of its helpers.
 
-/// A region of memory with pointers into it.
+/// A region of memory into which a pointer may lead.
 #[derive(Clone, Copy, Debug, PartialEq, Eq)]
 pub enum Region {
     /// The record, readable and writable.
@@ -14,11 +14,11 @@ pub enum Region {
 /// The value of a register.
 #[derive(Clone, Copy, Debug, PartialEq, Eq)]
 pub enum Value {
-    /// No value was written yet.
+    /// No value: the register is unset.
     Nothing,
     Number(u64),
-    /// A place in a region. The offset counts from the region's beginning, on the stack from its
-    /// end.
+    /// A place in a region. The offset counts from the beginning of the region, and on the stack
+    /// from the end.
     Pointer(Region, i64),
 }
 

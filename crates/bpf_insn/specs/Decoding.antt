@@ -9,21 +9,21 @@ use Rattle.bpf_insn.specs.declared.fault.DecodeFault.TheVariants.{NoMemory, Leng
 use Rattle.bpf_insn.specs.Spelling.{NoneBegins}
 use Rattle.bpf_insn.specs.Code.{IsCode, unit_count, unit_limit, image_of}
 
--- the fault of a unit, with its place
+-- the fault of a unit, with the number of the unit
 abbrev pub placed_fault : UnitFault → ℕ → DecodeFault
 placed_fault unit.Opcode at = Opcode at
 placed_fault unit.HalfWide at = HalfWide at
 placed_fault unit.Register at = Register at
 placed_fault unit.Reserved at = Reserved at
 
--- The bytes are a whole number of units, of 8 bytes each (RFC 9669, section 3), and no more than a code has.
+-- The bytes are a whole number of units of 8 bytes (RFC 9669, section 3), and no more units than a code may have.
 abbrev pub IsWhole : List ℕ → Type 0
 IsWhole bytes = length bytes % 8 ≡ 0
 
 abbrev pub IsShort : List ℕ → Type 0
 IsShort bytes = length bytes / 8 ≤ unit_limit
 
--- The units before this one are a code, and no instruction's spelling begins there.
+-- The units before the unit `at` are a code, and at `at` no instruction's spelling begins.
 pub record FailsAt (bytes : List ℕ) (at : ℕ) : Type 0 where
   pub whole : IsWhole bytes
   pub short : IsShort bytes
@@ -49,7 +49,7 @@ HasFault bytes (Reserved at) = FailsAt bytes at
 abbrev pub IsCodeUnlessMemory : Result (List Insn) DecodeFault → List Insn → Type 0
 IsCodeUnlessMemory r code = MatchResult r (λ c. c ≡ code) (λ e. e ≡ NoMemory)
 
--- A fault's text: its name, and its place in brackets (own).
+-- A fault's text: its name, and its unit in brackets (own).
 abbrev pub with_place : List ℕ → ℕ → List ℕ
 with_place name at = name ++ (codes "(" ++ (decimal at ++ codes ")"))
 

@@ -10,7 +10,7 @@ use Rattle.bpf_insn.specs.Code.{units_of}
 abbrev pub Reads : Fields → Result Insn UnitFault → Type 0
 Reads fields r = IfOk r (λ i. HasSpelling i × (row_of i ≡ fields))
 
--- if the instruction has these fields, it is the result
+-- if the instruction is in the table and has these fields, the instruction is the result
 abbrev pub OnlyReads : Fields → Result Insn UnitFault → Insn → Type 0
 OnlyReads fields r i = HasSpelling i → row_of i ≡ fields → r ≡ Ok i
 
@@ -18,6 +18,6 @@ OnlyReads fields r i = HasSpelling i → row_of i ≡ fields → r ≡ Ok i
 abbrev pub Finds : List ℕ → Result Insn UnitFault → Type 0
 Finds bytes r = IfOk r (λ i. HasSpelling i × (bytes ≡ spelling_of i ++ drop (8 * units_of i) bytes))
 
--- if the bytes begin with the instruction's spelling, it is the result
+-- if the instruction is in the table and the bytes begin with its spelling, the instruction is the result
 abbrev pub OnlyFinds : List ℕ → Result Insn UnitFault → Insn → Type 0
 OnlyFinds bytes r i = (more : List ℕ) → HasSpelling i → bytes ≡ spelling_of i ++ more → r ≡ Ok i

@@ -145,7 +145,7 @@ row_of (Wide d n) = record { opcode = 0x18; dst = d; src = 0; offset = pos 0; im
 abbrev pub high_half : ℕ → Fields
 high_half n = record { opcode = 0; dst = 0; src = 0; offset = pos 0; imm = cast_signed w32 (n / 2 ^ 32) }
 
--- that half as a number; 0 for any other instruction
+-- the high half of a constant as a number; 0 for any other instruction
 abbrev pub high_number : Insn → ℕ
 high_number (Wide d n) = n / 2 ^ 32
 high_number i = 0
@@ -186,7 +186,7 @@ is_binary (MovSx Word) W64 (Reg r) = true
 is_binary (MovSx Double) w (Reg r) = false
 is_binary op w s = true
 
--- the operations that take an operand at some width
+-- the operations that take an operand, at one width at least
 abbrev pub takes_operand : Op → Bool
 takes_operand Neg = false
 takes_operand (Little n) = false
@@ -195,7 +195,7 @@ takes_operand (Swap n) = false
 takes_operand (MovSx Double) = false
 takes_operand op = true
 
--- the parts of a byte swap: 16, 32 and 64 bits
+-- the sizes of a byte swap: 16, 32 and 64 bits
 abbrev pub has_order : Size → Bool
 has_order Byte = false
 has_order n = true
@@ -250,6 +250,6 @@ pub record Spells (i : Insn) (bytes : List ℕ) : Type 0 where
   pub has : HasSpelling i
   pub are : bytes ≡ spelling_of i
 
--- The bytes begin with no spelling.
+-- The bytes do not begin with the spelling of any instruction.
 abbrev pub NoneBegins : List ℕ → Type 0
 NoneBegins bytes = (i : Insn) (text more : List ℕ) → Spells i text → bytes ≡ text ++ more → ⊥

@@ -35,7 +35,7 @@ fn op_of(code: u8, selector: i16) -> Option<Op>
     }
 }
 
-/// Returns true if an operation takes such an operand at a width.
+/// Returns true if an operation takes this operand at this width.
 fn allows(op: Op, width: Width, src: Operand) -> bool
     ensures { result ≡ is_binary op width src }
 {
@@ -48,7 +48,7 @@ fn allows(op: Op, width: Width, src: Operand) -> bool
     }
 }
 
-/// Arithmetic with an operand.
+/// Reads an operation with an operand.
 fn binary(fields: Fields, width: Width) -> Result<Insn, UnitFault>
     requires { fields.opcode % 8 ≡ arithmetic_class width }
     ensures found { Reads fields result }
@@ -77,7 +77,7 @@ fn binary(fields: Fields, width: Width) -> Result<Insn, UnitFault>
     })
 }
 
-/// The part of a byte swap.
+/// The size of a byte swap of this number of bits.
 fn swap_size(bits: i32) -> Option<Size>
     ensures found { IfSome result (λ size. IsTrue (has_order size) × (pos (size_bits size) ≡ bits)) }
     ensures only { (size : Size) → IsTrue (has_order size) → pos (size_bits size) ≡ bits → result ≡ Some size }
@@ -90,7 +90,7 @@ fn swap_size(bits: i32) -> Option<Size>
     }
 }
 
-/// A byte swap.
+/// Reads a byte swap.
 fn byte_swap(fields: Fields, width: Width) -> Result<Insn, UnitFault>
     requires class { fields.opcode % 8 ≡ arithmetic_class width }
     requires code { fields.opcode / 16 ≡ 13 }
@@ -128,7 +128,7 @@ fn byte_swap(fields: Fields, width: Width) -> Result<Insn, UnitFault>
     })
 }
 
-/// The negation.
+/// Reads a negation.
 fn negation(fields: Fields, width: Width) -> Result<Insn, UnitFault>
     requires class { fields.opcode % 8 ≡ arithmetic_class width }
     requires code { fields.opcode / 16 ≡ 8 }
@@ -157,7 +157,7 @@ fn negation(fields: Fields, width: Width) -> Result<Insn, UnitFault>
     })
 }
 
-/// The instruction of a unit of the class ALU or ALU64.
+/// Reads a unit of the class ALU or ALU64.
 pub fn arithmetic(fields: Fields, width: Width) -> Result<Insn, UnitFault>
     requires { fields.opcode % 8 ≡ arithmetic_class width }
     ensures found { Reads fields result }

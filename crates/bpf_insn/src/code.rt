@@ -23,7 +23,7 @@ impl Insn {
 /// The maximum number of units of a code.
 pub const UNIT_LIMIT: usize = 4096;
 
-/// A code: a list of instructions of the table, of at most 4,096 units. Clauses see the list.
+/// A code: a list of instructions of the table, of at most 4,096 units. In clauses it is that list.
 #[derive(Drop)]
 #[derive_where(Debug)]
 pub struct Code<A: Allocator = Global> {
@@ -100,8 +100,8 @@ impl<A: Allocator> Code<A> {
         *self.slots.get(unit)?
     }
 
-    /// Adds an instruction of the table at the end. There must be room for it. If allocation fails,
-    /// the code is unchanged.
+    /// Appends an instruction of the table. There must be room for its units. If allocation fails, the
+    /// code is unchanged.
     pub fn push(&mut self, insn: Insn) -> Result<(), AllocError>
         requires has { HasSpelling insn }
         requires room { unit_count self.old + units_of insn ≤ unit_limit }

@@ -8,7 +8,7 @@ use crate::fields::Fields;
 use crate::insn::Insn;
 use crate::operands::UnitFault;
 
-/// Reads the constant at the start of the bytes. Its first unit has these fields.
+/// Reads the constant at the start of the bytes. `first` has the fields of its first unit.
 pub fn wide_of(first: Fields, bytes: &[u8]) -> Result<Insn, UnitFault>
     requires opcode { first.opcode ≡ 0x18 }
     requires unit { take 8 bytes.now ≡ unit_bytes first }

@@ -32,13 +32,15 @@ fn decode_units<A: Allocator>(alloc: A, image: &[u8]) -> Result<Code<A>, DecodeF
     Ok(code)
 }
 
-/// Decodes an image; reads each unit once. The faults, in this order: `Length` if the number of
-/// bytes is not a multiple of 8, `TooLong` above 4,096 units, and then the first unit at which no
-/// instruction of the table begins: the first applicable one of `Opcode`, `HalfWide`, `Register`
-/// and `Reserved`. `NoMemory` if memory ran out.
+/// Decodes an image, and reads each unit once.
+///
+/// # Errors
+/// `Length` if the number of bytes is not a multiple of 8, otherwise `TooLong` above 4,096 units.
+/// Otherwise the fault of the first unit at which no instruction of the table begins: the first one
+/// that applies of `Opcode`, `HalfWide`, `Register` and `Reserved`. `NoMemory` if memory ran out.
 pub fn decode<A: Allocator>(alloc: A, image: &[u8]) -> Result<Code<A>, DecodeFault>
-    // The result's image is these bytes, and the code of these bytes is the result, unless memory
-    // runs out.
+    // The bytes are the image of the result. If they are the image of a code, that code is the
+    // result, unless memory runs out.
     ensures found { IfOk result (λ code. IsImage code image.now) }
     ensures only { (code : List Insn) → IsImage code image.now → IsCodeUnlessMemory result code }
 

@@ -7,8 +7,8 @@ use crate::code::Code;
 use crate::spelling::put_insn;
 use std::alloc::{AllocError, Allocator};
 
-/// The bytes of a code: the spellings of its instructions, joined (RFC 9669, section 3). `decode`
-/// gives the code again. The only error is out of memory.
+/// Returns the bytes of a code: the joined spellings of its instructions (RFC 9669, section 3).
+/// `decode` turns them back into the code. The only error is that memory ran out.
 pub fn encode<A: Allocator, B: Allocator>(
     alloc: A,
     code: &Code<B>,

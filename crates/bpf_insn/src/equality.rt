@@ -38,7 +38,7 @@ fn same_insn(a: Insn, b: Insn) -> bool
     high_of(a) == high_of(b)
 }
 
-/// The same for the slots of a unit.
+/// Compares the slots of two units.
 fn same_slot(a: Option<Insn>, b: Option<Insn>) -> bool
     requires left { IfSome a HasSpelling }
     requires right { IfSome b HasSpelling }
@@ -80,7 +80,7 @@ impl<A: Allocator> PartialEq for Code<A> {
 
     ghost laws = { on_per image_of (partial_equiv_from_equiv nat_list_eq_equiv) };
 
-    /// Compares the instructions, and so the bytes. Allocates no memory.
+    /// Compares the instructions. They are equal if and only if the bytes are. Allocates no memory.
     fn eq(&self, other: &Self) -> bool
         ensures exact { IsTrue result ↔ (self.now ≡ other.now) }
         ensures value { result ≡ bytes_eq (image_of self.now) (image_of other.now) }

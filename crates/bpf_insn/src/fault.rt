@@ -8,7 +8,7 @@ use std::alloc::AllocError;
 use std::error::Error;
 use std::fmt;
 
-/// The fault of an image. A place is the number of an instruction's first unit, from 0.
+/// The fault of an image. The number is the first unit of the invalid instruction, from 0.
 #[derive(Clone, Copy, Debug, PartialEq, Eq)]
 pub enum DecodeFault {
     /// Memory ran out.
@@ -17,14 +17,14 @@ pub enum DecodeFault {
     Length,
     /// There are more than 4,096 units.
     TooLong,
-    /// The opcode is not in the table, or a constant of 64 bits or a call names a source.
+    /// The opcode is not in the table, or the source of a constant of 64 bits or of a call is not 0.
     Opcode(usize),
     /// A constant of 64 bits begins in the last unit.
     HalfWide(usize),
-    /// A named register is above R10.
+    /// A register number is above 10.
     Register(usize),
     /// An unused field is not zero, a selector or a width is not in the table, or the second unit of
-    /// a constant has more than its half.
+    /// a constant has more than the high half of the constant.
     Reserved(usize),
 }
 
@@ -60,7 +60,7 @@ impl From<AllocError> for DecodeFault {
 impl UnitFault {
     ghost use Rattle.bpf_insn.specs.Decoding.{placed_fault};
 
-    /// The fault of the unit at a place.
+    /// This fault, at the unit `at`.
     pub fn at(self, at: usize) -> DecodeFault
         ensures { result ≡ placed_fault self at }
     {

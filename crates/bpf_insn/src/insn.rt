@@ -9,7 +9,7 @@ pub enum Width {
     W64,
 }
 
-/// The number of bytes of a part of a number, or of a place in memory: 1, 2, 4 or 8.
+/// The size of a part of a number, or of a memory access: 1, 2, 4 or 8 bytes.
 #[derive(Clone, Copy, Debug, PartialEq, Eq)]
 pub enum Size {
     Byte,
@@ -34,7 +34,7 @@ pub enum Op {
     Lsh,
     /// Shift to the right with zeros.
     Rsh,
-    /// The negated destination; it has no operand.
+    /// The negated destination. Takes no operand.
     Neg,
     /// Unsigned remainder.
     Mod,
@@ -46,11 +46,11 @@ pub enum Op {
     MovSx(Size),
     /// Arithmetic shift to the right.
     Arsh,
-    /// The low part of the destination, to little endian; it has no operand.
+    /// The low part of the destination, converted to little endian. Takes no operand.
     Little(Size),
-    /// The low part of the destination, to big endian; it has no operand.
+    /// The low part of the destination, converted to big endian. Takes no operand.
     Big(Size),
-    /// The low part of the destination with its bytes reversed; it has no operand.
+    /// The low part of the destination with its bytes reversed. Takes no operand.
     Swap(Size),
 }
 
@@ -60,15 +60,15 @@ pub enum Test {
     Eq,
     Gt,
     Ge,
-    /// The two have a bit in common.
+    /// True if the destination and the operand have a bit in common.
     Set,
     Ne,
-    /// Signed; also the next one.
+    /// A signed comparison, like `SGe`.
     SGt,
     SGe,
     Lt,
     Le,
-    /// Signed; also the next one.
+    /// A signed comparison, like `SLe`.
     SLt,
     SLe,
 }
@@ -110,7 +110,7 @@ pub enum Insn {
     Jump {
         offset: i16,
     },
-    /// The same with a distance of 32 bits.
+    /// Like `Jump`, with a distance of 32 bits.
     JumpFar {
         offset: i32,
     },
@@ -118,7 +118,7 @@ pub enum Insn {
     Call {
         helper: i32,
     },
-    /// The end of the program, with its code in R0.
+    /// The end of the program, with its exit number in R0.
     Exit,
     /// Loads a number from memory into `dst`.
     Load {

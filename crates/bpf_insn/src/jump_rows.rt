@@ -8,7 +8,7 @@ use crate::fields::Fields;
 use crate::insn::{Insn, Operand, Test, Width};
 use crate::operands::{UnitFault, operand_of};
 
-/// The test of a number.
+/// The test with this number.
 fn test_of(code: u8) -> Option<Test>
     ensures found { IfSome result (λ test. test_code test ≡ code) }
     ensures only { (test : Test) → test_code test ≡ code → result ≡ Some test }
@@ -29,7 +29,7 @@ fn test_of(code: u8) -> Option<Test>
     }
 }
 
-/// A conditional jump.
+/// Reads a conditional jump.
 fn branch(fields: Fields, width: Width) -> Result<Insn, UnitFault>
     requires { fields.opcode % 8 ≡ jump_class width }
     ensures found { Reads fields result }
@@ -56,7 +56,7 @@ fn branch(fields: Fields, width: Width) -> Result<Insn, UnitFault>
     })
 }
 
-/// A jump by the offset.
+/// Reads a jump by the offset.
 fn jump(fields: Fields) -> Result<Insn, UnitFault>
     requires { fields.opcode ≡ 0x05 }
     ensures found { Reads fields result }
@@ -76,7 +76,7 @@ fn jump(fields: Fields) -> Result<Insn, UnitFault>
     })
 }
 
-/// A jump by the immediate.
+/// Reads a jump by the immediate.
 fn jump_far(fields: Fields) -> Result<Insn, UnitFault>
     requires { fields.opcode ≡ 0x06 }
     ensures found { Reads fields result }
@@ -94,7 +94,7 @@ fn jump_far(fields: Fields) -> Result<Insn, UnitFault>
     Ok(Insn::JumpFar { offset: fields.imm })
 }
 
-/// A call of a helper by its number; another source would call something else.
+/// Reads a call of a helper by its number. With a source other than 0 it would be another kind of call.
 fn call(fields: Fields) -> Result<Insn, UnitFault>
     requires { fields.opcode ≡ 0x85 }
     ensures found { Reads fields result }
@@ -112,7 +112,7 @@ fn call(fields: Fields) -> Result<Insn, UnitFault>
     Ok(Insn::Call { helper: fields.imm })
 }
 
-/// The end.
+/// Reads EXIT.
 fn exit(fields: Fields) -> Result<Insn, UnitFault>
     requires { fields.opcode ≡ 0x95 }
     ensures found { Reads fields result }
@@ -133,7 +133,7 @@ fn exit(fields: Fields) -> Result<Insn, UnitFault>
     Ok(Insn::Exit)
 }
 
-/// The instruction of a unit of the class JMP or JMP32.
+/// Reads a unit of the class JMP or JMP32.
 pub fn any_jump(fields: Fields, width: Width) -> Result<Insn, UnitFault>
     requires { fields.opcode % 8 ≡ jump_class width }
     ensures found { Reads fields result }

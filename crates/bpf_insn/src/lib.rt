@@ -1,7 +1,7 @@
 //! Instructions of RFC 9669, their results, and programs as bytes.
 //!
-//! An image is a list of units of 8 bytes. `decode` gives its code, a list of instructions, and
-//! `encode` the bytes of a code. `apply` computes an operation and `holds` a test.
+//! An image is a list of units of 8 bytes. `decode` turns it into its code, a list of instructions,
+//! and `encode` turns a code into its image. `apply` computes an operation and `holds` a test.
 #![tactic(auto)]
 
 mod arithmetic;

@@ -8,7 +8,7 @@ use crate::fields::Fields;
 use crate::insn::{Insn, Size};
 use crate::operands::UnitFault;
 
-/// A load.
+/// Reads a load.
 fn load(fields: Fields, size: Size) -> Result<Insn, UnitFault>
     requires { fields.opcode ≡ 0x61 + size_code size * 8 }
     ensures found { Reads fields result }
@@ -31,7 +31,7 @@ fn load(fields: Fields, size: Size) -> Result<Insn, UnitFault>
     })
 }
 
-/// A sign-extending load.
+/// Reads a sign-extending load.
 fn load_signed(fields: Fields, size: Size) -> Result<Insn, UnitFault>
     requires row { fields.opcode ≡ 0x81 + size_code size * 8 }
     requires narrow { IsTrue (is_narrow size) }
@@ -55,7 +55,7 @@ fn load_signed(fields: Fields, size: Size) -> Result<Insn, UnitFault>
     })
 }
 
-/// A store of a number.
+/// Reads a store of a number.
 fn store_imm(fields: Fields, size: Size) -> Result<Insn, UnitFault>
     requires { fields.opcode ≡ 0x62 + size_code size * 8 }
     ensures found { Reads fields result }
@@ -75,7 +75,7 @@ fn store_imm(fields: Fields, size: Size) -> Result<Insn, UnitFault>
     })
 }
 
-/// A store of a register.
+/// Reads a store of a register.
 fn store(fields: Fields, size: Size) -> Result<Insn, UnitFault>
     requires { fields.opcode ≡ 0x63 + size_code size * 8 }
     ensures found { Reads fields result }
@@ -98,7 +98,7 @@ fn store(fields: Fields, size: Size) -> Result<Insn, UnitFault>
     })
 }
 
-/// A load by its opcode.
+/// Reads a load of any size, by its opcode.
 fn any_load(fields: Fields) -> Result<Insn, UnitFault>
     ensures found { Reads fields result }
     ensures plain { (n : Size) (d b : ℕ) (off : ℤ) → OnlyReads fields result (Insn.Load n d b off) }
@@ -116,7 +116,7 @@ fn any_load(fields: Fields) -> Result<Insn, UnitFault>
     }
 }
 
-/// A store by its opcode.
+/// Reads a store of any size, by its opcode.
 fn any_store(fields: Fields) -> Result<Insn, UnitFault>
     ensures found { Reads fields result }
     ensures number { (n : Size) (b : ℕ) (off k : ℤ) → OnlyReads fields result (Insn.StoreImm n b off k) }
@@ -135,7 +135,7 @@ fn any_store(fields: Fields) -> Result<Insn, UnitFault>
     }
 }
 
-/// The instruction of a unit of the classes LDX, ST and STX.
+/// Reads a unit of the class LDX, ST or STX.
 pub fn memory(fields: Fields) -> Result<Insn, UnitFault>
     ensures found { Reads fields result }
     ensures load { (n : Size) (d b : ℕ) (off : ℤ) → OnlyReads fields result (Insn.Load n d b off) }

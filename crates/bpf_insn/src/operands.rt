@@ -5,20 +5,20 @@ ghost use Rattle.bpf_insn.specs.Spelling.{source_bit, source_of, immediate_of, I
 use crate::fields::Fields;
 use crate::insn::Operand;
 
-/// The fault of a unit. If there are several, the first in this order is reported.
+/// The fault of a unit. If a unit has several faults, the first variant that applies is reported.
 #[derive(Clone, Copy, Debug, PartialEq, Eq)]
 pub enum UnitFault {
-    /// The opcode is not in the table, or a constant or a call names a source.
+    /// The opcode is not in the table, or the source of a constant or of a call is not 0.
     Opcode,
     /// A constant of 64 bits begins in the last unit.
     HalfWide,
-    /// A named register is above R10.
+    /// A register number is above 10.
     Register,
     /// An unused field is not zero, or a selector or a width is not in the table.
     Reserved,
 }
 
-/// The operand. `None` if a field that it leaves unused is not zero.
+/// The operand of a unit. `None` if its register is above R10, or a field that it leaves unused is not zero.
 pub fn operand_of(fields: Fields) -> Option<Operand>
     ensures found { IfSome result (λ s. IsOperand s × (source_of s ≡ fields.src) × (immediate_of s ≡ fields.imm) × (source_bit s ≡ fields.opcode / 8 % 2 * 8)) }
     ensures only { (s : Operand) → IsOperand s → source_of s ≡ fields.src → immediate_of s ≡ fields.imm → source_bit s ≡ fields.opcode / 8 % 2 * 8 → result ≡ Some s }

@@ -10,7 +10,7 @@ use crate::jump_rows::any_jump;
 use crate::memory_rows::memory;
 use crate::operands::UnitFault;
 
-/// The instruction of one unit.
+/// Reads an instruction of one unit.
 pub fn insn_of(fields: Fields) -> Result<Insn, UnitFault>
     requires { fields.opcode ≢ 0x18 }
     ensures found { Reads fields result }

@@ -42,7 +42,7 @@ fn bits(size: Size) -> u8
     }
 }
 
-/// The offset that chooses the operation.
+/// The offset that chooses among operations with the same number.
 fn selector(op: Op) -> u8
     ensures { result ≡ selector_of op }
 {
@@ -161,7 +161,7 @@ fn plain(opcode: u8, dst: u8, imm: i32) -> Fields
     }
 }
 
-/// The half of a constant as an immediate.
+/// A half of a constant, as an immediate.
 fn half(number: u64) -> i32
     requires { number < 2 ^ 32 }
     ensures { result ≡ cast_signed w32 number }
@@ -259,7 +259,7 @@ pub fn row(insn: Insn) -> Fields
     }
 }
 
-/// Appends the only spelling of an instruction. If allocation fails, a part of it may be appended.
+/// Appends the only spelling of an instruction. If allocation fails, a part of the spelling may be appended.
 pub fn put_insn<A: Allocator>(out: &mut Vec<u8, A>, insn: Insn) -> Result<(), AllocError>
     requires { HasSpelling insn }
     ensures { OnOk result (out.new.items ≡ out.old.items ++ spelling_of insn) }

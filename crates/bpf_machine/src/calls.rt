@@ -6,7 +6,7 @@ ghost use Rattle.bpf_machine.specs.Words.{Answers, core_of};
 
 use bpf_helpers::{Env, Helper};
 
-/// A call of a helper that touches no memory. R1 to R5 keep their words, but no program reads them.
+/// Calls a helper that touches no memory. R1 to R5 keep their words, but no accepted program reads them.
 #[inline(always)]
 pub fn do_answer(registers: &mut [u64; 11], word: &mut u64, env: Env, helper: Helper)
     requires { helper ≢ Copy }

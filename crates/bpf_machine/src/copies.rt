@@ -14,7 +14,7 @@ use crate::places::place_at;
 use bpf_helpers::Region;
 use bpf_helpers::memory::{move_within, put};
 
-/// Copies n bytes from a place of one memory to a place of another.
+/// Copies n bytes from an index of one region to an index of another.
 fn put_part(to: &mut [u8], at: usize, from: &[u8], start: usize, n: usize)
     requires to_fits { at + n ≤ length to.old }
     requires from_fits { start + n ≤ length from.now }
@@ -26,7 +26,7 @@ fn put_part(to: &mut [u8], at: usize, from: &[u8], start: usize, n: usize)
     put(to, at, &from[start..start + n]);
 }
 
-/// Copies the n bytes at an address to a place in the record.
+/// Copies the n bytes at an address to an index of the record.
 fn copy_to_record(
     core: &Core,
     bytes: &mut [u8],
@@ -59,7 +59,7 @@ fn copy_to_record(
     }
 }
 
-/// Copies the n bytes at an address to a place on the stack.
+/// Copies the n bytes at an address to an index of the stack.
 fn copy_to_stack(
     core: &mut Core,
     bytes: &[u8],
@@ -123,8 +123,8 @@ fn copy(
     }
 }
 
-/// A call of the helper that copies: R1 is the destination, R2 the source, and R3 the number of bytes. R1 points into the region `to`, R2
-/// into `from`.
+/// Calls the helper that copies: R1 is the destination, in the region `to`, R2 the source, in the region `from`, and R3 the number of
+/// bytes.
 pub fn do_copy(core: &mut Core, bytes: &mut [u8], argument: &[u8], to: Region, from: Region)
     requires bytes_fit { length bytes.old ≤ record_limit }
     requires argument_fits { length argument.now ≤ argument_limit }

@@ -5,7 +5,7 @@ use Rattle.bpf_range.specs.declared.values.Bits.{Bits}
 use Rattle.bpf_range.specs.declared.known.Known.{Known}
 use Rattle.bpf_range.specs.Bits.{Matches}
 
--- from the least to the greatest
+-- x is from the least to the greatest number of the range
 pub record In (r : Range) (x : ℕ) : Type 0 where
   pub least : r.lo ≤ x
   pub greatest : x ≤ r.hi

@@ -7,7 +7,7 @@ ghost use Rattle.bpf_range.specs.Sets.{In, Within};
 use crate::values::Range;
 use bpf_insn::{Test, Width};
 
-/// Narrows to the numbers with `a` greater than `b`.
+/// Narrows both ranges for the test that the number of `a` is greater than that of `b`.
 fn above(a: Range, b: Range) -> Option<(Range, Range)>
     ensures keeps { (x y : ℕ) → In a x → In b y → y < x → IsSomeAnd result (λ p. In p.0 x × In p.1 y) }
     ensures within { IfSome result (λ p. Within p.0 a × Within p.1 b) }
@@ -27,7 +27,7 @@ fn above(a: Range, b: Range) -> Option<(Range, Range)>
     ))
 }
 
-/// Narrows to the numbers with `a` greater than or equal to `b`.
+/// Narrows both ranges for the test that the number of `a` is at least that of `b`.
 fn at_least(a: Range, b: Range) -> Option<(Range, Range)>
     ensures keeps { (x y : ℕ) → In a x → In b y → y ≤ x → IsSomeAnd result (λ p. In p.0 x × In p.1 y) }
     ensures within { IfSome result (λ p. Within p.0 a × Within p.1 b) }
@@ -47,7 +47,7 @@ fn at_least(a: Range, b: Range) -> Option<(Range, Range)>
     ))
 }
 
-/// Narrows to equal numbers: those in both ranges.
+/// Narrows both ranges for the test that the numbers are equal, to the numbers in both.
 fn same(a: Range, b: Range) -> Option<(Range, Range)>
     ensures keeps { (x y : ℕ) → In a x → In b y → x ≡ y → IsSomeAnd result (λ p. In p.0 x × In p.1 y) }
     ensures within { IfSome result (λ p. Within p.0 a × Within p.1 b) }
@@ -61,8 +61,8 @@ fn same(a: Range, b: Range) -> Option<(Range, Range)>
     Some((common, common))
 }
 
-/// Removes the number of `other` if `other` has one number and it is an end of the range. The last
-/// number is never removed.
+/// Removes the number of `other` from the range, if `other` has only one number and it is an end of the
+/// range. The last number of the range is never removed.
 fn without(a: Range, other: Range) -> Range
     ensures keeps { (x y : ℕ) → In a x → In other y → x ≢ y → In result x }
     ensures within { Within result a }
@@ -88,7 +88,7 @@ fn without(a: Range, other: Range) -> Range
     a
 }
 
-/// Narrows to different numbers.
+/// Narrows both ranges for the test that the numbers differ.
 fn different(a: Range, b: Range) -> Option<(Range, Range)>
     ensures keeps { (x y : ℕ) → In a x → In b y → x ≢ y → IsSomeAnd result (λ p. In p.0 x × In p.1 y) }
     ensures within { IfSome result (λ p. Within p.0 a × Within p.1 b) }
@@ -96,7 +96,7 @@ fn different(a: Range, b: Range) -> Option<(Range, Range)>
     Some((without(a, b), without(b, a)))
 }
 
-/// Narrows to numbers with a common bit: `None` if either range has only 0, otherwise unchanged.
+/// Narrows both ranges for the test of a common bit: `None` if either has only 0, otherwise unchanged.
 fn common(a: Range, b: Range) -> Option<(Range, Range)>
     ensures keeps { (x y : ℕ) → In a x → In b y → bit_and x y ≢ 0 → IsSomeAnd result (λ p. In p.0 x × In p.1 y) }
     ensures within { IfSome result (λ p. Within p.0 a × Within p.1 b) }
@@ -110,7 +110,7 @@ fn common(a: Range, b: Range) -> Option<(Range, Range)>
     Some((a, b))
 }
 
-/// The same with the operands exchanged.
+/// Exchanges both ranges of a result.
 fn turned(found: Option<(Range, Range)>) -> Option<(Range, Range)>
     ensures keeps { (x y : ℕ) → IsSomeAnd found (λ p. In p.0 x × In p.1 y) → IsSomeAnd result (λ p. In p.0 y × In p.1 x) }
     ensures within { (s t : Range) → IfSome found (λ p. Within p.0 s × Within p.1 t) → IfSome result (λ p. Within p.0 t × Within p.1 s) }

@@ -1,4 +1,4 @@
-//! Joins of what is known on two ways.
+//! Joins of the facts known on two edges.
 
 ghost use Rattle.std.specs.Prelude.{◌≡◌, ◌≤◌, ℕ};
 ghost use Rattle.bpf_range.specs.Sets.{Contains, In, Within, HasBits, range_of};
@@ -30,8 +30,8 @@ pub fn common_bits(a: Bits, b: Bits) -> Bits
     }
 }
 
-/// The numbers of both, and often more. The range is the least that contains both ranges. A bit is
-/// known if it is known in both and equal. Then range and bits are settled.
+/// Contains the numbers of both operands, and often more. The range is the least that contains both
+/// ranges. A bit is known if it is known in both and equal. Then range and bits are settled.
 pub fn join(a: Known, b: Known) -> Known
     ensures left { (x : ℕ) → Contains a x → Contains result x }
     ensures right { (x : ℕ) → Contains b x → Contains result x }

@@ -1,10 +1,10 @@
-//! Facts known about a number without running a program: its least and its greatest value and some
-//! of its bits. Operations, joins and tests compute with that.
+//! Facts known about a number without running a program: its least and greatest value and some of
+//! its bits. Operations, joins and tests compute with these facts.
 //!
 //! `Range` has only the ends, `Bits` the bits, `Known` both; `Kind` is the kind of a register's
 //! value. `transfer` computes the result of an operation, `refine` narrows the operands of a
-//! conditional jump, and `join` joins two ways. Each result contains the true numbers, and often
-//! more. No function allocates memory.
+//! conditional jump, and `join` joins the facts of two edges. Each result contains all possible
+//! numbers, and often more. No function allocates memory.
 #![tactic(auto)]
 
 mod arithmetic;

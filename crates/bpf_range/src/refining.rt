@@ -25,7 +25,7 @@ fn unsigned(test: Test) -> Test
     }
 }
 
-/// Up to this number an unsigned test of 64 bits has the same result.
+/// The greatest number up to which the test has the same result as an unsigned test of 64 bits.
 fn greatest_tested(test: Test, width: Width) -> u64
     ensures { result + 1 ≡ reach test width }
 {
@@ -65,8 +65,8 @@ pub fn refine_range(
     compare(unsigned(test), a, b, taken)
 }
 
-/// The first operand's bits after a test with the result `taken`. They change only if the number
-/// has no bit in common with a single number, at 64 bits: those bits are 0.
+/// The first operand's bits after a test with the result `taken`. They change only if a 64-bit test
+/// found no bit in common with a single number: the bits of that number are then 0.
 fn tested_bits(test: Test, width: Width, a: Bits, b: Range, taken: bool) -> Bits
     ensures { (x y : ℕ) → x < 2 ^ 64 → HasBits a x → In b y → holds_of test width x y ≡ taken → HasBits result x }
 {
@@ -79,8 +79,8 @@ fn tested_bits(test: Test, width: Width, a: Bits, b: Range, taken: bool) -> Bits
     }
 }
 
-/// Narrows a test's operands to the numbers for which it has the result `taken`. `None` only if
-/// they contain no such numbers: the edge of the conditional jump is never taken. The ranges are
+/// Narrows a test's operands to the numbers for which the test has the result `taken`. `None` only if
+/// there are no such numbers, so that this edge of the conditional jump is never taken. The ranges are
 /// those of `refine_range`, cut by the bits, which stay known.
 pub fn refine(test: Test, width: Width, a: Known, b: Known, taken: bool) -> Option<(Known, Known)>
     ensures keeps { (x y : ℕ) → Contains a x → Contains b y → holds_of test width x y ≡ taken → IsSomeAnd result (λ p. Contains p.0 x × Contains p.1 y) }

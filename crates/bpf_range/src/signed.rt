@@ -1,5 +1,5 @@
-//! Signed operations on ranges. They are the unsigned ones if no number has its sign bit set,
-//! otherwise nothing is known of the result.
+//! Signed operations on ranges. They equal the unsigned operations if no number has its sign bit
+//! set; otherwise nothing is known about the result.
 
 ghost use Rattle.std.specs.Prelude.{◌≡◌, ◌<◌, ◌≤◌, ◌+◌, ◌*◌, ◌/◌, ◌%◌, ◌^◌, ℕ};
 ghost use Rattle.bpf_insn.specs.Arithmetic.{uncut_result, modulus, sign_extension, bits_of, size_modulus};
@@ -12,7 +12,7 @@ use crate::values::Range;
 use crate::widths::{all, greatest, greatest_positive, greatest_positive_part};
 use bpf_insn::{Size, Width};
 
-/// Signed quotients: the unsigned ones if no sign bit may be set.
+/// Signed quotients. They equal the unsigned quotients if no sign bit may be set.
 pub fn signed_div(width: Width, a: Range, b: Range) -> Range
     ensures { Covers (λ x y. uncut_result SDiv width x y % modulus width) a b result }
 {
@@ -25,7 +25,7 @@ pub fn signed_div(width: Width, a: Range, b: Range) -> Range
     div(a, b)
 }
 
-/// Signed remainders: the unsigned ones if no sign bit may be set.
+/// Signed remainders. They equal the unsigned remainders if no sign bit may be set.
 pub fn signed_rem(width: Width, a: Range, b: Range) -> Range
     ensures { Covers (λ x y. uncut_result SMod width x y % modulus width) a b result }
 {
@@ -38,7 +38,7 @@ pub fn signed_rem(width: Width, a: Range, b: Range) -> Range
     rem(a, b)
 }
 
-/// Shifts to the right with the sign: with zeros if no sign bit may be set.
+/// Arithmetic shifts to the right. They equal shifts with zeros if no sign bit may be set.
 pub fn signed_shift(width: Width, a: Range, count: Range) -> Range
     requires { a.hi < modulus width }
     ensures { Covers (λ x y. uncut_result Arsh width x y % modulus width) a count result }
@@ -49,8 +49,8 @@ pub fn signed_shift(width: Width, a: Range, count: Range) -> Range
     shift_right(width, a, count)
 }
 
-/// The sign-extended low parts of numbers, cut to the width: the numbers themselves if they fit
-/// such a part with a sign bit of 0.
+/// The sign-extended low parts of numbers, cut to the width: the numbers themselves if each fits a
+/// part of this size with a sign bit of 0.
 pub fn extended(width: Width, size: Size, b: Range) -> Range
     requires { b.hi < modulus width }
     ensures { (y : ℕ) → In b y → In result (sign_extension size y % modulus width) }

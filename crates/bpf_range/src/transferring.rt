@@ -76,9 +76,9 @@ fn swapped(size: Size) -> Range
 
 /// The range of the results of an operation on the destination `a` and the operand `b` (RFC 9669,
 /// section 4.1), from the ends alone. `Neg` and the byte orders read only `a`, `Mov` and `MovSx`
-/// only `b`. If the operands that are read are single numbers, so is the result. Otherwise both are
-/// cut to the width, except for a byte order, and the result is computed from their ends. If a
-/// result between these may wrap or change its sign, it is the full range. Allocates no memory.
+/// only `b`. If each operand that is read is a single number, so is the result. Otherwise the
+/// operands are cut to the width, except for a byte order, and the result is computed from their
+/// ends. It is the full range if the ends give no better bound. Allocates no memory.
 pub fn transfer_range(op: Op, width: Width, a: Range, b: Range) -> Range
     ensures covers { Covers (result_of op width) a b result }
     ensures single { (x y : ℕ) → IsOnly a x → IsOnly b y → IsOnly result (result_of op width x y) }

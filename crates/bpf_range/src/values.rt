@@ -11,7 +11,7 @@ pub struct Range {
 }
 
 /// The numbers that equal `value` after clearing the bits of `unknown`: each bit of a number is
-/// known to be 1, known to be 0, or unknown. No bit is in both.
+/// known to be 1, known to be 0, or unknown. No bit is in both `value` and `unknown`.
 #[derive(Clone, Copy, Debug, PartialEq, Eq)]
 pub struct Bits {
     pub value: u64,

@@ -8,13 +8,13 @@ use Rattle.bpf_helpers.specs.Ends.{outcome_in}
 use Rattle.bpf_reference.specs.declared.checked.Checked.{Checked}
 use Rattle.bpf_reference.specs.declared.checked.Checked.TheVariants.{Ended, Stuck}
 
--- The answer is true of the run of a program on a record, an argument and an environment: how the run ended, or the unit at which it is
--- stuck. The run left these bytes in the record.
+-- The answer is true of the run of a program on a record, an argument and an environment: it says how the run ended, or at which unit it
+-- is stuck. The run left the bytes `left` in the record.
 abbrev pub Tells : List Insn → List ℕ → List ℕ → Env → Checked → List ℕ → Type 0
 Tells program bytes argument env (Ended e) left = Ends program bytes argument env (outcome_in e left)
 Tells program bytes argument env (Stuck at) left = Sticks program bytes argument env at left
 
--- A run of n steps stops at the instruction: it is EXIT with a number in R0, or the run is stuck at it.
+-- A run stops at the instruction, after `steps` instructions: this one is EXIT with a number in R0, or the run is stuck at it.
 abbrev pub Finishes : Insn → Config → ℕ → Checked → Type 0
 Finishes insn c steps (Ended e) = (exit_code insn c ≡ Some e.code) × (e.word ≡ c.word) × (e.steps ≡ steps)
 Finishes insn c steps (Stuck at) = (exit_code insn c ≡ None) × (at ≡ c.place)

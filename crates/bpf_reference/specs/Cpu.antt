@@ -28,15 +28,15 @@ GoesTo code place old new result =
     ((fetch code place ≡ None) × (new ≡ old))
     (λ next. Begins code place next × (new ≡ record old { place = place }))
 
--- If an effect leads to an instruction further down, the effect is done and the instruction returned. Otherwise, or if there is no
--- effect, the configuration is unchanged.
+-- If an effect leads to an instruction at a later unit, the effect is carried out, and that instruction is returned. Otherwise the
+-- configuration is unchanged.
 abbrev pub Leads : List Insn → Option Config → Config → Config → Option Insn → Type 0
 Leads code reached old new result =
     MatchOption result
     ((option_and_then (arrives code) reached ≡ None) × (new ≡ old))
     (λ next. (reached ≡ Some new) × Begins code new.place next × (old.place < new.place))
 
--- A helper's answer in R0 and the reply word, at the same unit. R1 to R5 are then unset.
+-- The machine after a helper's answer, at the same unit: R0 and the reply word are set, and R1 to R5 are unset.
 abbrev pub answered_cpu : Answer → Cpu → Cpu
 answered_cpu a cpu = record cpu { registers = Number a.value ∷ Nothing ∷ Nothing ∷ Nothing ∷ Nothing ∷ Nothing ∷ drop 6 cpu.registers; word = a.word }
 

@@ -13,7 +13,7 @@ use bpf_helpers::{Env, Helper, Value, helper_of};
 use bpf_insn::{Code, Insn};
 use std::alloc::Allocator;
 
-/// Sets the registers after a call whose result is a number: R0 has it, and R1 to R5 are unset.
+/// Sets the registers after a call: R0 has the answer, and R1 to R5 are unset.
 fn put_answer(registers: &mut [Value; 11], value: u64)
     ensures { registers.new ≡ Value.Number value ∷ Value.Nothing ∷ Value.Nothing ∷ Value.Nothing ∷ Value.Nothing ∷ Value.Nothing ∷ drop 6 registers.old }
 {
@@ -26,7 +26,7 @@ fn put_answer(registers: &mut [Value; 11], value: u64)
 }
 
 impl Cpu {
-    /// Calls a helper and puts its answer into R0 and the reply word.
+    /// Calls a helper, puts its answer into R0, and sets the reply word.
     pub fn answer(&mut self, env: Env, helper: Helper, given: u64)
         ensures { self.new ≡ answered_cpu (answer_of helper given env self.old.word) self.old }
     {
@@ -35,7 +35,7 @@ impl Cpu {
     }
 }
 
-/// A call of a helper that touches no memory, with a number as argument.
+/// Executes a call of a helper that touches no memory, with a number as argument.
 fn step_answer<A: Allocator>(
     code: &Code<A>,
     cpu: &mut Cpu,
@@ -51,7 +51,7 @@ fn step_answer<A: Allocator>(
     Some(next)
 }
 
-/// A call that sets the reply word to the number in R1.
+/// Executes a call that sets the reply word to the number in R1.
 fn step_reply<A: Allocator>(code: &Code<A>, cpu: &mut Cpu, env: Env) -> Option<Insn>
     requires place { cpu.old.place < unit_limit }
     ensures { (bytes argument : List ℕ) → Leads code.now (after_reply (register (config_of cpu.old bytes argument env) 1) (config_of cpu.old bytes argument env)) (config_of cpu.old bytes argument env) (config_of cpu.new bytes argument env) result }
@@ -62,7 +62,7 @@ fn step_reply<A: Allocator>(code: &Code<A>, cpu: &mut Cpu, env: Env) -> Option<I
     step_answer(code, cpu, env, Helper::Reply, given)
 }
 
-/// A call of a helper by its number.
+/// Executes a call of a helper by its number.
 pub fn step_call<A: Allocator>(
     code: &Code<A>,
     cpu: &mut Cpu,

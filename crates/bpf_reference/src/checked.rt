@@ -21,7 +21,7 @@ pub enum Checked {
     Stuck(usize),
 }
 
-/// The result of a run at an instruction without a successor: its end if the instruction is EXIT, otherwise stuck.
+/// The result of a run at an instruction without a successor: the end if the instruction is EXIT with a number in R0, otherwise stuck.
 fn finished(cpu: &Cpu, insn: Insn, steps: usize) -> Checked
     ensures { (bytes argument : List ℕ) (env : EnvOf) → Finishes insn (config_of cpu.now bytes argument env) steps result }
 {
@@ -61,8 +61,8 @@ fn run_with<A: Allocator>(code: &Code<A>, env: Env, bytes: &mut [u8], argument: 
 }
 
 /// Runs a code on a record and an argument, with every test in the definition of a step. The answer says how the run ended, or at which
-/// unit it is stuck; no other answer is true of the run. The record is changed in place; if the run is stuck, it has the bytes written so
-/// far. The record has at most 8,008 bytes and the argument at most 1,024. Allocates no memory.
+/// unit it is stuck; no other answer is true of the run. The record, of at most 8,008 bytes, is changed in place; if the run is stuck, it
+/// has the bytes written so far. The argument has at most 1,024 bytes. Allocates no memory.
 pub fn run_checked<A: Allocator>(
     code: &Code<A>,
     env: &Env,

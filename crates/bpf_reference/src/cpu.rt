@@ -68,7 +68,7 @@ impl Cpu {
         }
     }
 
-    /// Moves to the instruction at a unit and returns it. `None`, with nothing changed, if no instruction begins there.
+    /// Moves to the instruction at a unit and returns it. Returns `None`, and changes nothing, if no instruction begins there.
     pub fn go<A: Allocator>(&mut self, code: &Code<A>, place: usize) -> Option<Insn>
         ensures { GoesTo code.now place self.old self.new result }
     {
@@ -77,8 +77,8 @@ impl Cpu {
         Some(next)
     }
 
-    /// Writes a register, moves to the instruction `units` units further and returns it. `None`, with nothing changed, if the register is
-    /// R10 or no instruction begins there.
+    /// Writes a register, moves to the instruction `units` units further and returns it. Returns `None`, and changes nothing, if the
+    /// register is R10 or no instruction begins at that unit.
     pub fn set<A: Allocator>(
         &mut self,
         code: &Code<A>,

@@ -12,7 +12,7 @@ use crate::values::comparison;
 use bpf_insn::{Code, Insn, Operand, Test, Width};
 use std::alloc::Allocator;
 
-/// A jump by `distance` units from the next unit.
+/// Executes a jump by `distance` units from the next unit.
 pub fn step_jump<A: Allocator>(code: &Code<A>, cpu: &mut Cpu, distance: i32) -> Option<Insn>
     requires place { cpu.old.place < unit_limit }
     ensures { (bytes argument : List ℕ) (env : EnvOf) → Leads code.now (jump_by distance (config_of cpu.old bytes argument env)) (config_of cpu.old bytes argument env) (config_of cpu.new bytes argument env) result }
@@ -24,7 +24,7 @@ pub fn step_jump<A: Allocator>(code: &Code<A>, cpu: &mut Cpu, distance: i32) -> 
     cpu.go(code, place)
 }
 
-/// A jump if a test holds.
+/// Executes a jump that is taken if a test holds.
 pub fn step_branch<A: Allocator>(
     code: &Code<A>,
     cpu: &mut Cpu,

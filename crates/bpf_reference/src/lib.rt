@@ -1,7 +1,7 @@
 //! The machine that runs any code, accepted or not.
 //!
-//! `run_checked` tests each instruction before it has any effect, and stops if the definitions give it none: for example, if it reads an
-//! unset register. It shows what a program means; tests compare the machine of accepted programs with it.
+//! `run_checked` tests each instruction before it has any effect, and stops if the definitions give the instruction no effect: for example,
+//! if it reads an unset register. Tests compare the machine for accepted programs with it.
 #![tactic(auto)]
 
 mod arithmetic;

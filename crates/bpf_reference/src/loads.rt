@@ -16,7 +16,7 @@ use bpf_helpers::memory::{count_of, read};
 use bpf_insn::{Code, Insn, Size, sign_extended};
 use std::alloc::Allocator;
 
-/// The number at an address.
+/// Reads the number at an address.
 fn load(
     cpu: &Cpu,
     bytes: &[u8],
@@ -37,7 +37,7 @@ fn load(
     Some(read(memory, place, size))
 }
 
-/// A load.
+/// Executes a load.
 pub fn step_load<A: Allocator>(
     code: &Code<A>,
     cpu: &mut Cpu,
@@ -59,7 +59,7 @@ pub fn step_load<A: Allocator>(
     cpu.set(code, 1, dst, Value::Number(x))
 }
 
-/// A sign-extending load.
+/// Executes a sign-extending load.
 pub fn step_load_signed<A: Allocator>(
     code: &Code<A>,
     cpu: &mut Cpu,

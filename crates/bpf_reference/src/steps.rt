@@ -17,7 +17,7 @@ use bpf_helpers::{Env, Value};
 use bpf_insn::{Code, Insn};
 use std::alloc::Allocator;
 
-/// A load, sign-extending or not.
+/// Executes a load, sign-extending or not.
 fn step_any_load<A: Allocator>(
     code: &Code<A>,
     cpu: &mut Cpu,
@@ -48,7 +48,7 @@ fn step_any_load<A: Allocator>(
     }
 }
 
-/// A store, of an immediate or of a register.
+/// Executes a store, of an immediate or of a register.
 fn step_any_store<A: Allocator>(
     code: &Code<A>,
     cpu: &mut Cpu,
@@ -77,8 +77,8 @@ fn step_any_store<A: Allocator>(
     }
 }
 
-/// Executes an instruction and returns the next one. `None`, with nothing changed, if it has no effect, if no instruction begins at its
-/// target, or if it is EXIT.
+/// Executes an instruction and returns the next one. Returns `None`, and changes nothing, if the instruction is EXIT or has no effect, or
+/// if no instruction begins at the unit to which it leads.
 pub fn step<A: Allocator>(
     code: &Code<A>,
     cpu: &mut Cpu,

@@ -50,7 +50,7 @@ fn store<A: Allocator>(
     }
 }
 
-/// A store of an immediate.
+/// Executes a store of an immediate.
 pub fn step_store_imm<A: Allocator>(
     code: &Code<A>,
     cpu: &mut Cpu,
@@ -69,7 +69,7 @@ pub fn step_store_imm<A: Allocator>(
     store(code, cpu, bytes, cpu.register(base), offset, size, x)
 }
 
-/// A store of a register.
+/// Executes a store of a register.
 pub fn step_store<A: Allocator>(
     code: &Code<A>,
     cpu: &mut Cpu,

@@ -37,7 +37,7 @@ fn written(b: Value) -> Option<Value>
     }
 }
 
-/// The greatest offset of a pointer, to either side.
+/// The greatest absolute value of a pointer's offset.
 const OFFSET_LIMIT: i64 = 65536;
 
 /// A pointer moved by a number, if its offset stays within the limits.
@@ -95,7 +95,7 @@ fn difference(a: Value, b: Value) -> Option<Value>
     }
 }
 
-/// The result of an operation on the destination and the operand. `None` if it has none.
+/// The result of an operation on the destination and the operand. `None` if the operation does not take such values.
 pub fn outcome(op: Op, width: Width, a: Value, b: Value) -> Option<Value>
     ensures { result ≡ outcome_of op width a b }
 {
@@ -108,7 +108,7 @@ pub fn outcome(op: Op, width: Width, a: Value, b: Value) -> Option<Value>
     }
 }
 
-/// The result of a jump's test. `None` unless both are numbers.
+/// The result of a jump's test. `None` unless both values are numbers.
 pub fn comparison(test: Test, width: Width, a: Value, b: Value) -> Option<bool>
     ensures { result ≡ comparison_of test width a b }
 {

@@ -42,12 +42,12 @@ place_of (OutOfRecord at) = Some at
 place_of (OutOfArgument at) = Some at
 place_of (OutOfStack at) = Some at
 
--- a name, followed by a place in brackets if there is one
+-- a name, followed by a unit in brackets if there is one
 abbrev pub placed_text : List ℕ → Option ℕ → List ℕ
 placed_text name None = name
 placed_text name (Some at) = with_place name at
 
--- A fault's text: its name, and its place in brackets.
+-- A fault's text: its name, and its unit in brackets.
 abbrev pub fault_text : VerifyFault → List ℕ
 fault_text NoMemory = codes "NoMemory"
 fault_text Empty = codes "Empty"

@@ -34,12 +34,12 @@ stopping_unit (OutOfRecord at) = Some at
 stopping_unit (OutOfArgument at) = Some at
 stopping_unit (OutOfStack at) = Some at
 
--- A run comes to the configuration in n steps, and all its earlier places are below `at`.
+-- A run comes to the configuration c in n steps, and all its earlier units are below `at`.
 pub record ComesTo (code : List Insn) (first : Config) (at n : ℕ) (c : Config) : Type 0 where
   pub chain : Reaches code n first c
   pub before : (m : ℕ) (b : Config) → m < n → Reaches code m first b → b.place < at
 
--- The states are true of each run until it has been at the unit.
+-- The states are true of each run until the run has been at the unit `at`.
 abbrev pub HoldUntil : List Insn → States → ℕ → Type 0
 HoldUntil code states at =
     (bytes argument : List ℕ) (env : Env) → IsInput bytes argument env
@@ -51,14 +51,14 @@ HoldAlways code states =
     (bytes argument : List ℕ) (env : Env) → IsInput bytes argument env
     → (n : ℕ) (c : Config) → Reaches code n (start bytes argument env) c → FitsAt states c
 
--- The states with which the pass comes to a unit: each start fits, and each run that fits below the unit ends or continues to a
--- configuration that fits.
+-- The states with which the pass comes to the unit `at`. Each start fits. From a configuration that fits at a unit below `at`, the run
+-- ends or continues to a configuration that fits.
 pub record AreTaken (code : List Insn) (states : States) (at : ℕ) : Type 0 where
   pub are : AreStates code states
   pub starts : Starts states
   pub each : (p : ℕ) → p < at → ConsistentAt code states p
 
--- The pass has come to the unit, which has a state, and all its states are true of the runs.
+-- The pass has come to the unit, which has a state, and the states are true of each run until it has been there.
 pub record StopsAt (code : List Insn) (states : States) (at : ℕ) : Type 0 where
   pub taken : AreTaken code states at
   pub stands : IsSome (state_at states at)

@@ -19,16 +19,16 @@ first_of (Some f) b = Some f
 abbrev pub frame_fault : ℕ → ℕ → Option VerifyFault
 frame_fault at d = if d == 10 then Some (FrameWritten at) else None
 
--- Each helper that is called exists.
+-- The called helper exists.
 abbrev pub helper_fault : ℕ → ℤ → Option VerifyFault
 helper_fault at id = if is_some (numbered id) then None else Some (NoHelper at)
 
--- A jump leads forward to an instruction.
+-- A jump leads forward to a unit at which an instruction begins.
 abbrev pub jump_fault : List Insn → ℕ → ℤ → Option VerifyFault
 jump_fault code at (pos k) = if nat_le (unit_count code) (at + 1 + k) then Some (JumpOut at) else (if is_some (fetch code (at + 1 + k)) then None else Some (JumpIntoWide at))
 jump_fault code at (negsuc k) = Some (Backward at)
 
--- An instruction of n units that continues to the next one is not the last.
+-- An instruction of n units that continues to the next one is not the last one of the code.
 abbrev pub end_fault : List Insn → ℕ → ℕ → Option VerifyFault
 end_fault code at n = if at + n == unit_count code then Some (FallsOff at) else None
 
@@ -67,7 +67,7 @@ IsMisbuilt code fault = ((code ≡ []) × (fault ≡ Empty)) ⊎ IsFirst code fa
 
 -- ---- refusals
 
--- A fault that the pass may report: an instruction begins at its unit. Memory may run out at any time.
+-- A fault that the pass may report: an instruction begins at the unit that it names, or memory ran out.
 abbrev pub IsMet : List Insn → VerifyFault → Type 0
 IsMet code NoMemory = ⊤
 IsMet code Empty = ⊥
@@ -89,6 +89,6 @@ IsMet code (OutOfRecord at) = IsSome (fetch code at)
 IsMet code (OutOfArgument at) = IsSome (fetch code at)
 IsMet code (OutOfStack at) = IsSome (fetch code at)
 
--- A code is refused because its structure is invalid, or else because of a fault met in the pass over its instructions.
+-- A code is refused because its structure is invalid; or its structure is valid, and the pass over its instructions met a fault.
 abbrev pub IsRefused : List Insn → VerifyFault → Type 0
 IsRefused code fault = IsMisbuilt code fault ⊎ (IsBuilt code × IsMet code fault)

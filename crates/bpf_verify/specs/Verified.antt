@@ -22,14 +22,14 @@ pub record FitsAt (states : States) (c : Config) : Type 0 where
   pub fits : Fits state c
   pub config : IsConfig c
 
--- The run continues to a later unit, and fits there.
+-- The run continues to a configuration at a later unit, which fits the state there.
 pub record GoesOn (code : List Insn) (states : States) (c : Config) : Type 0 where
   pub next : Config
   pub steps : step code c ≡ Some next
   pub later : c.place < next.place
   pub fits : FitsAt states next
 
--- From a configuration that fits, the run ends or continues.
+-- From a configuration that fits, the run ends or continues to one that fits.
 abbrev pub Consistent : List Insn → States → Type 0
 Consistent code states = (c : Config) → FitsAt states c → IsSome (ended code c) ⊎ GoesOn code states c
 
@@ -37,8 +37,8 @@ Consistent code states = (c : Config) → FitsAt states c → IsSome (ended code
 abbrev pub Starts : States → Type 0
 Starts states = (bytes argument : List ℕ) (env : Env) → IsInput bytes argument env → FitsAt states (start bytes argument env)
 
--- The states of an accepted program: at most one for each unit, and only at units at which an instruction begins. Each start fits, and
--- each run that fits ends or continues to a configuration that fits.
+-- The states of an accepted program: at most one for each unit, and only at units at which an instruction begins. Each start fits. From a
+-- configuration that fits, the run ends or continues to a configuration that fits.
 pub record IsVerified (code : List Insn) (states : States) : Type 0 where
   pub long : length states ≡ unit_count code
   pub begin : (u : ℕ) → IsSome (state_at states u) → IsSome (fetch code u)

@@ -24,7 +24,7 @@ impl GhostStates {
         GhostStates {}
     }
 
-    /// Returns the same states with one changed.
+    /// Returns the states with the one at a unit replaced.
     #[inline(always)]
     pub(crate) fn with(&self, at: usize, state: &State) -> GhostStates
         ensures { result.states ≡ slice_set self.now.states at (Some state.now) }
@@ -35,7 +35,7 @@ impl GhostStates {
     }
 }
 
-// It owns nothing, so any thread may own or share it.
+// The value owns nothing, so any thread may own or share it.
 unsafe impl Send for GhostStates {}
 
 unsafe impl Sync for GhostStates {}

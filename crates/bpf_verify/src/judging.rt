@@ -16,8 +16,8 @@ use crate::visits::pass_over;
 use bpf_insn::{Code, encode};
 use std::alloc::{AllocError, Allocator};
 
-/// Like `verify`, but also returns the state before each instruction, which takes more memory. An error has the states at the time of the
-/// fault, but no state if the structure is invalid.
+/// Like `verify`, but also returns the state before each instruction, which takes more memory. An error has the states that were known at
+/// the time of the fault, or no states if the structure is invalid.
 pub fn examine<A: Allocator + Copy>(alloc: A, code: Code<A>) -> Result<Examined<A>, Refused<A>>
     ensures value { IfOk result (λ v. v.code ≡ code) }
     ensures safe { IfOk result (λ v. Safe v.code) }
@@ -45,7 +45,7 @@ pub fn examine<A: Allocator + Copy>(alloc: A, code: Code<A>) -> Result<Examined<
     }
 }
 
-/// Accepts a program, which is then safe, or refuses it and gives it back with the fault.
+/// Accepts a program, which is then safe, or refuses the program and returns it with the fault.
 ///
 /// The structure is tested first: each instruction in order, reached or not. Then each reached instruction is visited once, in order,
 /// with the state before it. Only the first fault is reported. `NoMemory` implies that the structure has no fault.

@@ -9,14 +9,14 @@ use bpf_flow::State;
 use bpf_range::Kind;
 use std::alloc::{AllocError, Allocator};
 
-/// The kinds of registers at each unit. A row has, for each register, the place of its kind in the pool. Consecutive units mostly differ
-/// in one register, so they share the other kinds.
+/// The kinds of registers at each unit. A row has, for each register, the index of its kind in the pool. Consecutive units mostly differ
+/// in one register, so their rows share the other kinds.
 #[derive(Drop)]
 pub(crate) struct Kinds<A: Allocator> {
     pub(crate) pool: Vec<Kind, A>,
     // One row for each unit so far; `None` if the unit has no state.
     pub(crate) rows: Vec<Option<[u16; 11]>, A>,
-    // The last row. The next one looks there first for its kinds.
+    // The last row. The kinds of the next row are looked up there first.
     last: [u16; 11],
 }
 
@@ -37,7 +37,7 @@ fn is_same(one: &Kind, other: &Kind) -> bool
 }
 
 impl<A: Allocator> Kinds<A> {
-    /// Creates a table of no units, with memory for the rows of `units` units and for as many kinds.
+    /// Creates a table of no units, with memory for `units` rows and as many kinds.
     pub(crate) fn new(alloc: A, units: usize) -> Result<Kinds<A>, AllocError>
     where
         A: Copy,
@@ -82,7 +82,7 @@ impl<A: Allocator> Kinds<A> {
         Ok(())
     }
 
-    // The place of a kind: the likely one, the first one (which has `Unset`), or a new one.
+    // The index of a kind in the pool: the likely one, 0 (which has `Unset`), or that of a new entry.
     fn place(&mut self, likely: u16, kind: &Kind) -> Result<u16, AllocError>
         requires few { length self.old.pool.items < 0x1_0000 }
         ensures at { IfOk result (λ place. IsAt self.new.pool.items place kind.now) }
@@ -101,7 +101,7 @@ impl<A: Allocator> Kinds<A> {
         Ok(place)
     }
 
-    // Returns true if the pool has the kind at a place.
+    // Returns true if the pool has the kind at an index.
     fn is_at(&self, place: u16, kind: &Kind) -> bool
         ensures { result ≡ true → IsAt self.now.pool.items place kind.now }
     {

@@ -96,8 +96,8 @@ fn unit_fault<A: Allocator>(code: &Code<A>, at: usize) -> Option<VerifyFault>
     insn_fault(code, at, insn)
 }
 
-/// Tests a code's structure: there is an instruction, and no instruction has a fault. The error is the fault of the first instruction
-/// that has one.
+/// Tests a code's structure: there is an instruction, and no instruction has a fault. The error is `Empty`, or the fault of the first
+/// instruction that has one.
 pub fn structure<A: Allocator>(code: &Code<A>) -> Result<(), VerifyFault>
     ensures ok { OnOk result (IsBuilt code.now) }
     ensures err { IfErr result (IsMisbuilt code.now) }

@@ -37,7 +37,7 @@ fn distance(insn: Insn) -> i64
     }
 }
 
-/// Joins the state after an instruction into the unit at which it continues, if there is one. The way is not `Both`.
+/// Joins the state after an instruction into the unit at which the run continues, if there is one. The way is not `Both`.
 fn settle<A: Allocator + Copy>(
     pass: &mut Pass<A>,
     way: Way,
@@ -59,7 +59,7 @@ fn settle<A: Allocator + Copy>(
     }
 }
 
-/// Visits an instruction other than a conditional jump: joins the state after it into the unit at which it continues.
+/// Visits an instruction other than a conditional jump: joins the state after it into the unit at which the run continues.
 fn visit_plain<A: Allocator + Copy>(
     pass: &mut Pass<A>,
     insn: Insn,
@@ -155,8 +155,8 @@ fn visit_insn<A: Allocator + Copy>(
     }
 }
 
-/// Visits the instruction at a unit, if there is a state: joins the states on its edges into their targets, and adds the kinds of
-/// registers before it. Returns the unit's executable form.
+/// Visits the instruction at a unit, unless the unit has no state: joins the states on the edges into their targets, and adds the kinds of
+/// registers before the instruction. Returns the unit's executable form.
 fn visit<A: Allocator + Copy>(
     alloc: A,
     code: &Code<A>,
@@ -194,8 +194,8 @@ fn visit<A: Allocator + Copy>(
     Ok(flat)
 }
 
-/// The result of a pass over a program: its states for clauses, the kept states, and the executable form and kinds of registers of each
-/// unit.
+/// The result of a pass over a program: all its states, for clauses only; the stored states; and the executable form and the kinds of
+/// registers of each unit.
 #[derive(Drop)]
 pub(crate) struct PassResult<A: Allocator> {
     pub(crate) noted: GhostStates,
@@ -217,8 +217,8 @@ fn begin<A: Allocator + Copy>(alloc: A, code: &Code<A>) -> Result<Pass<A>, Alloc
     Ok(pass)
 }
 
-/// Visits each reached instruction once, in order. The structure has no fault. The error is the first fault with the kept states at that
-/// time: all of them, or those of the units ahead.
+/// Visits each reached instruction once, in order. The structure must have no fault. The error is the first fault, with the stored states
+/// at that time: all of them, or those of the units ahead.
 pub(crate) fn pass_over<A: Allocator + Copy>(
     alloc: A,
     code: &Code<A>,

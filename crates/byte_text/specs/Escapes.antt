@@ -1,4 +1,4 @@
--- Escapes: how a text writes bytes that it cannot contain literally.
+-- Escapes: the notation for bytes that a text cannot contain literally.
 use Rattle.std.specs.Prelude.{ℕ, ◌+◌, ◌*◌, ◌/◌, ◌%◌, ◌==◌, ◌&&◌, nat_le, cond, List, [], ◌∷◌, ◌++◌, slice_index, Option, Some, None, option_map, option_and_then, ⊤, ◌<◌}
 use Rattle.hex.specs.Hex.{lower_digits, hex_digit_value}
 use Rattle.byte_text.specs.declared.escapes.Reading.{Reading}
@@ -8,13 +8,13 @@ use Rattle.byte_text.specs.declared.escapes.Step.TheVariants.{Refused, Goes, Byt
 
 -- ---- reading
 
--- a byte before more bytes, if both exist
+-- puts a byte before more bytes, if both exist
 abbrev pub with_byte : Option ℕ → Option (List ℕ) → Option (List ℕ)
 with_byte None bytes = None
 with_byte (Some b) None = None
 with_byte (Some b) (Some bs) = Some (b ∷ bs)
 
--- the byte that a backslash and this letter represent
+-- the byte that a backslash and this character represent
 abbrev pub sign_of : ℕ → Option ℕ
 sign_of c =
     cond (c == 115) (Some 32)
@@ -24,8 +24,8 @@ sign_of c =
     (cond (c == 46) (Some 46)
     (cond (c == 44) (Some 44) None)))))
 
--- The bytes of the remaining text, by the reader's state: between two bytes, after a backslash, after `\x`, or after the first digit
--- following `\x`.
+-- The bytes that the remaining text represents, given the state of the reader: between two bytes, after a backslash, after `\x`, or after
+-- `\x` and its first digit.
 abbrev pub bytes_left : Reading → List ℕ → Option (List ℕ)
 bytes_left Plain [] = Some []
 bytes_left Escape [] = None
@@ -36,13 +36,13 @@ bytes_left Escape (c ∷ cs) = cond (c == 120) (bytes_left High cs) (with_byte (
 bytes_left High (c ∷ cs) = option_and_then (λ high. bytes_left (Low high) cs) (hex_digit_value c)
 bytes_left (Low high) (c ∷ cs) = with_byte (option_map (λ low. 16 * high + low) (hex_digit_value c)) (bytes_left Plain cs)
 
--- the bytes of the remaining text after one step
+-- the bytes that the text represents after one step of the reader
 abbrev pub after_step : Step → List ℕ → Option (List ℕ)
 after_step Refused cs = None
 after_step (Goes reading) cs = bytes_left reading cs
 after_step (Byte b) cs = with_byte (Some b) (bytes_left Plain cs)
 
--- a hex digit is below 16
+-- the state of a reader is valid: the value of a hex digit is below 16
 abbrev pub IsReading : Reading → Type 0
 IsReading Plain = ⊤
 IsReading Escape = ⊤
@@ -70,7 +70,7 @@ escape_of b =
     (cond (b == 44) (92 ∷ 44 ∷ [])
     (cond (nat_le 33 b && nat_le b 126) (b ∷ []) (hex_escape b))))))
 
--- bytes, each written as in `escape_of`
+-- the text of bytes, each by `escape_of`
 abbrev pub escaped : List ℕ → List ℕ
 escaped [] = []
 escaped (b ∷ bs) = escape_of b ++ escaped bs

@@ -1,4 +1,4 @@
--- Layouts: the types of the parts of a value, and values printed by them.
+-- Layouts: the types of the parts of a value, and the texts of values by a layout.
 use Rattle.std.specs.Prelude.{ℕ, ◌-◌, ◌==◌, ◌&&◌, nat_le, Bool, true, false, cond, List, [], ◌∷◌, ◌++◌, codes, decimal, length, take, drop, Option, Some, None, option_map, ⊤, ◌≤◌}
 use Rattle.std.specs.Str.{bytes_eq}
 use Rattle.hex.specs.Hex.{encode_lower}
@@ -32,7 +32,7 @@ kind_named name =
     cond (bytes_eq name (codes "text")) (Some kinds.Text)
     (cond (bytes_eq name (codes "hex")) (Some kinds.Hex) (option_map kinds.Number (number_named name)))
 
--- a kind before more kinds, if both exist
+-- puts a kind before more kinds, if both exist
 abbrev pub with_kind : Option Kind → Option (List Kind) → Option (List Kind)
 with_kind None others = None
 with_kind (Some kind) None = None
@@ -50,7 +50,7 @@ layout_of text = kinds_of (parts_of false text)
 
 -- ---- printing
 
--- whether kinds cover exactly this number of bytes
+-- true if a value with this number of bytes fits the kinds
 abbrev pub fits : List Kind → ℕ → Bool
 fits [] len = len == 0
 fits (kinds.Number number ∷ others) len = nat_le (width_of number) len && fits others (len - width_of number)
@@ -69,38 +69,40 @@ abbrev pub comma : Bool → List ℕ
 comma false = []
 comma true = 44 ∷ []
 
--- the remaining bytes as text, or as hex; there is no part if no bytes remain
+-- the remaining bytes as a text part; if no bytes remain, there is no part
 abbrev pub text_part : Bool → List ℕ → List ℕ
 text_part behind [] = []
 text_part behind (b ∷ bs) = comma behind ++ text_of_bytes (b ∷ bs)
 
+-- the remaining bytes as a hex part; if no bytes remain, there is no part
 abbrev pub hex_part : Bool → List ℕ → List ℕ
 hex_part behind [] = []
 hex_part behind (b ∷ bs) = comma behind ++ (codes "hex:" ++ encode_lower (b ∷ bs))
 
--- the part of a kind, from the first bytes or from all bytes, and the remaining bytes
+-- the text of the first part, which has this kind
 abbrev pub part_by : Bool → Kind → List ℕ → List ℕ
 part_by behind (kinds.Number number) bytes = comma behind ++ number_text number (number_in (take (width_of number) bytes))
 part_by behind kinds.Text bytes = text_part behind bytes
 part_by behind kinds.Hex bytes = hex_part behind bytes
 
+-- the bytes after the first part, which has this kind
 abbrev pub left_by : Kind → List ℕ → List ℕ
 left_by (kinds.Number number) bytes = drop (width_of number) bytes
 left_by kinds.Text bytes = []
 left_by kinds.Hex bytes = []
 
--- there are enough bytes for a kind
+-- this number of bytes is enough for a part of this kind
 abbrev pub HasRoom : Kind → ℕ → Type 0
 HasRoom (kinds.Number number) len = width_of number ≤ len
 HasRoom kinds.Text len = ⊤
 HasRoom kinds.Hex len = ⊤
 
--- bytes as parts of these kinds, separated by commas; a comma also precedes the first part if there are parts before it
+-- the texts of parts of these kinds, separated by commas; if the flag is true, a comma precedes the first part too
 abbrev pub laid : Bool → List Kind → List ℕ → List ℕ
 laid behind [] bytes = []
 laid behind (kind ∷ others) bytes = part_by behind kind bytes ++ laid true others (left_by kind bytes)
 
--- bytes by a layout if it fits their number, and otherwise as text; empty bytes are a dot
+-- a value by a layout if the value fits it, otherwise as text; an empty value is a dot
 abbrev pub text_by : List Kind → List ℕ → List ℕ
 text_by layout [] = text_of_bytes []
 text_by layout (b ∷ bs) = cond (fits layout (length (b ∷ bs))) (laid false layout (b ∷ bs)) (text_of_bytes (b ∷ bs))

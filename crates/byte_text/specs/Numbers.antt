@@ -3,7 +3,7 @@ use Rattle.std.specs.Prelude.{ℕ, zero, suc, ◌+◌, ◌-◌, ◌*◌, ◌/◌
 use Rattle.std.specs.Str.{bytes_eq}
 use Rattle.std.specs.Str.Parse.{digits_value}
 
--- a number, if the text is its decimal and it does not exceed the bound
+-- the number n, if the text is n in decimal and n does not exceed the bound
 abbrev pub written : ℕ → List ℕ → ℕ → Option ℕ
 written most text n = cond (bytes_eq text (decimal n)) (cond (nat_le n most) (Some n) None) None
 

@@ -1,4 +1,4 @@
--- Bytes as a text of one word: the bytes that a text represents, and the text printed for bytes.
+-- Bytes as a text of one word: the bytes that a text represents, and the text that is printed for bytes.
 use Rattle.std.specs.Prelude.{ℕ, ◌==◌, ◌||◌, nat_eq, Bool, true, false, cond, List, [], ◌∷◌, ◌++◌, codes, drop, Option, Some, None, option_map, ⊤, ◌≡◌}
 use Rattle.std.specs.Borrow.{Bor}
 use Rattle.std.specs.List.{starts_with}
@@ -11,23 +11,23 @@ use Rattle.byte_text.specs.declared.escapes.Reading.TheVariants.{Plain}
 
 -- ---- reading
 
--- prepends a text to the first of the parts
+-- puts a text before the first of the parts
 abbrev pub onto : List ℕ → List (List ℕ) → List (List ℕ)
 onto front [] = front ∷ []
 onto front (part ∷ parts) = (front ++ part) ∷ parts
 
--- The parts of a text, split at each unescaped comma. The text may begin after a backslash.
+-- The parts of a text, split at each unescaped comma. If the flag is true, a backslash precedes the text.
 abbrev pub parts_of : Bool → List ℕ → List (List ℕ)
 parts_of escape [] = [] ∷ []
 parts_of true (c ∷ cs) = onto (c ∷ []) (parts_of false cs)
 parts_of false (c ∷ cs) = cond (c == 44) ([] ∷ parts_of false cs) (onto (c ∷ []) (parts_of (c == 92) cs))
 
--- the parts of the remaining text, which may have ended
+-- the parts of the remaining text; None is the end of the text
 abbrev pub parts_left : Option (Bor (List ℕ)) → List (List ℕ)
 parts_left None = []
 parts_left (Some text) = parts_of false text.now
 
--- the low `width` bytes of the number that a text represents
+-- the little-endian bytes of the number that a text represents
 abbrev pub number_bytes : ℕ → ℕ → List ℕ → Option (List ℕ)
 number_bytes width most text = option_map (low_bytes width) (number_of most text)
 
@@ -61,30 +61,31 @@ abbrev pub all_bytes : List (List ℕ) → Option (List ℕ)
 all_bytes [] = Some []
 all_bytes (part ∷ parts) = joined (part_bytes part) (all_bytes parts)
 
--- the bytes of a text: a dot represents empty bytes, an empty text is invalid, and any different text represents the bytes of its parts
+-- the bytes that a text represents: a dot represents no bytes, an empty text is invalid, and any other text represents the bytes of its
+-- parts
 abbrev pub bytes_of_text : List ℕ → Option (List ℕ)
 bytes_of_text [] = None
 bytes_of_text (c ∷ cs) = cond (bytes_eq (c ∷ cs) (codes ".")) (Some []) (all_bytes (parts_of false (c ∷ cs)))
 
 -- ---- printing
 
--- whether a text starts with the name of a type and a colon
+-- true if a text starts with the name of a type and a colon
 abbrev pub is_typed : List ℕ → Bool
 is_typed text =
     starts_with nat_eq text (codes "u8:") || (starts_with nat_eq text (codes "u16:") || (starts_with nat_eq text (codes "u32:")
     || (starts_with nat_eq text (codes "u64:") || (starts_with nat_eq text (codes "i64:") || starts_with nat_eq text (codes "hex:")))))
 
--- bytes as text, each literally or by its escape; the first byte is `\xHH` if the bytes would otherwise start with a type, and a single dot
--- is escaped
+-- the text of bytes, each literally or as an escape; if the bytes start like a type, the first byte is `\xHH`; a single dot is an escape
+-- too
 abbrev pub text_of_bytes : List ℕ → List ℕ
 text_of_bytes [] = codes "."
 text_of_bytes (b ∷ bs) =
     cond (bytes_eq (b ∷ bs) (codes ".")) (92 ∷ 46 ∷ [])
     (cond (is_typed (b ∷ bs)) (hex_escape b ++ escaped bs) (escaped (b ∷ bs)))
 
--- ---- what a reader leaves
+-- ---- the result of a reader
 
--- Appends the bytes of a text, if it is valid.
+-- If true, the bytes that the text represents were appended. If false, the text is invalid.
 abbrev pub Puts : Option (List ℕ) → Bool → List ℕ → List ℕ → Type 0
 Puts None true old new = ⊥
 Puts None false old new = ⊤

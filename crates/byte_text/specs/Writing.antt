@@ -1,4 +1,4 @@
--- The contents of a writer if only a part of a text was written.
+-- The contents of a writer after only a part of a text was written.
 use Rattle.std.specs.Prelude.{ℕ, ◌<◌, List, length, take, Option}
 use Rattle.std.specs.Io.KnownBytes.{Appends}
 

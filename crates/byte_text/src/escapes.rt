@@ -1,4 +1,4 @@
-//! Escapes: how a text writes bytes that it cannot contain literally.
+//! Escapes: the notation for bytes that a text cannot contain literally.
 ghost use Rattle.std.specs.Prelude.{◌≡◌, ◌++◌, ◌∷◌, [], ◌<◌, ℕ, List, IfOk, IfSome, OnOk, Some, None, cond};
 ghost use Rattle.hex.specs.Hex.{hex_digit_value};
 ghost use Rattle.byte_text.specs.Escapes.{IsReading, IsStep, after_step, bytes_left, sign_of, hex_escape, escape_of, escaped};
@@ -8,7 +8,7 @@ ghost use Rattle.byte_text.specs.declared.escapes.Reading.TheVariants.{Plain};
 use memchr::memchr;
 use std::alloc::{AllocError, Allocator};
 
-/// The digits of hex, with lower-case letters.
+/// The hex digits, with lower-case letters.
 pub const DIGITS: [u8; 16] = *b"0123456789abcdef";
 
 // The state of a reader of a text.
@@ -24,18 +24,18 @@ enum Reading {
     Low(u8),
 }
 
-// The effect of the next byte of a text.
+// The effect of reading the next byte of a text.
 #[derive(Clone, Copy)]
 enum Step {
     // The byte is invalid here.
     Refused,
     // The reader continues in this state.
     Goes(Reading),
-    // The byte is, or completes, the text of a byte.
+    // The text of one byte is complete. That byte has this value.
     Byte(u8),
 }
 
-// Appends the bytes that a text represents. Returns whether the text is valid.
+// Appends the bytes that a text represents. Returns `false` if the text is invalid.
 pub(crate) fn read_escapes<A: Allocator>(
     text: &[u8],
     bytes: &mut Vec<u8, A>,
@@ -48,7 +48,7 @@ pub(crate) fn read_escapes<A: Allocator>(
     }
 }
 
-// Appends a text without escapes.
+// Like `read_escapes`, for a text without escapes.
 fn put_all<A: Allocator>(text: &[u8], bytes: &mut Vec<u8, A>) -> Result<bool, AllocError>
     ensures { IfOk result (λ good. Puts (Some text.now) good bytes.old.items bytes.new.items) }
 {
@@ -116,7 +116,7 @@ fn is_plain(reading: Reading) -> bool
     }
 }
 
-// The byte that a backslash and this letter represent.
+// The byte that a backslash and this character represent.
 fn sign(c: u8) -> Option<u8>
     ensures { result ≡ sign_of c }
 {

@@ -1,4 +1,4 @@
-//! Layouts: the types of the parts of a value, and values printed by them.
+//! Layouts: the types of the parts of a value. Prints values by a layout.
 ghost use Rattle.std.specs.Prelude.{◌≡◌, ◌++◌, ◌≤◌, IfOk, OnOk, Some, cond, false, true, length, option_map};
 ghost use Rattle.byte_text.specs.Text.{bytes_of_text};
 ghost use Rattle.byte_text.specs.Layouts.{HasRoom, comma, fits, hex_part, kind_named, laid, layout_of, left_by, part_by, number_named, number_text, text_by, text_part, width_of};
@@ -30,7 +30,7 @@ pub enum Kind {
     Hex,
 }
 
-/// A layout: the types of the parts of a value. Contracts see it as the list of its kinds.
+/// A layout: the types of the parts of a value. In contracts, a layout is the list of its kinds.
 #[derive(Drop)]
 pub struct Layout<A: Allocator> {
     kinds: Vec<Kind, A>,
@@ -46,7 +46,7 @@ impl<A: Allocator> Model for Layout<A> {
 }
 
 impl<A: Allocator> Layout<A> {
-    // A layout of these kinds. It does not allocate.
+    // Makes a layout of these kinds, without allocation.
     fn of(kinds: Vec<Kind, A>) -> Self
         ensures { result ≡ kinds.items }
     {
@@ -54,7 +54,7 @@ impl<A: Allocator> Layout<A> {
     }
 
     // The kinds in order.
-    fn kinds(&self) -> &[Kind]
+    pub(crate) fn kinds(&self) -> &[Kind]
         ensures { result.now ≡ self.now }
     {
         self.kinds.as_slice()
@@ -63,7 +63,7 @@ impl<A: Allocator> Layout<A> {
 
 impl Number {
     // The size in bytes.
-    fn width(self) -> usize
+    pub(crate) fn width(self) -> usize
         ensures value { result ≡ width_of self }
         ensures small { result ≤ 8 }
     {
@@ -97,7 +97,7 @@ pub fn read_layout<A: Allocator>(alloc: A, text: &[u8]) -> Result<Option<Layout<
     Ok(Some(Layout::of(kinds)))
 }
 
-// The kind with this name. Each kind except the last must be a number.
+// Finds the kind with this name. Each kind except the last must be a number.
 fn kind_at(name: &[u8], is_last: bool) -> Option<Kind>
     ensures { result ≡ cond is_last (kind_named name.now) (option_map Kind.Number (number_named name.now)) }
 {
@@ -146,8 +146,8 @@ fn named_number(name: &[u8]) -> Option<Number>
     None
 }
 
-/// Appends bytes to `text`: by the layout if it fits the number of bytes, otherwise as text. Empty bytes are a dot. A final `text` or `hex`
-/// covers the remaining bytes and is left out if no bytes remain. Reading the text returns these bytes.
+/// Appends a value to `text`: by the layout if the value fits it, otherwise as text. An empty value is a dot. A final `text` or `hex`
+/// covers the remaining bytes, and is left out if none remain. Reading the text returns the bytes of the value.
 ///
 /// # Errors
 /// `AllocError` if allocation fails. On error, discard `text`.
@@ -178,8 +178,8 @@ fn print_by<A: Allocator + Copy>(
     print_text(bytes, text)
 }
 
-// Returns whether kinds cover exactly `len` bytes.
-fn takes(kinds: &[Kind], len: usize) -> bool
+// Returns `true` if a value of `len` bytes fits the kinds.
+pub(crate) fn takes(kinds: &[Kind], len: usize) -> bool
     ensures { result ≡ fits kinds.now len }
 {
     let mut left = len;
@@ -197,7 +197,7 @@ fn takes(kinds: &[Kind], len: usize) -> bool
     left == 0
 }
 
-// Appends bytes as parts of the kinds, which must fit them.
+// Appends the parts of a value, which must fit the kinds.
 fn show_laid<A: Allocator + Copy>(
     alloc: A,
     kinds: &[Kind],
@@ -216,7 +216,7 @@ fn show_laid<A: Allocator + Copy>(
     Ok(())
 }
 
-// Appends the part of a kind and returns the remaining bytes.
+// Appends the first part, which has this kind, and returns the remaining bytes.
 fn show_part<'a, A: Allocator + Copy>(
     alloc: A,
     kind: Kind,
@@ -247,7 +247,10 @@ fn show_part<'a, A: Allocator + Copy>(
 }
 
 // Appends a comma unless this is the first part.
-fn show_comma<A: Allocator>(behind: bool, text: &mut Vec<u8, A>) -> Result<(), AllocError>
+pub(crate) fn show_comma<A: Allocator>(
+    behind: bool,
+    text: &mut Vec<u8, A>,
+) -> Result<(), AllocError>
     ensures { OnOk result (text.new.items ≡ text.old.items ++ comma behind) }
 {
     if behind {

@@ -6,11 +6,11 @@ ghost use Rattle.byte_text.specs.Numbers.{number_of, signed_of, signed_text, low
 use itoa::Buffer;
 use std::alloc::{AllocError, Allocator};
 
-/// Words below this are nonnegative as signed numbers.
+/// A word of at least this value is negative as a signed number.
 const SIGN: u64 = 9_223_372_036_854_775_808;
 
-/// Parses a decimal number without leading zeros. Returns `None` if the text is not such a number, or if the number exceeds `most`. Does
-/// not allocate.
+/// Parses a decimal number without leading zeros. Returns `None` if the text has another form or the number exceeds `most`. Does not
+/// allocate.
 #[inline(always)]
 pub fn read_number(text: &[u8], most: u64) -> Option<u64>
     ensures value { result ≡ number_of most text.now }
@@ -59,7 +59,7 @@ fn is_decimal_of(text: &[u8], number: u64) -> bool
     text == digits.format(number).as_bytes()
 }
 
-// Parses a number. If the text is not the decimal of a number below 2^64, the result is unspecified.
+// Parses a decimal number. The result is unspecified if the text is not a number below 2^64 without leading zeros.
 fn parsed(text: &[u8]) -> Option<u64>
     ensures { (n : ℕ) → n < 2 ^ 64 → text.now ≡ decimal n → result ≡ Some n }
 {
@@ -69,7 +69,7 @@ fn parsed(text: &[u8]) -> Option<u64>
     digits.parse().ok()
 }
 
-/// Parses a signed number of 64 bits and returns its two's complement. Returns `None` if the text is not such a number.
+/// Parses a signed number of 64 bits and returns its two's complement. Returns `None` if the text is not a number of 64 bits.
 pub fn read_signed(text: &[u8]) -> Option<u64>
     ensures { result ≡ signed_of text.now }
 {
@@ -109,7 +109,7 @@ pub(crate) fn show_signed<A: Allocator>(word: u64, text: &mut Vec<u8, A>) -> Res
 /// Appends the low `width` bytes of a number, little-endian.
 ///
 /// # Errors
-/// `AllocError` if allocation fails; some of the bytes may have been appended.
+/// `AllocError` if allocation fails. Some of the bytes may have been appended.
 pub fn put_number<A: Allocator>(
     number: u64,
     width: usize,

@@ -1,4 +1,4 @@
-//! Parts of a text: a number with its type, bytes in hex, or text.
+//! The parts of a text: each is a number with its type, bytes in hex, or text.
 ghost use Rattle.std.specs.Prelude.{◌≡◌, ◌∷◌, ◌++◌, [], List, ℕ, Option, Some, None, false, IfOk, option_map};
 ghost use Rattle.std.specs.Borrow.{Bor};
 ghost use Rattle.std.specs.Result.{result_ok};
@@ -36,7 +36,7 @@ fn cut_part(text: &[u8]) -> (&[u8], Option<&[u8]>)
     (text, None)
 }
 
-// Appends the bytes that a part represents. Returns whether the part is valid.
+// Appends the bytes that a part represents. Returns `false` if the part is invalid.
 pub(crate) fn read_part<A: Allocator + Copy>(
     alloc: A,
     text: &[u8],
@@ -128,7 +128,7 @@ fn read_plain<A: Allocator>(text: &[u8], bytes: &mut Vec<u8, A>) -> Result<bool,
     read_escapes(text, bytes)
 }
 
-// Returns whether the bytes start with the name of a type and a colon.
+// Returns `true` if the bytes start with the name of a type and a colon.
 pub(crate) fn begins_typed(bytes: &[u8]) -> bool
     ensures { result ≡ is_typed bytes.now }
 {

@@ -6,10 +6,11 @@ use crate::escapes::{show_escaped, show_hex_escape};
 use crate::parts::{begins_typed, first_part, read_part};
 use std::alloc::{AllocError, Allocator};
 
-/// Parses a text and returns the bytes that it represents. Returns `None` if the text is invalid. A single dot represents empty bytes. Any
-/// other text is a list of parts, separated by commas: `u8:`, `u16:`, `u32:`, `u64:` or `i64:` and a decimal number, whose bytes are
-/// little-endian; `hex:` and hex of either case; or literal text with the escapes `\s` (a space), `\n`, `\t`, `\\`, `\.`, `\,` and `\xHH`.
-/// A part of the last form is not empty.
+/// Parses a text and returns the bytes that it represents. Returns `None` if the text is invalid. A single dot represents no bytes. Any
+/// other text is a list of parts, separated by commas. A part is one of:
+/// - `u8:`, `u16:`, `u32:`, `u64:` or `i64:` and a decimal number, whose bytes are little-endian;
+/// - `hex:` and hex of either case;
+/// - literal text, not empty, with the escapes `\s` (a space), `\n`, `\t`, `\\`, `\.`, `\,` and `\xHH`.
 ///
 /// # Errors
 /// `AllocError` if allocation fails.
@@ -37,8 +38,9 @@ pub fn read_text<A: Allocator + Copy>(
     Ok(Some(bytes))
 }
 
-/// Appends bytes to `text` as one word: printable ASCII literally except for backslash and comma, and all remaining bytes by escapes.
-/// Reading the text returns these bytes.
+/// Appends bytes to `text` as one word. Printable ASCII is literal, except a space, a backslash and a comma; all other bytes are escapes.
+/// If the bytes begin like a typed number or hex, the first byte is an escape too. No bytes are a dot, and a single dot is `\.`. Reading
+/// the text returns these bytes.
 ///
 /// # Errors
 /// `AllocError` if allocation fails. On error, discard `text`.

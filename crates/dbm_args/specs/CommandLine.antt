@@ -14,7 +14,7 @@ required_word id = record (new_rule id) { required = true }
 abbrev pub flag : Text → Rule
 flag id = record (new_rule id) { long = Some id; action = Some SetTrue }
 
--- the option `--null`, also as `-0`
+-- the option `--null`, or `-0` for short
 abbrev pub null_flag : Rule
 null_flag = record (flag (codes "null")) { short = Some 48 }
 
@@ -29,31 +29,31 @@ subcommand name rules = record (new_shape name) { rules = rules }
 abbrev pub with_alias : Text → Shape → Shape
 with_alias alias shape = record shape { aliases = shape.aliases ++ (alias ∷ []) }
 
--- the options for the lock: how long to wait, and whether to report the wait; a command that writes also has `--must-exist`
+-- the options of access: how long to wait for the lock, and whether to report the wait; for a command that writes also `--must-exist`
 abbrev pub reading_access : List Rule
 reading_access = valued_option (codes "timeout") ∷ flag (codes "verbose") ∷ []
 
 abbrev pub writing_access : List Rule
 writing_access = flag (codes "must-exist") ∷ reading_access
 
--- the options for the format of the files, and for access to them
+-- the options for the format of the files, and those of access
 abbrev pub reading_options : List Rule
 reading_options = flag (codes "unsigned") ∷ flag (codes "wide") ∷ flag (codes "insist") ∷ reading_access
 
 abbrev pub writing_options : List Rule
 writing_options = flag (codes "unsigned") ∷ flag (codes "wide") ∷ flag (codes "insist") ∷ writing_access
 
--- the options for the notation of bytes in arguments and lines, and all of the above
+-- the options for the notation of bytes in arguments and lines, together with the format and access
 abbrev pub reading_in : List Rule
 reading_in = flag (codes "text") ∷ valued_option (codes "as") ∷ reading_options
 
 abbrev pub writing_in : List Rule
 writing_in = flag (codes "text") ∷ valued_option (codes "as") ∷ writing_options
 
--- a command with these rules, without global arguments
+-- a `clap` command that has these rules and no global arguments
 abbrev pub IsCommand : App → Command → Type 0
 IsCommand app command = (app_of command ≡ app) × ((out-Command command).has_globals ≡ false)
 
--- a command with these rules and without subcommands
+-- a `clap` command that has these rules and no subcommands
 abbrev pub IsSubcommand : Shape → Command → Type 0
 IsSubcommand shape = IsCommand (record { top = shape; subs = [] })

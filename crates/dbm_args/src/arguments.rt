@@ -23,7 +23,7 @@ pub fn flag<'a>(alloc: Global, id: &'a str, help: &'a str) -> Arg<'a>
     option.action(ArgAction::SetTrue)
 }
 
-/// The flag `--null`, also `-0`.
+/// The flag `--null`, or `-0` for short.
 pub fn null<'a>(alloc: Global) -> Arg<'a>
     ensures rule { rule_of result ≡ spec.null_flag }
     ensures local { result.global ≡ false }
@@ -138,7 +138,7 @@ pub fn layout<'a>(alloc: Global) -> Arg<'a>
     )
 }
 
-/// The option `--prefix BYTES`: only keys that begin with these bytes.
+/// The option `--prefix BYTES`: selects the keys that begin with these bytes.
 pub fn prefix<'a>(alloc: Global) -> Arg<'a>
     ensures rule { rule_of result ≡ spec.valued_option (codes "prefix") }
     ensures local { result.global ≡ false }
@@ -172,7 +172,7 @@ pub fn timeout<'a>(alloc: Global) -> Arg<'a>
     )
 }
 
-/// The flag `--verbose`: reports who holds the lock.
+/// The flag `--verbose`: reports who holds the lock if the command has to wait.
 pub fn verbose<'a>(alloc: Global) -> Arg<'a>
     ensures rule { rule_of result ≡ spec.flag (codes "verbose") }
     ensures local { result.global ≡ false }
@@ -184,7 +184,7 @@ pub fn verbose<'a>(alloc: Global) -> Arg<'a>
     )
 }
 
-/// The flag `--must-exist`: makes no new database.
+/// The flag `--must-exist`: a missing database is an error.
 pub fn must_exist<'a>(alloc: Global) -> Arg<'a>
     ensures rule { rule_of result ≡ spec.flag (codes "must-exist") }
     ensures local { result.global ≡ false }
@@ -196,7 +196,7 @@ pub fn must_exist<'a>(alloc: Global) -> Arg<'a>
     )
 }
 
-/// The flag `--quick`: reads one page.
+/// The flag `--quick`: reads only the directory and the page of the key, if that is enough.
 pub fn quick<'a>(alloc: Global) -> Arg<'a>
     ensures rule { rule_of result ≡ spec.flag (codes "quick") }
     ensures local { result.global ≡ false }

@@ -6,7 +6,7 @@ ghost use Rattle.dbm_args.specs.Given.{IsAccessOf, IsForm, IsNotation, is_given}
 use crate::options::{Access, Form, NotationOptions};
 use clap::ArgMatches;
 
-/// The value of an argument or option, if it was given.
+/// Returns the value of an argument or option, if it was given.
 pub fn word<'a>(matches: &ArgMatches<'a>, id: &str) -> Option<&'a str>
     ensures { option_map (λ text. text.now) result ≡ first_of id.now (rows_of (found_of matches.now)) }
 {
@@ -23,7 +23,7 @@ pub fn has_flag(matches: &ArgMatches<'_>, id: &str) -> bool
     }
 }
 
-/// The format of the database's files.
+/// Reads the options for the format of the database's files.
 pub fn form(matches: &ArgMatches<'_>) -> Form
     ensures { IsForm (rows_of (found_of matches.now)) result }
 {
@@ -33,7 +33,7 @@ pub fn form(matches: &ArgMatches<'_>) -> Form
     }
 }
 
-/// The notation of bytes in arguments and lines.
+/// Reads the options for the notation of bytes in arguments and lines.
 pub fn notation<'a>(matches: &ArgMatches<'a>) -> NotationOptions<'a>
     ensures { IsNotation (rows_of (found_of matches.now)) result }
 {
@@ -43,7 +43,7 @@ pub fn notation<'a>(matches: &ArgMatches<'a>) -> NotationOptions<'a>
     }
 }
 
-/// How to open the database's files.
+/// Reads the options for opening the database's files.
 pub fn access<'a>(matches: &ArgMatches<'a>) -> Access<'a>
     ensures { IsAccessOf (rows_of (found_of matches.now)) result }
 {

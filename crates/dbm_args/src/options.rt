@@ -16,27 +16,26 @@ pub struct Form {
 pub struct NotationOptions<'a> {
     /// Bytes are text, not hex.
     pub text: bool,
-    /// The layout of printed values; all other bytes are text.
+    /// The layout of printed values. If it is given, all other bytes are text.
     pub layout: Option<&'a str>,
 }
 
-/// What a subcommand needs beside its own words: its files, and the notation of its bytes.
+/// The head of a subcommand: its files, and the notation of the bytes in its arguments and lines.
 #[derive(Clone, Copy)]
 pub struct Head<'a> {
     /// The database whose files are read.
     pub base: Option<&'a str>,
-    /// The program's file, which is read too.
+    /// The program's file, which is read as well.
     pub file: Option<&'a str>,
-    /// The program's file is an image and not a text.
+    /// The program's file is a program image, not a text.
     pub image: bool,
-    /// The files of the database are written after it, even if nothing has changed.
+    /// The subcommand may change the database, which is saved afterwards.
     pub writes: bool,
-    /// The notation of the bytes in its words and lines.
     pub notation: NotationOptions<'a>,
 }
 
 impl<'a> Head<'a> {
-    /// The head of a subcommand that reads a database, if any, and whose words and lines have no bytes.
+    /// The head of a subcommand that only reads: its database, if it has one, no program file, and the default notation.
     pub fn on(base: Option<&'a str>) -> Head<'a>
         ensures { result ≡ head_on base.entry }
     {
@@ -53,14 +52,14 @@ impl<'a> Head<'a> {
     }
 }
 
-/// How to open a database's files, from `--timeout`, `--must-exist`, `--quick`, `--verbose` and `--insist`.
+/// The options for opening a database's files: `--timeout`, `--must-exist`, `--quick`, `--verbose` and `--insist`.
 #[derive(Clone, Copy)]
 pub struct Access<'a> {
     /// The longest wait for the lock, in seconds. Without it the wait has no limit.
     pub timeout: Option<&'a str>,
     /// A missing database is an error; it is not created.
     pub must_exist: bool,
-    /// Reads only the page of the key.
+    /// Reads only the directory and the page of the key, if that is enough.
     pub quick: bool,
     /// Reports who holds the lock if the command has to wait for it.
     pub verbose: bool,

@@ -1,4 +1,4 @@
-//! Prints arguments and names safely: no character moves the cursor of a terminal, hides a letter or reverses the direction of text.
+//! Prints arguments and names so that no character moves the cursor of a terminal, hides a letter or reverses the direction of text.
 
 use std::fmt;
 
@@ -11,7 +11,7 @@ pub fn is_plain(c: char) -> bool {
     c.escape_debug().next() == Some(c)
 }
 
-/// A text of lines. LF and plain characters print as themselves, any other as an escape such as `\u{1b}`.
+/// A text of lines. LF and plain characters print as themselves, and any other character as an escape such as `\u{1b}`.
 #[derive(Clone, Copy)]
 pub struct Printed<'a>(pub &'a str);
 

@@ -8,7 +8,7 @@ ghost use Rattle.dbm_args.specs.CommandLine as spec;
 use clap::{Arg, Command};
 use std::alloc::{AllocError, Global};
 
-/// A subcommand with its description, its output with an example, and its arguments.
+/// Declares a subcommand. `about` describes it; `notes`, which end its help, describe its output and have an example.
 ///
 /// # Errors
 /// `AllocError` if allocation fails.
@@ -28,7 +28,7 @@ pub fn subcommand<'a>(
         .args(args)
 }
 
-/// A subcommand with an alias.
+/// Declares a subcommand with an alias.
 ///
 /// # Errors
 /// `AllocError` if allocation fails.

@@ -42,16 +42,16 @@ impl<'a> Numbers<'a> {
     }
 }
 
-/// The kind of subcommand, if messages depend on it.
+/// The subcommands for which some messages differ.
 #[derive(Clone, Copy)]
 pub enum Subject {
-    /// Prints the image of a program.
+    /// `asm`.
     Asm,
-    /// Prints the text of a program.
+    /// `disasm`.
     Disasm,
-    /// Answers lines one by one.
+    /// `session`.
     Session,
-    /// Anything else.
+    /// Any other subcommand.
     Other,
 }
 
@@ -69,17 +69,17 @@ pub struct Words<'a> {
     pub unsigned: bool,
     /// Pages have 8,192 bytes.
     pub wide: bool,
-    /// The first argument that holds bytes, in reading order.
+    /// The first argument that is read as bytes.
     pub first: Option<Named<'a>>,
-    /// The second argument that holds bytes.
+    /// The second argument that is read as bytes.
     pub second: Option<Named<'a>>,
-    /// The layout of values.
+    /// The layout of printed values.
     pub layout: Option<&'a str>,
     pub numbers: Numbers<'a>,
 }
 
 impl<'a> Words<'a> {
-    /// No arguments: the command line has none of them, or could not be read.
+    /// No arguments: the command line has no argument that a message may show, or could not be read.
     pub fn none() -> Words<'static> {
         Words {
             subject: Subject::Other,
@@ -95,7 +95,7 @@ impl<'a> Words<'a> {
         }
     }
 
-    /// The arguments of a command line on a database with files in this format.
+    /// The database of a command line and the format of its files, without other arguments.
     pub fn on(base: Option<&'a str>, form: Form) -> Words<'a> {
         Words {
             base,

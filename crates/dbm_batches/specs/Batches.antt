@@ -1,4 +1,4 @@
--- The result of a batch: workers do tasks on a database, and each task is a run of the same program.
+-- The result of a batch: workers do tasks on a database. Each task is a run of the same program.
 use Rattle.std.specs.Prelude.{◌≡◌, ◌⊎◌, ℕ, ◌≤◌, ◌++◌, Bool, List, [], ◌∷◌, length, map, Option, Some, None, IfSome, IsSome, ⊤}
 use Rattle.std.specs.List.{All, flat_map}
 use Rattle.std.specs.Borrow.{Bor}
@@ -37,18 +37,18 @@ use Rattle.dbm_reports.specs.Reports.{IsFileImage}
 
 -- ---- before standard input is read
 
--- the number of workers in a text
+-- the number of workers that a text gives
 abbrev pub workers_of : List ℕ → Option ℕ
 workers_of text = number_of 4294967295 text
 
--- a registry has one program, that of an image, with the number 0
+-- a registry has only the program of the image, with the number 0
 pub record IsSubmitted (image : List ℕ) (programs : List Accepted) (id : ProgId) : Type 0 where
   pub program : Accepted
   pub is : IsProgramOf image program
   pub alone : programs ≡ program ∷ []
   pub first : id.0 ≡ 0
 
--- A batch is ready: the words have a number of workers, the files spell its database, and the program of the file's image is registered.
+-- A batch is ready: its number of workers is valid, the files spell its database, and the program of the file is registered.
 pub record IsBatchReady (form : Form) (given : Given) (workers : Bor (List ℕ)) (is_image : Bool) (batch : Batch) : Type 0 where
   pub number : workers_of workers.now ≡ Some batch.workers
   pub opened : IsOpened form given batch.database
@@ -62,23 +62,23 @@ pub record IsBatchReady (form : Form) (given : Given) (workers : Bor (List ℕ))
 abbrev pub task_for : ProgId → RunWords Global → Task Global
 task_for program words = record { key = words.key; prog = program; arg = words.arg; blank = words.blank; now = words.now }
 
--- the input has at most 16,777,216 bytes, and its lines, with their shorthand spelled out, are just these runs
+-- the input has at most 16,777,216 bytes; once its shorthand is expanded, its lines are the tasks with these words
 pub record AreShortTasks (notation : Notation Global) (time : Option TimeOfDay) (bytes : List ℕ) (words : List (RunWords Global)) : Type 0 where
   pub short : length bytes ≤ 16777216
   pub are : AreTasksOf Global notation (spelled_text OfBatch time bytes) words
 
--- the input has at most 16,777,216 bytes, and this is the first line that is not a task
+-- the input has at most 16,777,216 bytes, and the first line that is not a task has this number
 pub record HasBadLine (notation : Notation Global) (time : Option TimeOfDay) (bytes : List ℕ) (number : ℕ) : Type 0 where
   pub short : length bytes ≤ 16777216
   pub is : IsFirstBad Global notation (spelled_text OfBatch time bytes) number
 
--- P holds of the tasks of standard input, if it is known
+-- P holds for the tasks on standard input; if the input is unknown, for some list of tasks
 abbrev pub OnTasks : Notation Global → Option TimeOfDay → Batch → Option (List ℕ) → (List (Task Global) → Type 0) → Type 0
 OnTasks notation time batch input P =
     (words : List (RunWords Global)) × (IfSome input (λ bytes. AreShortTasks notation time bytes words) × P (map (task_for batch.program) words))
 
--- The calls of sessions lead from one database to another: they are all the calls of a legal history between the two, and each
--- session's calls are in their order.
+-- The calls of sessions lead from `before` to `after`: a legal history between the two consists of these calls. It has the calls of each
+-- session in their order.
 pub record IsClosedAfter (before : Database) (calls : List (CallsState Global)) (after : Database) : Type 0 where
   pub entries : List (Entry Global)
   pub legal : History before.size before.kind (map_of before) entries (map_of after)
@@ -88,7 +88,7 @@ pub record IsClosedAfter (before : Database) (calls : List (CallsState Global)) 
   pub kind : after.kind ≡ before.kind
   pub size : after.size ≡ before.size
 
--- All tasks are done on a database, each with its reply, and the calls of their workers lead to a new database.
+-- All tasks are done, each with its reply, and the calls of the workers lead from the database of the batch to `after`.
 pub record TasksLeadTo (batch : Batch) (tasks : List (Task Global)) (replies : List (Reply Global)) (after : Database) : Type 0 where
   pub calls : List (CallsState Global)
   pub done : AreDone batch.database.size batch.registry.programs tasks batch.workers replies calls
@@ -98,7 +98,7 @@ pub record TasksLeadTo (batch : Batch) (tasks : List (Task Global)) (replies : L
 abbrev pub reply_line : Notation Global → Reply Global → List ℕ
 reply_line notation reply = reply_text notation reply ++ 10 ∷ []
 
--- The replies are printed in the order of the tasks, one line each, and the database after them is written.
+-- The replies are printed in the order of the tasks, one line each, and the database after the tasks is written.
 pub record DoesTasks (notation : Notation Global) (batch : Batch) (tasks : List (Task Global)) (report : Report) : Type 0 where
   pub replies : List (Reply Global)
   pub after : Database
@@ -107,11 +107,11 @@ pub record DoesTasks (notation : Notation Global) (batch : Batch) (tasks : List 
   pub status_is : report.status ≡ 0
   pub written : report.database ≡ Some after
 
--- P holds of a batch that is ready
+-- a batch is ready, and P holds for it
 abbrev pub OnReady : Form → Given → Bor (List ℕ) → Bool → (Batch → Type 0) → Type 0
 OnReady form given workers is_image P = (batch : Batch) × (IsBatchReady form given workers is_image batch × P batch)
 
--- the result of a batch for its words, its files and standard input
+-- the possible reports of a batch, for its arguments, files and standard input
 abbrev pub OnBatch : Notation Global → Form → Given → Bor (List ℕ) → Bool → Option TimeOfDay → Option (List ℕ) → Report → Type 0
 OnBatch notation form given workers is_image time input report =
     OnReady form given workers is_image (λ batch. OnTasks notation time batch input (λ tasks. DoesTasks notation batch tasks report))
@@ -122,7 +122,7 @@ OnBatch notation form given workers is_image time input report =
 abbrev pub submit_causes : List ℕ → WishCauses
 submit_causes image = record no_wish_causes { submitting = Denies [] image }
 
--- first the number of workers, then the files, then the program's image
+-- the causes of faults before standard input is read: the number of workers is checked first, then the files, then the program's image
 abbrev pub ready_causes : Form → Given → Bor (List ℕ) → Bool → WishCauses
 ready_causes form given workers is_image = record (only_report (record no_causes {
   numbers = workers_of workers.now ≡ None;
@@ -133,12 +133,12 @@ ready_causes form given workers is_image = record (only_report (record no_causes
   submitting = λ fault. IsSome (workers_of workers.now) × (CanBeOpened form given × ((image : List ℕ) × (IsFileImage is_image given.file.items image × (submit_causes image).submitting fault)));
 }
 
--- Not all tasks are done, for another reason than a failed allocation, which is a separate fault.
+-- Not all tasks are done. `NoMemory` is left out, since it is a separate fault.
 abbrev pub IsUndone : Batch → List (Task Global) → PoolFault → Type 0
 IsUndone batch tasks jobs.NoMemory = ⊥
 IsUndone batch tasks fault = (calls : List (CallsState Global)) × IsPoolFault batch.database.size batch.registry.programs tasks batch.workers fault calls
 
--- these are the calls that the workers of a batch leave, whether all tasks are done or not
+-- the workers of a batch return these calls, whether or not all tasks are done
 abbrev pub AreLeft : Batch → List (Task Global) → List (CallsState Global) → Type 0
 AreLeft batch tasks calls =
     ((replies : List (Reply Global)) × AreDone batch.database.size batch.registry.programs tasks batch.workers replies calls)
@@ -151,7 +151,7 @@ doing_causes batch tasks = record no_wish_causes {
   closing = λ fault. (calls : List (CallsState Global)) × (AreLeft batch tasks calls × IsRefusedClose (opened_by batch.database) calls fault);
 }
 
--- first the lines, then the tasks
+-- the causes of faults once the input was read: the lines are checked first, then the tasks are done
 abbrev pub task_causes : Notation Global → Option TimeOfDay → Batch → Option (List ℕ) → WishCauses
 task_causes notation time batch input = record no_wish_causes {
   bad_line = λ number. IfSome input (λ bytes. HasBadLine notation time bytes number);
@@ -159,7 +159,7 @@ task_causes notation time batch input = record no_wish_causes {
   closing = λ fault. OnTasks notation time batch input (λ tasks. (doing_causes batch tasks).closing fault);
 }
 
--- a batch: standard input is read once the batch is ready
+-- the causes of the faults of a batch; standard input is read only once the batch is ready
 abbrev pub batch_causes : Notation Global → Form → Given → Bor (List ℕ) → Bool → Option TimeOfDay → Option (List ℕ) → WishCauses
 batch_causes notation form given workers is_image time input = record (ready_causes form given workers is_image) {
   report = record (ready_causes form given workers is_image).report {

@@ -1,4 +1,4 @@
--- Why a request fails: the causes of each fault before a line is written.
+-- The reasons why a request fails before it prints anything.
 use Rattle.std.specs.Prelude.{ℕ, ⊤}
 use Rattle.prog_registry.specs.declared.fault.RegFault.{RegFault}
 use Rattle.store_shared.specs.declared.close.CloseFault.{CloseFault}
@@ -10,10 +10,10 @@ use Rattle.dbm_reports.specs.declared.fault.ReportFault.TheVariants as reports
 use Rattle.dbm_messages.specs.declared.fault.ServeFault.{ServeFault}
 use Rattle.dbm_messages.specs.declared.fault.ServeFault.TheVariants.{NotText, ReadFile, FileTooLong, WriteFile, BadRedo, Unsafe, OtherSize, ReadClock, BadBase, Absent, Exists, NoStock, Locked, Moved, Changed, Report, Dump, Submit, BadLine, CutLine, Pool, Close, Write, Saved, NoMemory}
 
--- the causes of the faults of a request: those of its words, its files and standard input, those of a dump, and those of a batch
+-- the causes of the faults of a request: in its arguments, files and standard input (`report`), in a dump, or in a batch (the rest)
 pub record WishCauses : Type 1 where
   pub report : Causes
-  -- a dump is not written or not loaded
+  -- a dump cannot be written or loaded
   pub dump : DumpFault → Type 0
   -- the image's program is refused
   pub submitting : RegFault → Type 0
@@ -37,12 +37,12 @@ only_report causes = record {
 abbrev pub no_wish_causes : WishCauses
 no_wish_causes = only_report no_causes
 
--- The fault of a report has its cause. A failed allocation is a separate fault.
+-- The fault of a report has its cause. `NoMemory` is left out, since it is a separate fault.
 abbrev pub HasReportCause : Causes → ReportFault → Type 0
 HasReportCause causes reports.NoMemory = ⊥
 HasReportCause causes fault = IsCaused causes fault
 
--- A fault occurs only for its cause. An allocation may fail at any time; these steps have no other faults.
+-- A fault occurs only for its cause. `NoMemory` may come at any time. The faults without a cause here belong to other steps.
 abbrev pub HasWishCause : WishCauses → ServeFault → Type 0
 HasWishCause causes NotText = ⊥
 HasWishCause causes ReadFile = ⊥

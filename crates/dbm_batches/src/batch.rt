@@ -1,4 +1,4 @@
-//! The subcommand that runs a program on the records of many keys with parallel workers.
+//! `batch`: runs a program on the records of many keys, with parallel workers.
 ghost use Rattle.std.specs.Prelude.{◌≡◌, ◌⊎◌, ◌≤◌, ◌++◌, true, length, is_some, IfOk, IfErr, OnOk, Some, map};
 ghost use Rattle.std.specs.List.{flat_map};
 ghost use Rattle.sdbm_addr.specs.Database.{Database};
@@ -32,10 +32,10 @@ use store_cmd::Reply;
 use store_shared::{Calls, CloseFault, NoGate, Store};
 use worker_pool::{Answers, PoolFault, Task, run_jobs};
 
-/// The largest number of workers of a batch.
+/// The largest number that is accepted as a number of workers. The pool refuses more than 4,096 workers.
 const WORKERS_MOST: u64 = 4_294_967_295;
 
-/// A batch before its tasks: the number of its workers, the database, and the program, the only one of a registry.
+/// A batch that is ready for its tasks. The program is the only one of the registry.
 #[derive(Drop)]
 pub struct Batch {
     pub workers: usize,
@@ -44,17 +44,17 @@ pub struct Batch {
     pub program: ProgId,
 }
 
-// The result of a batch whose tasks were all done: a reply for each, and the database after them.
+// The result of a batch whose tasks were all done: the reply to each task, and the database after the last one.
 #[derive(Drop)]
 struct Done {
     replies: Vec<Reply<Global>>,
     database: Image<Global>,
 }
 
-/// Serves a batch whose bytes are in a notation: does its tasks, and then writes its lines.
+/// Runs the subcommand `batch`: does the tasks, and then writes a line for each reply.
 ///
 /// # Errors
-/// Those of `serve` of `dbm_reports`, with the faults of `report_batch`.
+/// The errors of `serve` of `dbm_reports`, with the faults of `report_batch`.
 pub fn serve_batch<T: Threads + Wait + Sync, R: Read, W: Write>(
     rt: &T,
     alloc: Global,
@@ -74,13 +74,17 @@ pub fn serve_batch<T: Threads + Wait + Sync, R: Read, W: Write>(
     }
 }
 
-/// Does the tasks of standard input and returns their replies. Each task is a run of the program of a file on the database of the files.
-/// The database has to be written after them.
+/// Does the tasks on standard input. Each task runs the file's program on the database of the files. Reports the replies, and the database
+/// to write.
 ///
 /// # Errors
-/// The first of: `BadNumber` of the workers, those of the files, those of the program's file, `Submit` if the program is refused;
-/// `Read` and `TooLong` of standard input, `BadLine` with the first line that is not a task; `Pool` if not all tasks were
-/// done, and `Close` if the workers' calls differ from those of the store; and `NoMemory`.
+/// The first of these faults:
+/// - `BadNumber` if the number of workers is invalid.
+/// - The faults of the files of the database, then those of the program's file, then `Submit` if the program is refused.
+/// - `Read` and `TooLong` of standard input, and `BadLine` with the number of the first line that is not a task.
+/// - `Pool` if not all tasks were done, and `Close` if the workers' calls differ from those of the store.
+///
+/// `NoMemory` may come at any time.
 pub fn report_batch<T: Threads + Wait + Sync, R: Read>(
     rt: &T,
     alloc: Global,
@@ -121,7 +125,7 @@ fn ready_batch(
     })
 }
 
-// A registry with only the program of an image, and its number.
+// Creates a registry with the program of an image, and returns it with the program's number.
 fn register(alloc: Global, image: &[u8]) -> Result<(Registry<Global>, ProgId), ServeFault>
     ensures ok { IfOk result (λ r. IsSubmitted image.now r.0.programs r.1) }
     ensures fault { IfErr result (HasWishCause (submit_causes image.now)) }
@@ -131,7 +135,7 @@ fn register(alloc: Global, image: &[u8]) -> Result<(Registry<Global>, ProgId), S
     Ok((registry, program))
 }
 
-// Does the tasks of a text, and prints their replies.
+// Does the tasks of a text. Reports their replies, and the database to write.
 fn run_batch<T: Threads + Wait + Sync>(
     rt: &T,
     alloc: Global,
@@ -155,7 +159,7 @@ fn run_batch<T: Threads + Wait + Sync>(
     })
 }
 
-// The words of the tasks of a text. Spells out its shorthand first.
+// Expands the shorthand of a text, and reads the words of its tasks.
 fn words_of_lines(
     alloc: Global,
     notation: &Notation<Global>,
@@ -169,7 +173,7 @@ fn words_of_lines(
     read_tasks(alloc, notation, lines.as_slice())
 }
 
-// The runs of a program with these words.
+// Returns a run of the program for each element of `words`.
 fn tasks_for(
     alloc: Global,
     program: ProgId,
@@ -184,7 +188,7 @@ fn tasks_for(
     Ok(tasks)
 }
 
-// The run of a program with these words.
+// Returns the run of a program with these words.
 fn task_for(program: ProgId, words: RunWords<Global>) -> Task<Global>
     ensures { result ≡ task_for program words }
 {
@@ -197,7 +201,7 @@ fn task_for(program: ProgId, words: RunWords<Global>) -> Task<Global>
     }
 }
 
-// Lets the workers of a batch do tasks on a store over its database, then closes the store.
+// Opens a store on the database of a batch, lets its workers do the tasks there, and closes the store.
 fn do_tasks<T: Threads + Wait + Sync>(
     rt: &T,
     alloc: Global,
@@ -222,8 +226,8 @@ fn do_tasks<T: Threads + Wait + Sync>(
     }
 }
 
-// Why not all tasks were done. If the store does not close with the calls of its workers, which it must after each fault, that fault
-// instead.
+// Closes the store after a fault of the pool. Returns that fault, or the fault of closing if the store does not close with the calls of the
+// workers.
 fn undone(store: Store<Global, NoGate>, fault: PoolFault, calls: Vec<Calls<Global>>) -> ServeFault
     ensures { (result ≡ pool_fault fault) ⊎ ((reason : CloseFault) × ((result ≡ Close reason) × IsRefusedClose store calls.items reason)) }
 {
@@ -249,7 +253,7 @@ fn close(store: Store<Global, NoGate>, answers: Answers<Global>) -> Result<Done,
     }
 }
 
-// A line for each reply.
+// Returns a line for each reply.
 fn show_replies(
     alloc: Global,
     notation: &Notation<Global>,

@@ -1,4 +1,4 @@
-//! The subcommand that runs a program on the records of many keys with parallel workers.
+//! The subcommand `batch`, which runs a program on the records of many keys with parallel workers.
 #![tactic(auto)]
 
 mod batch;

@@ -1,4 +1,4 @@
--- The program: its subcommands in their order.
+-- The shape of the program's command line.
 use Rattle.std.specs.Prelude.{true, false, [], ◌∷◌, codes}
 use Rattle.clap.specs.Words.{App, Shape}
 use Rattle.clap.specs.Simple.{new_shape}
@@ -31,7 +31,7 @@ use Rattle.dbm_programs.specs.Verify.{verify}
 abbrev pub titled : Shape
 titled = record (new_shape (codes "dbm")) { has_version = true }
 
--- the program without its subcommands: the words do not begin with its name, and an empty command line prints the help
+-- the program without its subcommands: the arguments do not begin with its name, and an empty command line prints the help
 abbrev pub bare_shape : Shape
 bare_shape = record titled {
   no_binary_name = true;
@@ -39,7 +39,7 @@ bare_shape = record titled {
   arg_required_else_help = true;
 }
 
--- the program
+-- the program with its subcommands, in this order
 abbrev pub tool : App
 tool = record {
   top = record bare_shape { is_leaf = false };

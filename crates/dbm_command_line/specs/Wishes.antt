@@ -1,4 +1,4 @@
--- The requests that the words of the command line make.
+-- The requests that the arguments of the command line make.
 use Rattle.std.specs.Prelude.{◌≡◌, ◌≢◌, ◌⊎◌, ⊤, Bool, true, false, not, List, Option, Some, None, codes, find, if◌then◌else◌, is_some, option_map}
 use Rattle.std.specs.Option.{option_map_or}
 use Rattle.std.specs.Str.{bytes_eq}
@@ -44,7 +44,7 @@ use Rattle.dbm_command_line.specs.declared.wish.Ask.TheVariants as ask
 use Rattle.dbm_command_line.specs.declared.wish.Wish.{Wish}
 use Rattle.dbm_command_line.specs.declared.wish.Wish.TheVariants as wish
 
--- what a request needs beside its own words: its files, and the notation of its bytes
+-- the head of a request: its files, and the notation of its bytes
 abbrev pub head_of : Wish → Head
 head_of (wish.Fetch fetch) = fetch_head fetch
 head_of (wish.Store store) = store_head store
@@ -68,19 +68,19 @@ head_of (wish.Asm asm) = asm_head asm
 head_of (wish.Disasm disasm) = disasm_head disasm
 head_of (wish.Verify verify) = verify_head verify
 
--- the database that a request is about
+-- the database of a request
 abbrev pub wish_base : Wish → Option Text
 wish_base wish = option_map (λ text. text.now) (head_of wish).base
 
--- the program file that a request is about
+-- the program file of a request
 abbrev pub wish_file : Wish → Option Text
 wish_file wish = option_map (λ text. text.now) (head_of wish).file
 
--- the files of its database are written after it, even if nothing has changed
+-- the request may change its database, which is saved afterwards
 abbrev pub writes_files : Wish → Bool
 writes_files wish = (head_of wish).writes
 
--- the unit that a word for the time names, if it requests the time of day
+-- the unit of `now` or `now-ms`, which request the time of day; `None` for any other time
 abbrev pub unit_named : Text → Option TimeUnit
 unit_named word = if bytes_eq word (codes "now") then Some Seconds else if bytes_eq word (codes "now-ms") then Some Milliseconds else None
 
@@ -90,7 +90,7 @@ time_asked (wish.Run run) = unit_named run.now.now
 time_asked (wish.Each each) = unit_named each.now.now
 time_asked _ = None
 
--- the same request, with this word as the time of its runs
+-- the same request, with this time for its runs
 abbrev pub with_time : Bor Text → Wish → Wish
 with_time time (wish.Run run) = wish.Run (record run { now = time })
 with_time time (wish.Each each) = wish.Each (record each { now = time })
@@ -102,7 +102,7 @@ asks_clock (wish.Script script) = script.clock
 asks_clock (wish.Batch batch) = batch.clock
 asks_clock _ = false
 
--- it wants one worker per core
+-- the request is a batch with one worker per core
 abbrev pub asks_cores : Wish → Bool
 asks_cores (wish.Batch batch) = bytes_eq batch.workers.now each_core
 asks_cores _ = false
@@ -118,7 +118,7 @@ with_clock time (wish.Script script) = wish.Script (record script { time = Some 
 with_clock time (wish.Batch batch) = wish.Batch (record batch { time = Some time })
 with_clock time other = other
 
--- The request is that of the subcommand of this name with these words and options.
+-- The request is that of the subcommand with this name, with these arguments and options.
 abbrev pub WishAsks : Text → List Row → Wish → Type 0
 WishAsks name rows (wish.Fetch fetch) = (name ≡ codes "fetch") × FetchAsks rows fetch
 WishAsks name rows (wish.Store store) = (name ≡ codes "store") × StoreAsks rows store
@@ -142,7 +142,7 @@ WishAsks name rows (wish.Asm asm) = (name ≡ codes "asm") × AsmAsks rows asm
 WishAsks name rows (wish.Disasm disasm) = (name ≡ codes "disasm") × DisasmAsks rows disasm
 WishAsks name rows (wish.Verify verify) = (name ≡ codes "verify") × VerifyAsks rows verify
 
--- the request of the subcommand of this name, with the words and options that were given to it
+-- the same for all subcommands, including `session`, `backup` and `programs`
 abbrev pub SubcommandAsks : Text → List Row → Ask → Type 0
 SubcommandAsks name rows (ask.Wish wish) = WishAsks name rows wish
 SubcommandAsks name rows (ask.Session session) = (name ≡ codes "session") × SessionAsks rows session
@@ -159,24 +159,24 @@ abbrev pub IsAccessGiven : Option (Text × List Row) → Access → Type 0
 IsAccessGiven None access = ⊥
 IsAccessGiven (Some matches) access = IsAccessOf matches.1 access
 
--- the matches name no subcommand of the program, or a required word is missing
+-- the matches name no subcommand of the program, or a required argument is missing
 abbrev pub lacks_word : Option (Text × List Row) → Bool
 lacks_word None = true
 lacks_word (Some matches) = not (option_map_or (λ shape. has_words shape.rules matches.1)
     (find (λ shape. bytes_eq shape.name matches.0) tool.subs) false)
 
--- the fault that an error of `clap` becomes
+-- an error of `clap` becomes this fault
 abbrev pub IsFaultOf : Error → ToolFault → Type 0
 IsFaultOf error (Refused kept) = (kept ≡ error) × (kind_of error ≢ OutOfMemory)
 IsFaultOf error NoMemory = kind_of error ≡ OutOfMemory
 IsFaultOf error NoWord = ⊥
 
--- if `clap` refused the words, it did so for one of these reasons
+-- if `clap` refused the arguments, the kind of its error is one of these
 abbrev pub IsRefusedFor : Kinds → ToolFault → Type 0
 IsRefusedFor kinds (Refused error) = IsAmong (kind_of error) kinds
 IsRefusedFor kinds _ = ⊤
 
--- the fault is help or the version, which was requested
+-- the fault is the requested help or version
 abbrev pub IsAnswer : ToolFault → Type 0
 IsAnswer (Refused error) = (kind_of error ≡ DisplayHelp) ⊎ (kind_of error ≡ DisplayVersion)
 IsAnswer _ = ⊥

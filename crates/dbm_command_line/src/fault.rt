@@ -1,4 +1,4 @@
-//! Why a command line is refused.
+//! The reasons why a command line is refused.
 ghost use Rattle.std.specs.Prelude.{◌≡◌, ◌↔◌, IsTrue};
 ghost use Rattle.dbm_command_line.specs.Wishes.{IsAnswer, IsFaultOf};
 ghost use Rattle.dbm_command_line.specs.declared.fault.ToolFault.TheVariants.{NoMemory};
@@ -10,22 +10,22 @@ use std::io;
 use std::rt::Runtime;
 use thiserror::Error;
 
-/// Why a command line is refused. It prints as the text for the user.
+/// The reason why a command line is refused. It prints as the text for the user.
 #[derive(Debug, Drop, Error)]
 pub enum ToolFault {
-    /// The words are refused, or they request help or the version, which is then the text of the error.
+    /// `clap` refuses the arguments; or they request help or the version, which is then the text of the error.
     #[error("{0}")]
     Refused(clap::Error),
     /// Out of memory.
     #[error("NoMemory")]
     NoMemory,
-    /// A required word of the subcommand is missing.
+    /// A required argument of the subcommand is missing.
     #[error("NoWord")]
     NoWord,
 }
 
 impl ToolFault {
-    /// Returns `true` if the words request help or the version. That text goes to standard output, with status 0; every other fault
+    /// Returns `true` if the arguments request help or the version. That text goes to standard output, with status 0. Every other fault
     /// goes to standard error, with status 2.
     pub fn is_answer(&self) -> bool
         ensures { IsTrue result ↔ IsAnswer self.now }
@@ -36,11 +36,11 @@ impl ToolFault {
         }
     }
 
-    /// Prints the text for the user: help and the version to standard output, all else to standard error. `clap`'s own text begins
-    /// with `error: `, the name of a fault of this program with `dbm: `. Control characters of the user's words are not printed.
+    /// Prints the text for the user: help and the version to standard output, everything else to standard error. `clap`'s own text begins
+    /// with `error: `, and the name of a fault of this program with `dbm: `. Control characters in refused arguments print as escapes.
     ///
     /// # Errors
-    /// That of the stream, and `OutOfMemory`.
+    /// The error of the stream, or `OutOfMemory`.
     pub fn print<R: Runtime + AllocGlobal>(&self, rt: &R) -> io::Result<()> {
         match self {
             ToolFault::Refused(error) if error.use_stderr() => {

@@ -1,4 +1,4 @@
-//! The command line as a whole: the list of subcommands, and the requests that words make.
+//! The command line as a whole: the list of subcommands, and the requests that the arguments make.
 #![tactic(auto)]
 
 ghost use Rattle.std.specs.Prelude.{◌≡◌, IfOk, IfErr, IsErrOf, true, false, [], map};
@@ -18,11 +18,11 @@ pub use crate::wish::{Ask, Request, Wish};
 use dbm_args::access;
 use std::alloc::Global;
 
-/// Reads the words after the program's name: the request, and how its database is accessed.
+/// Reads the arguments after the program's name: the request, and how to access its database.
 ///
 /// # Errors
-/// `Refused` if the words do not fit the command line, or if they request help or the version; its error has the text for the
-/// user. `NoWord` only if a required word of the subcommand is missing. `NoMemory` if allocation fails.
+/// `Refused` if `clap` refuses the arguments, or if they request help or the version; its error has the text for the user. `NoWord` only if
+/// a required argument of the subcommand is missing. `NoMemory` if allocation fails.
 pub fn read_words<'a>(alloc: Global, words: &'a [&'a str]) -> Result<Request<'a>, ToolFault>
     ensures wish { IfOk result (λ request. IsRequestAsked (subcommand_of tool (map (λ word. word.now) words.now)) request.ask) }
     ensures access { IfOk result (λ request. IsAccessGiven (subcommand_of tool (map (λ word. word.now) words.now)) request.access) }

@@ -1,4 +1,4 @@
-//! From the matches of `clap` to a request. The words of each subcommand are defined next to its struct.
+//! Makes a request from the matches of `clap`. The struct of each subcommand reads its own arguments.
 ghost use Rattle.std.specs.Prelude.{◌≡◌, ◌≢◌, IfSome, IsNone, Some, codes, true};
 ghost use Rattle.clap.specs.Words.{found_of, rows_of};
 ghost use Rattle.dbm_command_line.specs.Wishes.{SubcommandAsks, WishAsks, lacks_word};
@@ -11,8 +11,7 @@ use dbm_programs::{Asm, Disasm, Programs, Verify};
 use dbm_records::{Batch, Delete, Each, Fetch, Incr, Rename, Run, Store};
 use dbm_session::Session;
 
-/// Reads the matches of the subcommand `name`. Returns `None` if a required word is missing, or if there is no subcommand of this
-/// name.
+/// Reads the matches of the subcommand `name`. Returns `None` if a required argument is missing, or if no subcommand has this name.
 pub fn asked<'a>(name: &str, matches: &ArgMatches<'a>) -> Option<Ask<'a>>
     ensures some { IfSome result (SubcommandAsks name.now (rows_of (found_of matches.now))) }
     ensures none { IsNone result → lacks_word (Some (name.now, rows_of (found_of matches.now))) ≡ true }
@@ -25,7 +24,7 @@ pub fn asked<'a>(name: &str, matches: &ArgMatches<'a>) -> Option<Ask<'a>>
     }
 }
 
-// Reads the matches of any other subcommand.
+// Reads the matches of any subcommand except `session`, `backup` and `programs`.
 fn wished<'a>(name: &str, matches: &ArgMatches<'a>) -> Option<Wish<'a>>
     requires session { name.now ≢ codes "session" }
     requires backup { name.now ≢ codes "backup" }

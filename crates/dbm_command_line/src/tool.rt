@@ -20,7 +20,7 @@ use dbm_records::{
 use dbm_session::session_command;
 use std::alloc::{AllocError, Global};
 
-/// The program with all its subcommands. Fails only if allocation fails.
+/// Declares the program with all its subcommands. Fails only if allocation fails.
 pub fn tool_command<'a>(alloc: Global) -> Result<Command<'a>, AllocError>
     ensures { IfOk result (IsCommand tool) }
 {
@@ -51,7 +51,7 @@ pub fn tool_command<'a>(alloc: Global) -> Result<Command<'a>, AllocError>
     with_subcommand(command, batch_command(alloc))
 }
 
-// Adds a subcommand to a command. Fails if either one failed.
+// Adds a subcommand to a command. Fails if either could not be declared, or if allocation fails.
 fn with_subcommand<'a>(
     command: Result<Command<'a>, AllocError>,
     more: Result<Command<'a>, AllocError>,
@@ -61,7 +61,7 @@ fn with_subcommand<'a>(
     command?.subcommand(more?)
 }
 
-// The program's name, version and help.
+// Declares the program's name, version and help.
 fn titled_command<'a>(alloc: Global) -> Command<'a>
     ensures { IsSubcommand spec.titled result }
 {
@@ -80,7 +80,7 @@ fn titled_command<'a>(alloc: Global) -> Command<'a>
         )
 }
 
-// The program without its subcommands.
+// Declares the program without its subcommands.
 fn bare_command<'a>(alloc: Global) -> Result<Command<'a>, AllocError>
     ensures { IfOk result (IsSubcommand spec.bare_shape) }
 {

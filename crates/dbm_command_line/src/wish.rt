@@ -10,8 +10,8 @@ use dbm_records::{Batch, Delete, EACH_CORE, Each, Fetch, Incr, Rename, Run, Stor
 use dbm_script::TimeOfDay;
 use dbm_session::Session;
 
-/// A request: one subcommand with its words and options, as they were given. No word is read as bytes or as a
-/// number yet. A `base` names the files of a database, `BASE.dir` and `BASE.pag`.
+/// A request: one subcommand with its arguments and options as given. They are still text: none was read as bytes or as a number. A `base`
+/// names the files of a database, `BASE.dir` and `BASE.pag`.
 #[derive(Clone, Copy)]
 pub enum Wish<'a> {
     Fetch(Fetch<'a>),
@@ -37,7 +37,7 @@ pub enum Wish<'a> {
     Verify(Verify<'a>),
 }
 
-// The unit that a word for the time names, if it requests the time of day.
+// Returns the unit of `now` or `now-ms`. Returns `None` for any other time.
 fn unit_named(word: &str) -> Option<TimeUnit>
     ensures { result ≡ unit_named word.now }
 {
@@ -51,17 +51,17 @@ fn unit_named(word: &str) -> Option<TimeUnit>
 /// The request of a command line.
 #[derive(Clone, Copy)]
 pub enum Ask<'a> {
-    /// One subcommand, which is served once.
+    /// A subcommand other than the three below.
     Wish(Wish<'a>),
-    /// Lines that are answered one by one.
+    /// `session`, which answers lines one by one.
     Session(Session<'a>),
-    /// A copy of the database in new files.
+    /// `backup`, which copies the database to new files.
     Backup(Backup<'a>),
-    /// The stock programs.
+    /// `programs`, which prints the stock programs.
     Programs(Programs<'a>),
 }
 
-/// The request of a command line, and how its database is accessed.
+/// The request of a command line, and how to access its database.
 #[derive(Clone, Copy)]
 pub struct Request<'a> {
     pub ask: Ask<'a>,
@@ -69,7 +69,7 @@ pub struct Request<'a> {
 }
 
 impl<'a> Wish<'a> {
-    /// What the program prepares for the subcommand: its files, whether it writes them, and the notation of bytes.
+    /// Returns the files of the subcommand, whether the database is saved afterwards, and the notation of bytes.
     pub fn head(&self) -> Head<'a>
         ensures { result ≡ head_of self.now }
     {
@@ -98,7 +98,7 @@ impl<'a> Wish<'a> {
         }
     }
 
-    /// The unit of the time of day, if it is requested: by `run` or `each` with `now` or `now-ms` as its time.
+    /// Returns the unit of the time of day, if a `run` or an `each` has the time `now` or `now-ms`.
     pub fn time_asked(&self) -> Option<TimeUnit>
         ensures { result ≡ time_asked self.now }
     {
@@ -109,7 +109,7 @@ impl<'a> Wish<'a> {
         }
     }
 
-    /// The same request, with this word as the time of its runs.
+    /// Returns the request with another time for its runs.
     pub fn with_time(self, time: &'a str) -> Wish<'a>
         ensures { result ≡ with_time time.entry self.entry }
     {
@@ -120,7 +120,7 @@ impl<'a> Wish<'a> {
         }
     }
 
-    /// Returns `true` if its lines may request the time of day: those of a `script` or a `batch` with `--clock`.
+    /// Returns `true` for a `script` or a `batch` with `--clock`, whose lines may request the time of day.
     pub fn asks_clock(&self) -> bool
         ensures { result ≡ asks_clock self.now }
     {
@@ -131,7 +131,7 @@ impl<'a> Wish<'a> {
         }
     }
 
-    /// The same request, with this time for the lines of a script or a batch.
+    /// Returns the request with this time for the lines of a script or a batch.
     pub fn with_clock(self, time: TimeOfDay) -> Wish<'a>
         ensures { result ≡ with_clock time self.entry }
     {
@@ -148,7 +148,7 @@ impl<'a> Wish<'a> {
         }
     }
 
-    /// Returns `true` if it wants one worker per core.
+    /// Returns `true` for a `batch` with one worker per core.
     pub fn asks_cores(&self) -> bool
         ensures { result ≡ asks_cores self.now }
     {
@@ -158,7 +158,7 @@ impl<'a> Wish<'a> {
         }
     }
 
-    /// The same request, with this number of workers for a batch.
+    /// Returns the request with this number of workers for a batch.
     pub fn with_workers(self, workers: &'a str) -> Wish<'a>
         ensures { result ≡ with_workers workers.entry self.entry }
     {
@@ -168,7 +168,7 @@ impl<'a> Wish<'a> {
         }
     }
 
-    /// Its words as messages show them.
+    /// The arguments that messages may show.
     pub fn words(&self) -> Words<'a> {
         match self {
             Wish::Fetch(fetch) => fetch.words(),

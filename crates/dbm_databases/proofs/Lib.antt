@@ -1,4 +1,5 @@
 pub mod PairLines
+pub mod PairTokens
 pub mod Streams
 pub mod BadLines
 pub mod Faults

@@ -25,6 +25,6 @@ check_in check given = record {
   causes = opening_causes check.form given;
 }
 
--- what it needs beside its own words
+-- the files of the subcommand, and the notation of its bytes
 abbrev pub check_head : Check → Head
 check_head check = head_on (Some check.base)

@@ -14,7 +14,8 @@ use Rattle.dbm_reports.specs.declared.report.Report.{Report}
 use Rattle.dbm_reports.specs.Known.{Known}
 use Rattle.dbm_reports.specs.Reports.{OnDatabase, Prints}
 use Rattle.dbm_databases.specs.Listings.{listing_causes}
-use Rattle.dbm_databases.specs.Rows.{chosen, prefix_asked}
+use Rattle.dbm_databases.specs.Rows.{chosen}
+use Rattle.dbm_reports.specs.Words.{prefix_asked}
 use Rattle.dbm_databases.specs.declared.count.Count.{Count}
 
 abbrev pub count : Shape
@@ -24,7 +25,7 @@ abbrev pub CountAsks : List Row → Count → Type 0
 CountAsks rows count =
     IsWord (codes "BASE") rows count.base × (IsForm rows count.form × (IsNotation rows count.notation × IsOptionGiven (codes "prefix") rows count.prefix))
 
--- the line `count N`, as a script answers `count`
+-- the line `count N`, which is also a script's answer to `count`
 abbrev pub count_line : ℕ → List ℕ
 count_line n = codes "count " ++ (decimal n ++ 10 ∷ [])
 
@@ -38,6 +39,6 @@ count_in n count given = record {
   causes = listing_causes n count.form given count.prefix;
 }
 
--- what it needs beside its own words
+-- the files of the subcommand, and the notation of its bytes
 abbrev pub count_head : Count → Head
 count_head count = record (head_on (Some count.base)) { notation = count.notation }

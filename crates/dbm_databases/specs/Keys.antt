@@ -9,7 +9,8 @@ use Rattle.dbm_reports.specs.declared.databases.Given.{Given}
 use Rattle.dbm_databases.specs.Listings.{listing_causes, Lists}
 use Rattle.dbm_reports.specs.Known.{Known}
 use Rattle.dbm_reports.specs.Reports.{OnDatabase}
-use Rattle.dbm_databases.specs.Rows.{keys_listing, prefix_asked}
+use Rattle.dbm_databases.specs.Rows.{keys_listing}
+use Rattle.dbm_reports.specs.Words.{prefix_asked}
 use Rattle.dbm_args.specs.CommandLine.{required_word, flag, null_flag, valued_option, subcommand, reading_options}
 use Rattle.dbm_args.specs.Heads.{head_on}
 use Rattle.dbm_args.specs.declared.options.Head.{Head}
@@ -27,6 +28,6 @@ keys_in n keys given = record {
   causes = listing_causes n keys.form given keys.prefix;
 }
 
--- what it needs beside its own words
+-- the files of the subcommand, and the notation of its bytes
 abbrev pub keys_head : Keys → Head
 keys_head keys = record (head_on (Some keys.base)) { notation = keys.notation }

@@ -12,7 +12,8 @@ use Rattle.dbm_script.specs.declared.notations.Notation.{Notation}
 use Rattle.dbm_args.specs.declared.options.Form.{Form}
 use Rattle.dbm_reports.specs.declared.report.Report.{Report}
 use Rattle.dbm_reports.specs.declared.databases.Given.{Given}
-use Rattle.dbm_databases.specs.Rows.{rows, prefix_asked}
+use Rattle.dbm_databases.specs.Rows.{rows}
+use Rattle.dbm_reports.specs.Words.{prefix_asked}
 use Rattle.dbm_databases.specs.declared.rows.Listing.{Listing}
 use Rattle.dbm_script.specs.Notation.{reads_hex}
 use Rattle.dbm_reports.specs.Databases.{IsShut}
@@ -23,7 +24,7 @@ use Rattle.dbm_reports.specs.Causes.{Causes, no_causes}
 abbrev pub Lists : Notation Global → Listing → List ℕ → Report → Database → Type 0
 Lists notation listing prefix report db = Prints (rows notation listing prefix (map.entries (map_of db))) report
 
--- a number of pairs, as a line or as an object
+-- a number of pairs, as a line or as a JSON object
 abbrev pub count_shown : Bool → ℕ → List ℕ
 count_shown json n = cond json (count_object (codes "ok") n) (ok_line n)
 
@@ -31,7 +32,7 @@ count_shown json n = cond json (count_object (codes "ok") n) (ok_line n)
 abbrev pub PrintsCount : Bool → Report → Database → Type 0
 PrintsCount json report db = Prints (count_shown json (map.len (map_of db))) report
 
--- the statistics of a database, as text or as an object
+-- the statistics of a database, as text or as a JSON object
 abbrev pub figures_shown : Bool → Stats Global → List ℕ
 figures_shown json stats = cond json (figures_object stats) (figures_text stats)
 

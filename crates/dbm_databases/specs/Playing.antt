@@ -22,7 +22,7 @@ use Rattle.dbm_reports.specs.Causes.{Causes, no_causes, IsLongScript, input_caus
 abbrev pub spelled_input : Option TimeOfDay → Option (List ℕ) → Option (List ℕ)
 spelled_input time input = option_map (spelled_text OfScript time) input
 
--- the answers to a script, and the database after it; the answers have at most `most` bytes
+-- a script runs: the report has its answers, of at most `most` bytes, and `after` is the database after the script
 pub record PlaysScript (notation : Notation Global) (before : Database) (input : Option (List ℕ)) (most : ℕ) (after : Database) (report : Report) : Type 0 where
   pub runs : IfSome input (λ bytes. IsScriptRun Global notation before bytes report.text.items after)
   pub short : length report.text.items ≤ most
@@ -30,33 +30,34 @@ pub record PlaysScript (notation : Notation Global) (before : Database) (input :
   pub size : after.size ≡ before.size
   pub status_is : report.status ≡ 0
 
--- a line that is neither empty nor a request, and a script with such a line
+-- a bad line is neither empty nor a request
 abbrev pub is_bad_line : Notation Global → List ℕ → Bool
 is_bad_line notation [] = false
 is_bad_line notation (c ∷ cs) = is_none (ask_of notation (pieces_of 32 (c ∷ cs)))
 
+-- a line of a script is bad
 abbrev pub has_bad_line : Notation Global → List ℕ → Bool
 has_bad_line notation input = list_any (is_bad_line notation) (pieces_of 10 input)
 
--- nothing is printed, the database is unchanged, and the status is 1
+-- a script does not run: nothing is printed, the database is unchanged, and the status is 1
 pub record IsBarred (before after : Database) (report : Report) : Type 0 where
   pub text_is : report.text.items ≡ []
   pub same : after ≡ before
   pub status_is : report.status ≡ 1
 
--- a script that may be strict; a strict script with a bad line does not run
+-- a script runs, except a strict script (`true`) with a bad line
 abbrev pub PlaysAs : Bool → Notation Global → Database → Option (List ℕ) → ℕ → Database → Report → Type 0
 PlaysAs false notation before input most after report = PlaysScript notation before input most after report
 PlaysAs true notation before input most after report =
     (IfSome input (λ bytes. has_bad_line notation bytes ≡ false) × PlaysScript notation before input most after report)
     ⊎ (IfSome input (λ bytes. has_bad_line notation bytes ≡ true) × IsBarred before after report)
 
--- a script on an empty database, which is then dropped
+-- a script runs on an empty database, which is then dropped
 abbrev pub PlaysAlone : Bool → Notation Global → Form → Option (List ℕ) → ℕ → Report → Type 0
 PlaysAlone strict notation form input most report =
     (after : Database) × (PlaysAs strict notation (empty_database (key_bytes_of form.unsigned) (page_size_of form.wide)) input most after report × (report.database ≡ None))
 
--- a script on a database, which is then written
+-- a script runs on a database, which is then written
 abbrev pub PlaysOn : Bool → Notation Global → Option (List ℕ) → ℕ → Report → Database → Type 0
 PlaysOn strict notation input most report before = (after : Database) × (PlaysAs strict notation before input most after report × (report.database ≡ Some after))
 
@@ -69,7 +70,7 @@ output_limit (Some text) = number_of 18446744073709551615 text.now
 abbrev pub IsOverlong : Notation Global → Database → Option (List ℕ) → ℕ → Type 0
 IsOverlong notation db input most = IfSome input (λ bytes. AnswersExceed Global notation db bytes most)
 
--- the faults of a script on an open database, after reading it
+-- the faults of a script on an open database, once the script was read
 abbrev pub play_causes : Notation Global → Database → Option (List ℕ) → ℕ → Causes
 play_causes notation db input most = record no_causes { overlong = IsOverlong notation db input most }
 
@@ -88,7 +89,7 @@ script_causes notation form given time input most = record no_causes {
   overlong = (db : Database) × (IsOpened form given db × IsOverlong notation db (spelled_input time input) most);
 }
 
--- the faults after a number, which is checked first
+-- a number is checked first; if it is valid, the faults that depend on it
 abbrev pub numbered_causes : Option ℕ → (ℕ → Causes) → Causes
 numbered_causes None causes = record no_causes { numbers = ⊤ }
 numbered_causes (Some n) causes = causes n

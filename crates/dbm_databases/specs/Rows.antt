@@ -1,11 +1,16 @@
--- Rows for pairs and keys.
-use Rattle.std.specs.Prelude.{ℕ, ◌++◌, Bool, cond, nat_eq, codes, List, [], ◌∷◌, Option, Some, None}
+-- The rows of listings, each for a pair or a key.
+use Rattle.std.specs.Prelude.{ℕ, ◌++◌, Bool, cond, nat_eq, codes, List, [], ◌∷◌}
 use Rattle.std.specs.List.{filter, flat_map, starts_with}
-use Rattle.std.specs.Borrow.{Bor}
 use Rattle.sdbm_addr.specs.Pairs.{Pair}
+use Rattle.json.specs.Print.{print}
+use Rattle.json.specs.Token.{Token, begin_object, end_object, key as member}
+use Rattle.byte_text.specs.JsonValues.{text_tokens, value_tokens}
+use Rattle.byte_text.specs.declared.layouts.Kind.{Kind}
 use Rattle.dbm_stats.specs.Json.{quoted}
-use Rattle.dbm_script.specs.Notation.{bytes_of_word, shown, value_shown}
+use Rattle.byte_text.specs.Text.{text_of_bytes}
+use Rattle.dbm_script.specs.Notation.{hex_shown, shown, value_shown}
 use Rattle.dbm_script.specs.declared.notations.Notation.{Notation}
+use Rattle.dbm_script.specs.declared.notations.Notation.TheVariants.{Hex, Text, Layout}
 use Rattle.dbm_databases.specs.declared.rows.Listing.{Listing}
 use Rattle.dbm_databases.specs.declared.rows.Listing.TheVariants.{Pairs, RawPairs, Objects, Keys, RawKeys}
 
@@ -21,10 +26,25 @@ key_line notation key = shown notation key ++ 10 ∷ []
 abbrev pub raw : List ℕ → List ℕ
 raw bytes = bytes ++ 0 ∷ []
 
--- a line with a pair as an object, whose strings are the texts of its bytes
+-- a line with an object whose members are these strings
+abbrev pub object_line : List ℕ → List ℕ → List ℕ
+object_line key value =
+    123 ∷ 34 ∷ (codes "key" ++ (34 ∷ 58 ∷ (quoted key ++ (44 ∷ 34 ∷ (codes "value" ++ (34 ∷ 58 ∷ (quoted value ++ (125 ∷ 10 ∷ []))))))))
+
+-- a line with a pair as a JSON object of two strings, key and value in the notation
+abbrev pub words_object : {A : Type 0} → Notation A → Pair → List ℕ
+words_object notation e = object_line (shown notation e.0) (value_shown notation e.1)
+
+-- the tokens of a JSON object with the key as text, and the value in a layout
+abbrev pub pair_tokens : List Kind → Pair → List Token
+pair_tokens layout e =
+    begin_object ∷ member (codes "key") ∷ (text_tokens e.0 ++ (member (codes "value") ∷ (value_tokens layout e.1 ++ end_object ∷ [])))
+
+-- a line with a pair as a JSON object; with a layout, the value has numbers and texts
 abbrev pub pair_object : {A : Type 0} → Notation A → Pair → List ℕ
-pair_object notation e =
-    123 ∷ 34 ∷ (codes "key" ++ (34 ∷ 58 ∷ (quoted (shown notation e.0) ++ (44 ∷ 34 ∷ (codes "value" ++ (34 ∷ 58 ∷ (quoted (value_shown notation e.1) ++ (125 ∷ 10 ∷ []))))))))
+pair_object Hex e = object_line (hex_shown e.0) (hex_shown e.1)
+pair_object Text e = object_line (text_of_bytes e.0) (text_of_bytes e.1)
+pair_object (Layout layout) e = print (pair_tokens layout e) ++ 10 ∷ []
 
 abbrev pub listing_row : {A : Type 0} → Notation A → Listing → Pair → List ℕ
 listing_row notation Pairs e = pair_line notation e
@@ -46,8 +66,3 @@ pairs_listing null json = cond json Objects (cond null RawPairs Pairs)
 
 abbrev pub keys_listing : Bool → Listing
 keys_listing null = cond null RawKeys Keys
-
--- the bytes of the prefix; without the option it is empty, and every key begins with it
-abbrev pub prefix_asked : {A : Type 0} → Notation A → Option (Bor (List ℕ)) → Option (List ℕ)
-prefix_asked notation None = Some []
-prefix_asked notation (Some word) = bytes_of_word notation word.now

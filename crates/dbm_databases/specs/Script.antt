@@ -21,7 +21,7 @@ abbrev pub ScriptAsks : List Row → Script → Type 0
 ScriptAsks rows script =
     IsOptionGiven (codes "base") rows script.base × (IsOptionGiven (codes "max-output") rows script.max_output × (IsForm rows script.form × (IsNotation rows script.notation × ((script.strict ≡ is_given (codes "strict") rows) × ((script.clock ≡ is_given (codes "clock") rows) × (script.time ≡ None))))))
 
--- the possible reports of a script, and its faults; it may have a base or not
+-- the possible reports and the faults of a script, without and with a base
 abbrev pub script_in : Notation Global → Option (Bor (List ℕ)) → Script → Given → Option (List ℕ) → Known
 script_in n None script given input = record {
   reports = λ report. IsSomeAnd (output_limit script.max_output) (λ most. PlaysAlone script.strict n script.form (spelled_input script.time input) most report);
@@ -32,6 +32,6 @@ script_in n (Some base) script given input = record {
   causes = numbered_causes (output_limit script.max_output) (script_causes n script.form given script.time input);
 }
 
--- what it needs beside its own words
+-- the files of the subcommand, and the notation of its bytes
 abbrev pub script_head : Script → Head
 script_head script = record (head_on script.base) { writes = is_some script.base; notation = script.notation }

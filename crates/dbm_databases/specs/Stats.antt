@@ -25,6 +25,6 @@ stats_in stats given = record {
   causes = opening_causes stats.form given;
 }
 
--- what it needs beside its own words
+-- the files of the subcommand, and the notation of its bytes
 abbrev pub stats_head : Stats → Head
 stats_head stats = head_on (Some stats.base)

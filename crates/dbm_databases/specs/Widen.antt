@@ -23,7 +23,7 @@ abbrev pub WidenAsks : List Row → Widen → Type 0
 WidenAsks rows widen =
     IsWord (codes "BASE") rows widen.base × (widen.unsigned ≡ is_given (codes "unsigned") rows)
 
--- prints the number of pairs, and the files are written with wide pages
+-- prints the number of pairs, and the database to write has wide pages
 pub record Widens (report : Report) (db : Database) : Type 0 where
   pub text_is : report.text.items ≡ ok_line (map.len (map_of db))
   pub status_is : report.status ≡ 0
@@ -39,6 +39,6 @@ widen_in widen given = record {
   causes = opening_causes (small_form widen.unsigned) given;
 }
 
--- what it needs beside its own words
+-- the files of the subcommand, and the notation of its bytes
 abbrev pub widen_head : Widen → Head
 widen_head widen = record (head_on (Some widen.base)) { writes = true }

@@ -1,21 +1,21 @@
-//! The input of a listing: its prefix and its database.
+//! Reads the prefix of a listing, and opens its database.
 ghost use Rattle.std.specs.Prelude.{◌≡◌, Some, IfOk, IfErr};
 ghost use Rattle.dbm_reports.specs.Causes.{IsCaused};
 ghost use Rattle.dbm_reports.specs.Databases.{IsOpened};
 ghost use Rattle.dbm_databases.specs.Listings.{listing_causes};
-ghost use Rattle.dbm_databases.specs.Rows.{prefix_asked};
+ghost use Rattle.dbm_reports.specs.Words.{prefix_asked};
 
 use dbm_args::Form;
-use dbm_reports::{Given, ReportFault, bad_words, open};
-use dbm_script::{Notation, read_bytes};
+use dbm_reports::{Given, ReportFault, bad_words, open, read_prefix};
+use dbm_script::Notation;
 use sdbm_addr::Bytes;
 use sdbm_files::Image;
-use std::alloc::{AllocError, Global};
+use std::alloc::Global;
 
 /// Reads the prefix, and then opens the database of the files.
 ///
 /// # Errors
-/// `BadHex` (or in a text notation `BadText`) if the prefix is invalid, and those of `open`.
+/// `BadHex`, or `BadText` in a text notation, if the prefix is invalid. The errors of `open`.
 pub fn open_asked(
     alloc: Global,
     notation: &Notation<Global>,
@@ -32,18 +32,4 @@ pub fn open_asked(
     };
     let image = open(alloc, given, form)?;
     Ok((begin, image))
-}
-
-// Reads the prefix; without the option it is empty.
-fn read_prefix(
-    alloc: Global,
-    notation: &Notation<Global>,
-    prefix: Option<&str>,
-) -> Result<Option<Bytes<Global>>, AllocError>
-    ensures { IfOk result (λ begin. begin ≡ prefix_asked notation.now prefix.entry) }
-{
-    match prefix {
-        None => Ok(Some(Bytes::new(Vec::new(alloc)))),
-        Some(word) => read_bytes(alloc, notation, word.as_bytes()),
-    }
 }

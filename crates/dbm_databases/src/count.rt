@@ -43,7 +43,7 @@ impl<'a> Count<'a> {
         })
     }
 
-    /// What the program prepares for the subcommand.
+    /// Returns the files of the subcommand and the notation of its bytes.
     pub fn head(&self) -> Head<'a>
         ensures { result ≡ count_head self.now }
     {
@@ -137,7 +137,7 @@ fn count_chosen(pairs: &[(&[u8], &[u8])], prefix: &[u8]) -> usize
     count
 }
 
-// A count, and one more if the key of a pair begins with a prefix.
+// Returns `count`, plus 1 if the key of the pair begins with the prefix.
 fn count_with(count: usize, pair: &(&[u8], &[u8]), prefix: &[u8]) -> usize
     requires { count < 2 ^ 63 }
     ensures is { result ≡ count + length (chosen prefix.now (pair_lent pair.now ∷ [])) }

@@ -20,7 +20,7 @@ use dbm_script::Notation;
 use std::alloc::{AllocError, Global};
 use std::io::Write;
 
-/// The subcommand `keys`. Lists all keys, or those that begin with a prefix. With `null` they are raw bytes, each ended by a zero byte.
+/// The subcommand `keys`. Lists all keys, or those that begin with a prefix. With `null`, prints each key as raw bytes and a zero byte.
 #[derive(Clone, Copy, Debug)]
 pub struct Keys<'a> {
     pub base: &'a str,
@@ -45,7 +45,7 @@ impl<'a> Keys<'a> {
         })
     }
 
-    /// What the program prepares for the subcommand.
+    /// Returns the files of the subcommand and the notation of its bytes.
     pub fn head(&self) -> Head<'a>
         ensures { result ≡ keys_head self.now }
     {
@@ -73,7 +73,7 @@ impl<'a> Keys<'a> {
     /// Runs the subcommand. Writes the rows to `writer` as it makes them.
     ///
     /// # Errors
-    /// Those of `serve_rows`.
+    /// The errors of `serve_rows`.
     pub fn serve<W: Write>(
         &self,
         alloc: Global,

@@ -1,4 +1,4 @@
-//! The subcommands of a whole database: `list`, `keys`, `count`, `check` and `stats`, which show it, `script`, and `widen`.
+//! The subcommands of a whole database: `list`, `keys`, `count`, `check`, `stats`, `script` and `widen`.
 #![tactic(auto)]
 
 mod check;

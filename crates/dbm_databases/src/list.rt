@@ -22,8 +22,8 @@ use dbm_script::Notation;
 use std::alloc::{AllocError, Global};
 use std::io::Write;
 
-/// The subcommand `list`. Lists all pairs, or those whose keys begin with a prefix. With `null` they are raw bytes, each key and each value
-/// ended by a zero byte. With `json` they are objects.
+/// The subcommand `list`. Lists all pairs, or those whose keys begin with a prefix. With `null`, prints each key and each value as raw
+/// bytes and a zero byte. With `json`, prints an object for each pair.
 #[derive(Clone, Copy, Debug)]
 pub struct List<'a> {
     pub base: &'a str,
@@ -50,7 +50,7 @@ impl<'a> List<'a> {
         })
     }
 
-    /// What the program prepares for the subcommand.
+    /// Returns the files of the subcommand and the notation of its bytes.
     pub fn head(&self) -> Head<'a>
         ensures { result ≡ list_head self.now }
     {
@@ -75,10 +75,10 @@ impl<'a> List<'a> {
         }
     }
 
-    /// Serves the subcommand: writes its rows while they are made.
+    /// Runs the subcommand. Writes the rows to `writer` as it makes them.
     ///
     /// # Errors
-    /// Those of `serve_rows`.
+    /// The errors of `serve_rows`.
     pub fn serve<W: Write>(
         &self,
         alloc: Global,
@@ -126,8 +126,9 @@ pub fn list_command<'a>(alloc: Global) -> Result<Command<'a>, AllocError>
     let about = "Print all pairs, sorted by the bytes of their keys";
     let notes =
         "Prints KEY VALUE for each pair, both in hex, or . for no bytes; with --json, an object in\n\
-         a line for each, with or without -0. With -0 a zero byte within a key or a value looks like an\n\
-         end. If the reader of a pipe ends early, as head does, that is not a fault.\n\n\
+         a line for each, with or without -0. With --json --as u64,text the value is numbers and strings,\n\
+         and bytes that are not UTF-8 are {\"hex\":\"..\"}. With -0 a zero byte within a key or a value looks\n\
+         like an end. If the reader of a pipe ends early, as head does, that is not a fault.\n\n\
          Example: dbm list users --text";
     aliased_subcommand(alloc, "list", "ls", about, notes, args)
 }

@@ -21,7 +21,7 @@ use std::io::Read;
 /// The status of a strict script that did not run.
 const BARRED: u8 = 1;
 
-/// The limit of the answers in bytes. Without the option it is the largest number. Returns `None` if it is not a number.
+/// Returns the limit of the answers in bytes, `u64::MAX` without the option. Returns `None` if its value is not a number.
 pub fn output_limit(max_output: Option<&str>) -> Option<u64>
     ensures { result ≡ output_limit max_output.entry }
 {
@@ -34,7 +34,7 @@ pub fn output_limit(max_output: Option<&str>) -> Option<u64>
 /// Runs a script on an empty database, which is then dropped.
 ///
 /// # Errors
-/// Those of `read_input` and of `play_as`.
+/// The errors of `read_input` and of `play_as`.
 pub fn report_alone<R: Read>(
     alloc: Global,
     notation: &Notation<Global>,
@@ -74,7 +74,7 @@ pub fn report_alone<R: Read>(
 /// Runs a script on the database of the files.
 ///
 /// # Errors
-/// Those of `open`, of `read_input` and of `play_as`.
+/// The errors of `open`, of `read_input` and of `play_as`.
 pub fn report_played<R: Read>(
     alloc: Global,
     notation: &Notation<Global>,
@@ -101,7 +101,7 @@ pub fn report_played<R: Read>(
     )
 }
 
-// Runs a script. A strict script with a bad line does not run.
+// Runs a script, unless `strict` is set and a line is bad.
 fn play_as(
     alloc: Global,
     notation: &Notation<Global>,
@@ -135,7 +135,7 @@ fn play_strictly(
     let lines = spell_out(alloc, LineKind::OfScript, time, script)?;
     let bad = has_bad_line(alloc, notation, lines.as_slice())?;
     if bad {
-        // The note is missing if memory runs out.
+        // If memory runs out, the report has no note.
         let bad_lines = find_bad_lines(alloc, notation, lines.as_slice()).unwrap_or(
             BadLines::none(),
         );
@@ -149,7 +149,7 @@ fn play_strictly(
     play(alloc, notation, image, time, script, most)
 }
 
-// Runs a script. The report has its answers, at most `most` bytes, and the database to write.
+// Runs a script. The report has the answers, of at most `most` bytes, and the database to write.
 fn play(
     alloc: Global,
     notation: &Notation<Global>,

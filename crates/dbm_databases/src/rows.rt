@@ -1,12 +1,15 @@
-//! Rows for pairs and keys.
+//! The rows of listings, each for a pair or a key.
 ghost use Rattle.std.specs.Prelude.{◌≡◌, ◌++◌, ◌∷◌, ◌<◌, [], length, IfOk, OnOk, OnErr};
-ghost use Rattle.dbm_databases.specs.Rows.{key_line, keys_listing, pair_line, pair_object, pairs_listing, raw, listing_row, rows};
+ghost use Rattle.dbm_databases.specs.Rows.{key_line, keys_listing, listing_row, pair_line, pair_object, pair_tokens, pairs_listing, raw, rows, words_object};
 ghost use Rattle.sdbm_files.specs.Lent.{pair_lent, pairs_lent};
 ghost use Rattle.dbm_stats.specs.Json.{quoted};
 ghost use Rattle.dbm_script.specs.Notation.{shown, value_shown};
+ghost use Rattle.json.specs.Print.{print};
 
+use byte_text::{Layout, write_text, write_value};
 use dbm_script::{Notation, show_bytes, show_value};
 use dbm_stats::show_string;
+use json::Writer;
 use std::alloc::{AllocError, Allocator};
 
 /// The form of the rows of a listing.
@@ -16,7 +19,7 @@ pub enum Listing {
     Pairs,
     /// The bytes of the key and of the value, each ended by a zero byte.
     RawPairs,
-    /// A line with an object.
+    /// A line with a JSON object.
     Objects,
     /// A line with the key.
     Keys,
@@ -47,7 +50,7 @@ pub fn keys_listing(null: bool) -> Listing
     Listing::Keys
 }
 
-/// A row for each pair whose key begins with a prefix.
+/// Returns the rows of the pairs whose keys begin with a prefix.
 ///
 /// # Errors
 /// `AllocError` if allocation fails.
@@ -70,7 +73,7 @@ pub fn show_rows<A: Allocator + Copy>(
 /// Appends the row of a pair to `text` if its key begins with a prefix.
 ///
 /// # Errors
-/// `AllocError` if allocation fails. The row then has at least one byte.
+/// `AllocError` if allocation fails, which is possible only if there is a row to append.
 pub fn show_chosen<A: Allocator + Copy>(
     alloc: A,
     notation: &Notation<A>,
@@ -157,7 +160,7 @@ fn show_raw<A: Allocator>(bytes: &[u8], text: &mut Vec<u8, A>) -> Result<(), All
     Ok(text.push(0)?)
 }
 
-// Appends a line with a pair as an object.
+// Appends a line with a pair as a JSON object.
 fn show_object<A: Allocator + Copy>(
     alloc: A,
     notation: &Notation<A>,
@@ -167,6 +170,57 @@ fn show_object<A: Allocator + Copy>(
 ) -> Result<(), AllocError>
     ensures { OnOk result (text.new.items ≡ text.old.items ++ pair_object notation.now (key.now, value.now)) }
 {
+    match notation {
+        Notation::Hex | Notation::Text => show_words(alloc, notation, key, value, text),
+        Notation::Layout(layout) => show_typed(alloc, layout, key, value, text),
+    }
+}
+
+// Appends a line with a pair as a JSON object, the value in a layout.
+fn show_typed<A: Allocator + Copy>(
+    alloc: A,
+    layout: &Layout<A>,
+    key: &[u8],
+    value: &[u8],
+    text: &mut Vec<u8, A>,
+) -> Result<(), AllocError>
+    ensures { OnOk result (text.new.items ≡ text.old.items ++ (print (pair_tokens layout.now (key.now, value.now)) ++ 10 ∷ [])) }
+{
+    let mut writer = Writer::new(Vec::new(alloc));
+    write_pair(alloc, &mut writer, layout, key, value)?;
+    text.extend_from_slice(writer.into_inner().as_slice())?;
+    Ok(text.push(b'\n')?)
+}
+
+// Writes a pair as a JSON object, the value in a layout.
+fn write_pair<A: Allocator + Copy>(
+    alloc: A,
+    writer: &mut Writer<A>,
+    layout: &Layout<A>,
+    key: &[u8],
+    value: &[u8],
+) -> Result<(), AllocError>
+    ensures tokens { OnOk result (writer.new.tokens ≡ writer.old.tokens ++ pair_tokens layout.now (key.now, value.now)) }
+    ensures before { writer.new.before ≡ writer.old.before }
+{
+    writer.begin_object()?;
+    writer.key("key")?;
+    write_text(alloc, writer, key)?;
+    writer.key("value")?;
+    write_value(alloc, writer, layout, value)?;
+    writer.end_object()
+}
+
+// Appends a line with a pair as a JSON object of two strings, key and value in the notation.
+fn show_words<A: Allocator + Copy>(
+    alloc: A,
+    notation: &Notation<A>,
+    key: &[u8],
+    value: &[u8],
+    text: &mut Vec<u8, A>,
+) -> Result<(), AllocError>
+    ensures { OnOk result (text.new.items ≡ text.old.items ++ words_object notation.now (key.now, value.now)) }
+{
     text.extend_from_slice(b"{\"key\":")?;
     show_quoted_bytes(alloc, notation, key, text)?;
     text.extend_from_slice(b",\"value\":")?;
@@ -174,7 +228,7 @@ fn show_object<A: Allocator + Copy>(
     text.extend_from_slice(b"}\n")
 }
 
-// Appends bytes as a JSON string, in their notation.
+// Appends bytes in the notation, as a JSON string.
 fn show_quoted_bytes<A: Allocator + Copy>(
     alloc: A,
     notation: &Notation<A>,
@@ -188,7 +242,7 @@ fn show_quoted_bytes<A: Allocator + Copy>(
     show_string(word.as_slice(), text)
 }
 
-// Appends the bytes of a value as a JSON string.
+// Appends a value in the notation, as a JSON string.
 fn show_quoted_value<A: Allocator + Copy>(
     alloc: A,
     notation: &Notation<A>,

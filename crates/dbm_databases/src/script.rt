@@ -19,8 +19,8 @@ use dbm_script::{Notation, TimeOfDay};
 use std::alloc::{AllocError, Global};
 use std::io::Read;
 
-/// The subcommand `script`. Runs the script on standard input; without a base, on an empty database that is then dropped. `max_output`
-/// limits the answers, in bytes.
+/// The subcommand `script`. Runs the script on standard input. Without a base it runs on an empty database, which is then dropped.
+/// `max_output` limits the bytes of the answers.
 #[derive(Clone, Copy, Debug)]
 pub struct Script<'a> {
     pub base: Option<&'a str>,
@@ -29,9 +29,9 @@ pub struct Script<'a> {
     pub max_output: Option<&'a str>,
     /// A script with a bad line does not run.
     pub strict: bool,
-    /// Its lines may use the time of day.
+    /// The lines may say `now` or `now-ms` for the time of day.
     pub clock: bool,
-    /// The time for its lines, after reading the clock.
+    /// The time of day for the lines, once the clock was read.
     pub time: Option<TimeOfDay>,
 }
 
@@ -52,7 +52,7 @@ impl<'a> Script<'a> {
         })
     }
 
-    /// What the program prepares for the subcommand.
+    /// Returns the files of the subcommand and the notation of its bytes.
     pub fn head(&self) -> Head<'a>
         ensures { result ≡ script_head self.now }
     {
@@ -104,10 +104,10 @@ pub fn script_command<'a>(alloc: Global) -> Result<Command<'a>, AllocError>
     ]?;
     let about = "Run the commands on standard input, one in each line";
     let notes =
-        "The lines are fetch KEY, insert KEY VALUE, replace KEY VALUE, delete KEY, count, program IMAGE and\n\
-         run KEY PROG ARG BLANK NOW; get, put and del are short for fetch, replace and delete. insert answers\n\
-         exists if the key exists, and replace replaces its value. IMAGE is the output of asm, and PROG the\n\
-         number that program answered, from 0 on. Empty lines and lines that begin with # are skipped. Prints\n\
+        "The lines are fetch KEY, insert KEY VALUE, replace KEY VALUE, delete KEY, incr KEY [AMOUNT], count,\n\
+         program IMAGE and run KEY PROG ARG BLANK NOW; get, put and del are short for fetch, replace and delete.\n\
+         insert answers exists if the key exists, and replace replaces its value. IMAGE is the output of asm,\n\
+         and PROG the number that program answered, from 0 on. Empty lines and lines that begin with # are skipped. Prints\n\
          an answer for each other line, bad line if it is not a command; with --strict nothing is run then.\n\
          Lines end in LF: one that ends in CR LF is a bad line. All lines together have at most 16 MiB. Their\n\
          answers may have thousands of times as much; if they have more than BYTES, the fault is OutputTooLong.\n\n\

@@ -6,12 +6,12 @@ use dbm_stats::{figures_text, stats_of};
 use sdbm_files::Image;
 use std::alloc::{AllocError, Global};
 
-/// A listing. A prefix is a word in its notation.
+/// A listing that a line of a session requests. Its prefix is written in the notation of the session.
 #[derive(Clone, Copy)]
 pub enum ListingRequest<'a> {
-    /// The output of `list`.
+    /// The output of `list`, for the keys with this prefix.
     Pairs(Option<&'a [u8]>),
-    /// The output of `keys`.
+    /// The output of `keys`, for the keys with this prefix.
     Keys(Option<&'a [u8]>),
     /// The output of `stats`.
     Stats,
@@ -54,7 +54,7 @@ pub fn show_listing(
     }
 }
 
-// Appends a row for each pair whose key begins with a prefix. Returns `false` if the prefix is invalid.
+// Appends a row for each pair whose key begins with a prefix. Returns `false` and appends nothing if the prefix is invalid.
 fn put_rows(
     alloc: Global,
     notation: &Notation<Global>,

@@ -38,7 +38,7 @@ impl<'a> Stats<'a> {
         })
     }
 
-    /// What the program prepares for the subcommand.
+    /// Returns the files of the subcommand and the notation of its bytes.
     pub fn head(&self) -> Head<'a>
         ensures { result ≡ stats_head self.now }
     {
@@ -110,7 +110,7 @@ fn figures(alloc: Global, image: &Image<Global>, json: bool) -> Result<Report, A
     Ok(printed(text))
 }
 
-// The statistics of a database, as text or as a JSON object.
+// Returns statistics as text or as a JSON object.
 fn show_figures(alloc: Global, stats: &Numbers<Global>, json: bool) -> Result<Vec<u8>, AllocError>
     requires { length stats.now.bars.items ≡ 10 }
     ensures { IfOk result (λ text. text.items ≡ figures_shown json stats.now) }

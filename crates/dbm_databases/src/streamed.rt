@@ -1,4 +1,4 @@
-//! Writes rows while they are made. Memory holds only a buffer of them.
+//! Writes rows as they are made, through a buffer of limited size.
 ghost use Rattle.std.specs.Prelude.{◌≡◌, ◌+◌, ◌<◌, ◌^◌, [], None, cond, false, length, IfOk, IfErr, IsSomeAnd, OnOk, OnErr};
 ghost use Rattle.std.specs.Io.KnownBytes.{Appends, Keeps};
 ghost use Rattle.sdbm_files.specs.Lent.{pairs_lent};
@@ -6,7 +6,8 @@ ghost use Rattle.dbm_reports.specs.Causes.{IsCaused};
 ghost use Rattle.dbm_reports.specs.Reports.{OnDatabase, Prints};
 ghost use Rattle.dbm_reports.specs.Served.{IsPrinted, IsUnserved};
 ghost use Rattle.dbm_databases.specs.Listings.{Lists, listing_causes};
-ghost use Rattle.dbm_databases.specs.Rows.{prefix_asked, rows};
+ghost use Rattle.dbm_databases.specs.Rows.{rows};
+ghost use Rattle.dbm_reports.specs.Words.{prefix_asked};
 ghost use Rattle.byte_text.specs.Writing.{WritesPart};
 ghost use Rattle.dbm_databases.specs.Streams.{IsSplit};
 
@@ -23,18 +24,18 @@ use std::io::Write;
 // The initial capacity of the buffer for rows, in bytes.
 const ROOM: usize = 131_072;
 
-// A buffer with at least this many bytes is written.
+// The buffer is written once it has at least this many bytes.
 const FULL: usize = 65_536;
 
-// The length of a text is below this.
+// A text has fewer bytes than this.
 const TEXT_LIMIT: usize = 0x8000_0000_0000_0000;
 
 /// Serves a listing: reads the prefix, opens the database, and writes a row for each pair whose key begins with the prefix. The rows are
 /// made twice: first to count their bytes, and then to write them.
 ///
 /// # Errors
-/// `Unreported` if nothing was written: with the faults of `open_asked`, and with `NoMemory` also if the rows have 2^63 or more bytes.
-/// `Write` if the writer fails, or if allocation fails after some rows were written. A part of the rows is then written.
+/// `Unreported` with the fault if nothing was written: a fault of `open_asked`, or `NoMemory` if allocation fails or the rows have 2^63 or
+/// more bytes. `Write` if the writer fails, or if allocation fails after some rows were written.
 pub fn serve_rows<W: Write>(
     alloc: Global,
     notation: &Notation<Global>,
@@ -87,8 +88,8 @@ fn print_rows<W: Write>(
     }
 }
 
-// Makes all rows once to count their bytes, which have to be fewer than 2^63. Returns the cleared buffer, whose capacity is then enough for
-// writing.
+// Makes all rows once to check that they have fewer than 2^63 bytes. Returns the empty buffer, which has grown to the capacity that writing
+// the rows needs.
 fn measured_room(
     alloc: Global,
     notation: &Notation<Global>,
@@ -110,7 +111,7 @@ fn measured_room(
     Ok(room)
 }
 
-// Counts the bytes of a full buffer, and clears it.
+// If the buffer is full, adds its length to `count` and clears it. Returns the count.
 fn count_full(count: usize, room: &mut Vec<u8>) -> Result<usize, AllocError>
     ensures { IfOk result (λ sum. sum + length room.new.items ≡ count + length room.old.items) }
 {
@@ -122,7 +123,7 @@ fn count_full(count: usize, room: &mut Vec<u8>) -> Result<usize, AllocError>
     Ok(sum)
 }
 
-// The sum of two lengths, if it is below `TEXT_LIMIT`.
+// Returns the sum of two lengths. Fails if it is not below `TEXT_LIMIT`.
 fn sum_of(count: usize, more: usize) -> Result<usize, AllocError>
     ensures sum { IfOk result (λ sum. sum ≡ count + more) }
     ensures small { IfOk result (λ sum. sum < 2 ^ 63) }
@@ -136,7 +137,7 @@ fn sum_of(count: usize, more: usize) -> Result<usize, AllocError>
     Ok(sum)
 }
 
-// Makes the rows in an empty buffer, and writes them.
+// Makes the rows in the empty buffer `room`, and writes them.
 fn write_rows<W: Write>(
     alloc: Global,
     notation: &Notation<Global>,
@@ -167,7 +168,7 @@ fn write_rows<W: Write>(
     Ok(())
 }
 
-// The fault if allocation fails for a row.
+// Returns the fault of a row for which allocation fails.
 fn want_of_memory(is_written: bool) -> Unserved<ReportFault>
     ensures { result ≡ cond is_written Unserved.Write (Unserved.Unreported ReportFault.NoMemory) }
 {
@@ -177,7 +178,7 @@ fn want_of_memory(is_written: bool) -> Unserved<ReportFault>
     Unserved::Unreported(ReportFault::NoMemory)
 }
 
-// Writes a full buffer, and clears it. Returns `true` if any rows have been written so far.
+// If the buffer is full, writes and clears it. Returns `true` if any bytes have been written so far.
 fn write_full<W: Write>(
     is_written: bool,
     room: &mut Vec<u8>,

@@ -28,7 +28,7 @@ pub fn has_bad_line(
     Ok(false)
 }
 
-/// Returns the bad lines of a script, for a note. No clause says which.
+/// Finds the bad lines of a script, for a note. The result is not proved.
 ///
 /// # Errors
 /// `AllocError` if allocation fails.

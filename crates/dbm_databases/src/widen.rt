@@ -35,7 +35,7 @@ impl<'a> Widen<'a> {
         })
     }
 
-    /// What the program prepares for the subcommand.
+    /// Returns the files of the subcommand and the notation of its bytes.
     pub fn head(&self) -> Head<'a>
         ensures { result ≡ widen_head self.now }
     {
@@ -108,7 +108,7 @@ impl Subcommand for Widen<'_> {
     }
 }
 
-// Reports the number of pairs. The database to write has wide pages.
+// Rewrites the database with wide pages. Reports the number of pairs and the new database.
 fn widen_pages(alloc: Global, image: Image<Global>) -> Result<Report, AllocError>
     ensures { IfOk result (λ report. Widens report image) }
 {

@@ -18,7 +18,7 @@ abbrev pub HasDumpCause : DumpCauses → CopyFault → Type 0
 HasDumpCause causes (Report fault) = IsCaused causes.report fault
 HasDumpCause causes (Dump fault) = causes.dump fault
 
--- what is known about `dump` or `load`: its results and the causes of its errors
+-- the possible reports of `dump` or `load`, and the causes of its faults
 pub record DumpKnown : Type 1 where
   pub reports : Told → Type 0
   pub causes : DumpCauses

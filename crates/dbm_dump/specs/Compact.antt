@@ -27,7 +27,7 @@ compact = subcommand (codes "compact") (required_word (codes "BASE") ∷ writing
 abbrev pub CompactAsks : List Row → Compact → Type 0
 CompactAsks rows compact = IsWord (codes "BASE") rows compact.base × IsForm rows compact.form
 
--- what it needs beside its own words
+-- the files of the subcommand, and the notation of its bytes
 abbrev pub compact_head : Compact → Head
 compact_head compact = record (head_on (Some compact.base)) { writes = true }
 
@@ -45,11 +45,11 @@ pub record UnfitAmong (kind : KeyBytes) (size : PageSize) (pairs : List Pair) : 
   pub stores : StoresAll Insert (empty_database kind size) done mid
   pub unfit : IsUnfit mid pair
 
--- the database with these pairs, stored in an empty one in the order of their keys
+-- `after` results if the pairs of `db` are stored in an empty database, in the order of their keys
 abbrev pub IsStoredAnew : Database → Database → Type 0
 IsStoredAnew db after = StoresAll Insert (empty_database db.kind db.size) (map.entries (map_of db)) after
 
--- prints the number of pairs, and the files are written with the pairs stored anew
+-- prints the number of pairs; the database to write is the new one, in which all pairs are stored
 pub record IsCompacted (report : Report) (db : Database) : Type 0 where
   pub after : Database
   pub stores : IsStoredAnew db after
@@ -57,7 +57,7 @@ pub record IsCompacted (report : Report) (db : Database) : Type 0 where
   pub status_is : report.status ≡ 0
   pub written : report.database ≡ Some after
 
--- a pair does not fit in the new database, and the files keep the old one
+-- prints `crowded`, because a pair does not fit in the new database; the database to write is the old one
 pub record IsKeptWhole (report : Report) (db : Database) : Type 0 where
   pub unfit : UnfitAmong db.kind db.size (map.entries (map_of db))
   pub text_is : report.text.items ≡ codes "crowded" ++ 10 ∷ []

@@ -1,4 +1,4 @@
--- The first bytes of a key, which a fault reports.
+-- The head of a key: its length and first bytes, which a fault reports.
 use Rattle.std.specs.Prelude.{◌≡◌, ℕ, List, length, take, Option, Some, None, ⊤}
 use Rattle.dbm_dump.specs.declared.key_head.KeyHead.{KeyHead}
 

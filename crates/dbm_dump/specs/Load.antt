@@ -29,7 +29,7 @@ abbrev pub LoadAsks : List Row → Load → Type 0
 LoadAsks rows load =
     IsWord (codes "BASE") rows load.base × (IsForm rows load.form × (IsOptionGiven (codes "format") rows load.format × (load.keep ≡ is_given (codes "keep") rows)))
 
--- existing pairs stay, or are replaced
+-- the mode of storing: `keep` keeps existing pairs, otherwise they are replaced
 abbrev pub mode_of : Bool → Mode
 mode_of keep = cond keep Insert Replace
 
@@ -37,7 +37,7 @@ mode_of keep = cond keep Insert Replace
 abbrev pub loaded_line : ℕ → List ℕ
 loaded_line n = codes "loaded " ++ (decimal n ++ 10 ∷ [])
 
--- the pairs of a dump (its bytes may be unknown) are stored in order, and the files are written
+-- the pairs of the dump on standard input, if its bytes are known, are stored in order; the resulting database is written
 pub record Loads (start : Stage) (mode : Mode) (input : Option (List ℕ)) (report : Report) (before : Database) : Type 0 where
   pub count : ℕ
   pub after : Database
@@ -48,7 +48,7 @@ pub record Loads (start : Stage) (mode : Mode) (input : Option (List ℕ)) (repo
   pub status_is : report.status ≡ 0
   pub written : report.database ≡ Some after
 
--- a dump fails to load into a database; a failed read and a failed allocation are shared errors instead
+-- a dump fails to load into a database; `Read` and `NoMemory` are left out, since they are shared faults
 abbrev pub IsUnloaded : Stage → Mode → Database → List ℕ → DumpFault → Type 0
 IsUnloaded start mode db bytes dump.Read = ⊥
 IsUnloaded start mode db bytes dump.NoMemory = ⊥
@@ -68,6 +68,6 @@ load_in load given input = record {
   causes = load_causes (start_of load.format) (mode_of load.keep) load.form given input;
 }
 
--- what it needs beside its own words
+-- the files of the subcommand, and the notation of its bytes
 abbrev pub load_head : Load → Head
 load_head load = record (head_on (Some load.base)) { writes = true }

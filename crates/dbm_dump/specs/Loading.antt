@@ -1,4 +1,4 @@
--- Loading a dump into a database.
+-- How a dump is loaded into a database.
 use Rattle.std.specs.Prelude.{◌≡◌, ◌⊎◌, ℕ, ◌+◌, ◌<◌, ◌++◌, Bool, true, false, List, [], ◌∷◌, length, Option, Some, None, IsSomeAnd, ⊤}
 use Rattle.std.specs.declared.alloc.Global.{Global}
 use Rattle.sdbm_addr.specs.declared.PageSize.{PageSize}
@@ -30,7 +30,7 @@ line_limit = 16384
 
 -- ---- storing pairs
 
--- the log entry for storing a pair
+-- the entry of a trail for storing a pair
 abbrev pub store_entry : Mode → Reply Global → Pair → Entry Global
 store_entry mode answer e = record { session = 0; command = Store e.0 e.1 mode; reply = answer }
 
@@ -40,11 +40,11 @@ is_pair_done reply.Stored = true
 is_pair_done reply.Exists = true
 is_pair_done _ = false
 
--- A pair is stored as by `replace` or `insert`, with its reply.
+-- A pair is stored by one move, that of `replace` or `insert`.
 abbrev pub StoresOne : Mode → Database → Pair → Database → Type 0
 StoresOne mode before e after = (answer : Reply Global) × ((is_pair_done answer ≡ true) × Acts before (store_entry mode answer e) after)
 
--- The pairs are stored in order: the database after them.
+-- The pairs are stored in order, one move each. `after` is the database after the last one.
 abbrev pub StoresAll : Mode → Database → List Pair → Database → Type 0
 StoresAll mode before [] after = after ≡ before
 StoresAll mode before (e ∷ es) after = (mid : Database) × (StoresOne mode before e mid × StoresAll mode mid es after)
@@ -81,8 +81,8 @@ IsLargePair size key e = (pair_limit size < length e.0 + length e.1) × IsReport
 abbrev pub IsLarge : PageSize → Option KeyHead → Next → Type 0
 IsLarge size key s = ((pair_limit size < open_len s.stage) × IsReported (open_key s.stage) key) ⊎ IsSomeAnd s.pair (IsLargePair size key)
 
--- P holds for the line with this number, from 1 on. Its arguments are the stage after the lines before it, the database with their pairs,
--- and the line.
+-- P holds at the line with this number, which counts from 1. Its arguments are the stage and the database after all earlier lines, and the
+-- line.
 pub record AtLine (start : Stage) (mode : Mode) (db : Database) (input : List ℕ) (number : ℕ) (P : Stage → Database → List ℕ → Type 0) : Type 0 where
   pub before : List (List ℕ)
   pub line : List ℕ
@@ -114,7 +114,7 @@ pub record FindsNoRoom (mode : Mode) (db : Database) (key : KeyHead) (next : Nex
 abbrev pub IsLineCrowded : Mode → KeyHead → Stage → Database → List ℕ → Type 0
 IsLineCrowded mode key stage mid line = (next : Next) × ((line_step stage line ≡ Some next) × FindsNoRoom mode mid key next)
 
--- The dump is truncated. The pairs of all its lines were stored.
+-- The dump is truncated: all its lines are valid and their pairs were stored, but it may not end after them.
 pub record IsCutOff (start : Stage) (mode : Mode) (db : Database) (input : List ℕ) : Type 0 where
   pub all : Read
   pub reads : read start (lines_of input) ≡ Some all
@@ -138,7 +138,7 @@ abbrev pub IsEmptyEnd : Option (List (List ℕ)) → Type 0
 IsEmptyEnd None = ⊤
 IsEmptyEnd (Some pieces) = pieces ≡ [] ∷ []
 
--- returns the next piece as a line, except for an empty last piece after the first line
+-- the next piece is returned as a line; an empty last piece is a line only if it is the first
 abbrev pub GivesLine : ℕ → Option (List (List ℕ)) → Bool → List ℕ → Option (List (List ℕ)) → Type 0
 GivesLine number left true line left' = GivesNextLine left true line left' × (left ≡ Some ([] ∷ []) → number ≡ 1)
 GivesLine number left false line left' = GivesNextLine left false line left' ⊎ ((1 < number) × IsEmptyEnd left)

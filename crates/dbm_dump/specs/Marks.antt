@@ -8,7 +8,7 @@ use Rattle.dbm_script.specs.Numbers.{number_of}
 use Rattle.dbm_dump.specs.declared.marks.Mark.{Mark}
 use Rattle.dbm_dump.specs.declared.marks.Mark.TheVariants.{Len, Count, Note, Text, Bad}
 
--- the rest of the line after `front`, if it begins with it
+-- the rest of a line after `front`, if the line begins with `front`
 abbrev pub behind : List ℕ → List ℕ → Option (List ℕ)
 behind front line = cond (bytes_eq (take (length front) line) front) (Some (drop (length front) line)) None
 
@@ -16,7 +16,7 @@ abbrev pub number_marked : Option (List ℕ) → Option ℕ
 number_marked None = None
 number_marked (Some digits) = number_of 18446744073709551615 digits
 
--- the number after `front`, if the line begins with it
+-- the number after `front`, if the line begins with `front`
 abbrev pub number_behind : List ℕ → List ℕ → Option ℕ
 number_behind front line = number_marked (behind front line)
 

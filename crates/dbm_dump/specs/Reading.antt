@@ -10,7 +10,7 @@ use Rattle.dbm_dump.specs.declared.stage.Stage.TheVariants.{First}
 use Rattle.dbm_dump.specs.declared.stage.Next.{Next}
 use Rattle.dbm_dump.specs.Steps.{line_step, is_end}
 
--- the pairs of some lines, and the stage after them
+-- the result of reading some lines: their pairs, and the stage after the last one
 pub record Read : Type 0 where
   pub pairs : List Pair
   pub stage : Stage
@@ -31,7 +31,7 @@ abbrev pub read_on : Option Next → (Stage → Option Read) → Option Read
 read_on None rest = None
 read_on (Some s) rest = before_read s.pair (rest s.stage)
 
--- the result of reading lines in order, if each is valid at its stage
+-- the result of reading lines in order; `None` if a line is invalid at its stage
 abbrev pub read : Stage → List (List ℕ) → Option Read
 read stage [] = Some (read_so [] stage)
 read stage (line ∷ lines) = read_on (line_step stage line) (λ (s : Stage). read s lines)
@@ -42,7 +42,7 @@ whole (Some r) = cond (is_end r.stage) (Some r.pairs) None
 
 -- ---- the lines of a text
 
--- prepends a line to `rest`, its followers after filtering; drops the line if it is empty and the last
+-- prepends a line to `rest`, the filtered lines after it, or drops the line if it is empty and no line follows it
 abbrev pub kept_lines : List (List ℕ) → List ℕ → List (List ℕ) → List (List ℕ)
 kept_lines [] [] rest = []
 kept_lines [] (c ∷ cs) rest = (c ∷ cs) ∷ []
@@ -53,12 +53,12 @@ abbrev pub without_empty_end : List (List ℕ) → List (List ℕ)
 without_empty_end [] = []
 without_empty_end (line ∷ lines) = kept_lines lines line (without_empty_end lines)
 
--- The same, except that the first line always stays.
+-- The lines, except an empty last one that is not the first.
 abbrev pub dump_lines : List (List ℕ) → List (List ℕ)
 dump_lines [] = []
 dump_lines (first ∷ others) = first ∷ without_empty_end others
 
--- The lines of a text: each ends with LF, which the last one may lack. An empty text has one empty line.
+-- The lines of a text. Each ends with LF, but the LF of the last line may be missing. An empty text has one empty line.
 abbrev pub lines_of : List ℕ → List (List ℕ)
 lines_of text = dump_lines (pieces_of 10 text)
 
@@ -72,7 +72,7 @@ pairs_in_dump start text = whole (read start (lines_of text))
 abbrev pub AreBytePair : Pair → Type 0
 AreBytePair e = IsBytes e.0 × IsBytes e.1
 
--- and their lengths fit in 64 bits
+-- key and value consist of bytes, and their lengths fit in 64 bits
 abbrev pub IsGood : Pair → Type 0
 IsGood e = ((length e.0 < 2 ^ 64) × (length e.1 < 2 ^ 64)) × AreBytePair e
 

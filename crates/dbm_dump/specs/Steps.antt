@@ -16,7 +16,7 @@ use Rattle.dbm_dump.specs.declared.stage.Stage.{Stage}
 use Rattle.dbm_dump.specs.declared.stage.Stage.TheVariants.{First, Title, Keys, Pages, Count, Gap, Pairs, Between, Within, Over}
 use Rattle.dbm_dump.specs.declared.stage.Next.{Next}
 
--- the next line, without a pair
+-- the next stage, without a pair
 abbrev pub goes : Stage → Next
 goes stage = record { stage = stage; pair = None }
 
@@ -65,22 +65,22 @@ holds len count = nat_le len (count / 4 * 3)
 abbrev pub is_full : ℕ → List ℕ → Bool
 is_full len text = holds len (length text)
 
--- a complete datum: a key, or the value for a key
+-- a complete datum: a key, or the value that completes a pair
 abbrev pub datum_closed : ℕ → Role → List ℕ → Option Next
 datum_closed seen Key bytes = Some (goes (Between seen (Value bytes)))
 datum_closed seen (Value key) bytes =
     cond (seen == 18446744073709551615) None (Some (record { stage = Between (seen + 1) Key; pair = Some (key, bytes) }))
 
--- a decoded datum, if it has exactly `len` bytes
+-- a decoded datum, if its length is `len`
 abbrev pub decoded : ℕ → Role → ℕ → Result (List ℕ) DecodeError → Option Next
 decoded seen role len (Ok bytes) = cond (length bytes == len) (datum_closed seen role bytes) None
 decoded seen role len (Err error) = None
 
--- a datum of `len` bytes after some of its text was read
+-- `text` was read of a datum of `len` bytes; the datum is decoded if its base64 is complete
 abbrev pub grown : ℕ → Role → ℕ → List ℕ → Option Next
 grown seen role len text = cond (is_full len text) (decoded seen role len (decode_of standard text)) (Some (goes (Within seen role len text)))
 
--- the end of the dump, if its count is right
+-- the end of the dump, if its count is the number of pairs
 abbrev pub dump_ended : ℕ → Role → ℕ → Option Next
 dump_ended seen Key n = goes_if (n == seen) Over
 dump_ended seen (Value key) n = None
@@ -93,7 +93,7 @@ between_step seen role mark.Note = Some (goes (Between seen role))
 between_step seen role mark.Text = None
 between_step seen role mark.Bad = None
 
--- The line may follow this text of a datum: it completes the datum, or the base64 may continue after it.
+-- The line may follow `text`, the base64 so far of a datum of `len` bytes: it completes the datum, or more base64 may follow it.
 abbrev pub may_follow : ℕ → List ℕ → List ℕ → Bool
 may_follow len text line = is_full len (text ++ line) || is_open text line
 
@@ -115,7 +115,7 @@ over_step mark.Bad = None
 
 -- ---- either format
 
--- in gdbm's format, the first line begins with '#'
+-- the first line determines the format: gdbm's begins with '#'
 abbrev pub first_step : List ℕ → Option Next
 first_step [] = title_step []
 first_step (c ∷ cs) = cond (c == 35) (between_step 0 Key (line_mark (c ∷ cs))) (title_step (c ∷ cs))

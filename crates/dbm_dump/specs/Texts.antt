@@ -1,5 +1,5 @@
 -- The text of a dump, in each format.
-use Rattle.std.specs.Prelude.{ℕ, List, [], ◌∷◌, ◌++◌, codes, decimal, length}
+use Rattle.std.specs.Prelude.{ℕ, List, [], ◌∷◌, ◌++◌, codes, decimal, length, map as map_list}
 use Rattle.std.specs.List.{flat_map}
 use Rattle.base64.specs.Engines.{standard}
 use Rattle.base64.specs.GeneralPurpose.{encode_of}
@@ -8,7 +8,11 @@ use Rattle.sdbm_addr.specs.declared.KeyBytes.TheVariants.{Signed, Unsigned}
 use Rattle.sdbm_addr.specs.declared.PageSize.{PageSize}
 use Rattle.sdbm_addr.specs.declared.PageSize.TheVariants.{Small, Wide}
 use Rattle.sdbm_addr.specs.Pairs.{Pair}
+use Rattle.byte_text.specs.Bare.{bare_value}
+use Rattle.byte_text.specs.declared.layouts.Kind.{Kind}
 use Rattle.dbm_script.specs.Notation.{hex_shown}
+use Rattle.dbm_script.specs.declared.notations.Notation.{Notation}
+use Rattle.dbm_script.specs.declared.notations.Notation.TheVariants.{Hex, Text, Layout}
 use Rattle.dbm_dump.specs.declared.format.Format.{Format}
 use Rattle.dbm_dump.specs.declared.format.Format.TheVariants.{Plain, Gdbm, Redis}
 
@@ -52,12 +56,12 @@ plain_text kind size pairs = plain_header kind size (length pairs) ++ (flat_map 
 
 -- ---- gdbm's
 
--- bytes in base64, on a line; no bytes have no line
+-- a line with bytes in base64, or no line if there are no bytes
 abbrev pub text_lines : List ℕ → List ℕ
 text_lines [] = []
 text_lines (b ∷ bs) = encode_of standard (b ∷ bs) ⏎ []
 
--- the length of some bytes, and then the bytes in base64
+-- a line with the length of some bytes, and a line with the bytes in base64
 abbrev pub datum_lines : List ℕ → List ℕ
 datum_lines bytes = (codes "#:len=" ++ decimal (length bytes)) ⏎ text_lines bytes
 
@@ -94,3 +98,15 @@ abbrev pub dump_text : Format → KeyBytes → PageSize → List Pair → List �
 dump_text Plain kind size pairs = plain_text kind size pairs
 dump_text Gdbm kind size pairs = gdbm_text pairs
 dump_text Redis kind size pairs = flat_map redis_pair pairs
+
+-- ---- values as plain text
+
+-- a pair with its value as plain text, by a layout
+abbrev pub bare_pair : List Kind → Pair → Pair
+bare_pair layout e = (e.0, bare_value layout e.1)
+
+-- the pairs of a dump, unchanged; with a layout, their values are plain text
+abbrev pub dumped_pairs : {A : Type 0} → Notation A → List Pair → List Pair
+dumped_pairs Hex pairs = pairs
+dumped_pairs Text pairs = pairs
+dumped_pairs (Layout layout) pairs = map_list (bare_pair layout) pairs

@@ -1,4 +1,4 @@
-//! `backup`: a copy of a database in new files.
+//! `backup`: copies a database to new files.
 ghost use Rattle.std.specs.Prelude.{◌≡◌, IfOk, IfSome, IsNone, false};
 ghost use Rattle.clap.specs.Words.{found_of, rows_of};
 ghost use Rattle.dbm_args.specs.CommandLine.{IsSubcommand};
@@ -11,7 +11,7 @@ use dbm_args::arguments::{base, insist, required_word, timeout, unsigned, verbos
 use dbm_args::{Form, Words, form, subcommand, word};
 use std::alloc::{AllocError, Global};
 
-/// Copies the database `base` to new files, those of `to`.
+/// The subcommand `backup`. Copies the database `base` to the new files of `to`.
 #[derive(Clone, Copy, Debug)]
 pub struct Backup<'a> {
     pub base: &'a str,
@@ -32,18 +32,18 @@ impl<'a> Backup<'a> {
         })
     }
 
-    /// Its words as messages about the database show them.
+    /// The arguments that messages about the database may show.
     pub fn words(&self) -> Words<'a> {
         Words::on(Some(self.base), self.form)
     }
 
-    /// Its words as messages about the copy show them.
+    /// The arguments that messages about the copy may show.
     pub fn words_of_copy(&self) -> Words<'a> {
         Words::on(Some(self.to), self.form)
     }
 }
 
-/// Defines the subcommand `backup` for `clap`.
+/// Declares the subcommand `backup` for `clap`.
 ///
 /// # Errors
 /// `AllocError` if allocation fails.

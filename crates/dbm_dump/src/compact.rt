@@ -23,7 +23,7 @@ use sdbm_files::Image;
 use std::alloc::{AllocError, Global};
 use std::io::Read;
 
-/// Makes both files of a database as small as its pairs allow.
+/// The subcommand `compact`. Makes both files of a database as small as its pairs allow.
 #[derive(Clone, Copy, Debug)]
 pub struct Compact<'a> {
     pub base: &'a str,
@@ -42,7 +42,7 @@ impl<'a> Compact<'a> {
         })
     }
 
-    /// What the program prepares for the subcommand.
+    /// Returns the files of the subcommand and the notation of its bytes.
     pub fn head(&self) -> Head<'a>
         ensures { result ≡ compact_head self.now }
     {
@@ -109,7 +109,7 @@ impl Subcommand for Compact<'_> {
     }
 }
 
-// Reports the number of pairs, with the new database. If a pair does not fit there, reports `crowded`, with the old database.
+// Reports the number of pairs and the new database. If a pair does not fit in the new database, reports `crowded` and the old one.
 fn compacted(alloc: Global, image: Image<Global>) -> Result<Report, AllocError>
     ensures { IfOk result (λ report. Compacts report image) }
 {
@@ -131,7 +131,7 @@ fn compacted(alloc: Global, image: Image<Global>) -> Result<Report, AllocError>
     }
 }
 
-// Stores all pairs of a database, in the order of their keys, in an empty one of the same form. Returns `None` if one does not fit.
+// Stores all pairs of a database in an empty one of the same form, in the order of their keys. Returns `None` if a pair does not fit.
 fn stored_anew(alloc: Global, image: &Image<Global>) -> Result<Option<Image<Global>>, AllocError>
     ensures some { IfOk result (λ made. IfSome made (λ new. StoresAll Insert (empty_database image.now.kind image.now.size) (map.entries (map_of image.now)) new)) }
     ensures none { IfOk result (λ made. IfNone made (UnfitAmong image.now.kind image.now.size (map.entries (map_of image.now)))) }
@@ -145,7 +145,7 @@ fn stored_anew(alloc: Global, image: &Image<Global>) -> Result<Option<Image<Glob
     )
 }
 
-// Stores pairs in an empty database, in order. Returns `None` if one does not fit.
+// Stores pairs in an empty database, in order. Returns `None` if a pair does not fit.
 fn stored_in_order(
     alloc: Global,
     kind: KeyBytes,

@@ -7,12 +7,12 @@ use crate::DumpFault;
 use dbm_reports::ReportFault;
 use std::alloc::AllocError;
 
-/// Why `dump` or `load` failed.
+/// The reason why `dump` or `load` failed.
 #[derive(Clone, Copy)]
 pub enum CopyFault {
     /// A fault that other subcommands have too.
     Report(ReportFault),
-    /// A fault of the dump. Never `Read` or `NoMemory`, which are reported as `Report`.
+    /// A fault of the dump, except `Read` and `NoMemory`: both are a `Report`.
     Dump(DumpFault),
 }
 

@@ -7,19 +7,20 @@ use std::alloc::AllocError;
 use std::error::Error;
 use std::fmt;
 
-/// Why writing or loading a dump failed. It prints as its name, with the number of the line, from 1 on.
+/// The reason why writing or loading a dump failed. It prints as its name, with the number of the line, which counts from 1.
 #[derive(Clone, Copy, Debug)]
 pub enum DumpFault {
     /// The format is unknown, or cannot be read.
     BadFormat,
     /// The reader failed.
     Read,
-    /// The line with this number is invalid in its place. It is the first invalid line.
+    /// The line with this number is the first invalid one.
     BadDump(u64),
-    /// The line with this number has more than 16,384 bytes, or its pair, key or value is over the size limit. Includes the key of the pair
-    /// if it is known.
+    /// The line with this number has more than 16,384 bytes, or its pair, key or value is over the size limit. Has the head of the pair's
+    /// key, if the key is known.
     TooLarge(u64, Option<KeyHead>),
-    /// The pair of the line with this number does not fit in the database: too many keys share the hash of its key. Includes the key.
+    /// The pair of the line with this number does not fit in the database: too many keys share the hash of its key. Has the head of that
+    /// key.
     Crowded(u64, KeyHead),
     /// The dump is truncated.
     CutOff,

@@ -15,7 +15,7 @@ pub enum Format {
     Redis,
 }
 
-/// The format to write, by name; our own if no name is given. Returns `None` if the name is unknown.
+/// Returns the format to write, by name; without a name, our own. Returns `None` if the name is unknown.
 pub fn format_of(name: Option<&str>) -> Option<Format>
     ensures { result ≡ format_of name.entry }
 {
@@ -25,8 +25,8 @@ pub fn format_of(name: Option<&str>) -> Option<Format>
     }
 }
 
-/// The first stage of reading a dump, by the name of its format. If no name is given, the first line determines the format. Returns `None`
-/// if the format is unknown or cannot be read.
+/// Returns the first stage of reading a dump, by the name of its format. Without a name, the first line determines the format. Returns
+/// `None` if the format is unknown or cannot be read.
 pub fn start_of(name: Option<&str>) -> Option<Stage>
     ensures { result ≡ start_of name.entry }
 {
@@ -52,7 +52,7 @@ fn start_in(format: Option<Format>) -> Option<Stage>
     }
 }
 
-// The format with this name.
+// Returns the format with this name.
 fn named(name: &[u8]) -> Option<Format>
     ensures { result ≡ named name.now }
 {

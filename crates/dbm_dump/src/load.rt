@@ -1,4 +1,4 @@
-//! `load`: the pairs of a dump on standard input.
+//! `load`: stores the pairs of a dump on standard input.
 ghost use Rattle.std.specs.Prelude.{◌≡◌, IfOk, IfSome, IsNone, Some, false};
 ghost use Rattle.clap.specs.Words.{found_of, rows_of};
 ghost use Rattle.dbm_args.specs.CommandLine.{IsSubcommand};
@@ -21,7 +21,7 @@ use sdbm_addr::Mode;
 use std::alloc::{AllocError, Global};
 use std::io::Read;
 
-/// Stores the pairs of a dump on standard input. If `keep` is set, existing keys keep their values.
+/// The subcommand `load`. Stores the pairs of a dump on standard input. If `keep` is set, existing keys keep their values.
 #[derive(Clone, Copy, Debug)]
 pub struct Load<'a> {
     pub base: &'a str,
@@ -44,7 +44,7 @@ impl<'a> Load<'a> {
         })
     }
 
-    /// What the program prepares for the subcommand.
+    /// Returns the files of the subcommand and the notation of its bytes.
     pub fn head(&self) -> Head<'a>
         ensures { result ≡ load_head self.now }
     {
@@ -54,7 +54,7 @@ impl<'a> Load<'a> {
         }
     }
 
-    /// Its words as messages show them.
+    /// The arguments that messages may show.
     pub fn words(&self) -> Words<'a> {
         Words {
             first: named_format(self.format),
@@ -63,7 +63,7 @@ impl<'a> Load<'a> {
     }
 }
 
-/// Defines the subcommand `load` for `clap`.
+/// Declares the subcommand `load` for `clap`.
 ///
 /// # Errors
 /// `AllocError` if allocation fails.
@@ -134,7 +134,7 @@ fn mode_of(keep: bool) -> Mode
     Mode::Replace
 }
 
-// Reports the number of pairs in a loaded dump, and the changed database, which has to be written.
+// Reports the number of pairs in a loaded dump, and the database to write.
 fn loaded_report(alloc: Global, loaded: Loaded) -> Result<Report, AllocError>
     ensures { IfOk result (λ report. (report.text.items ≡ loaded_line loaded.count) × ((report.status ≡ 0) × (report.database ≡ Some loaded.image))) }
 {

@@ -14,7 +14,7 @@ use std::alloc::Global;
 use std::io::Read;
 use store_cmd::{Command, Reply};
 
-/// The longest line, in bytes. The line of a pair has at most 16,018.
+/// The longest line, in bytes. The line of a pair has at most 16,018 bytes.
 const LINE_LIMIT: usize = 16_384;
 
 /// A database after loading a dump, and the number of pairs in the dump.
@@ -32,15 +32,15 @@ struct Loading {
     count: u64,
 }
 
-/// Stores the pairs of a dump in a database, in order, each as by `replace` or `insert`; `insert` keeps an existing pair. A dump may have
-/// any length, because it is read line by line.
+/// Stores the pairs of a dump in a database, in order. `mode` says whether a pair replaces an existing one with the same key. A dump may
+/// have any length, because it is read line by line.
 ///
 /// # Errors
-/// The first of these; the database is then dropped. The LF at the end of a text does not begin another line.
-/// - `Read` if the reader fails, and `NoMemory`.
-/// - `BadDump` with the number of the first line that is invalid in its place.
-/// - `TooLarge` with a line that has more than 16,384 bytes, or whose pair, key or value is over the size limit.
-/// - `Crowded` with a line whose pair does not fit in the database.
+/// The first of these faults. The database is then dropped. The LF at the end of a text does not begin another line.
+/// - `Read` if the reader fails, and `NoMemory` if allocation fails.
+/// - `BadDump` with the number of the first invalid line.
+/// - `TooLarge` with the number of a line that has more than 16,384 bytes, or whose pair, key or value is over the size limit.
+/// - `Crowded` with the number of a line whose pair does not fit in the database.
 /// - `CutOff` if the dump is truncated.
 pub fn load_pairs<R: Read>(
     alloc: Global,
@@ -69,8 +69,8 @@ pub fn load_pairs<R: Read>(
     Err(DumpFault::Read)
 }
 
-// Reads the next line, which has this number. Returns `false` if no lines are left. An empty piece after the last LF is not a line, except
-// in an empty text, whose first line is empty.
+// Reads the line with this number. Returns `false` if no lines are left. An empty piece after the last LF is not a line. An empty text,
+// however, has one empty line.
 fn next_line<R: Read>(
     lines: &mut LineReader,
     reader: &mut R,
@@ -90,7 +90,7 @@ fn next_line<R: Read>(
     Ok(!is_empty_end(lines, line.as_slice()))
 }
 
-// Returns `true` if a piece is empty and the last.
+// Returns `true` if a piece is empty and no piece follows it.
 fn is_empty_end(lines: &LineReader, line: &[u8]) -> bool
     ensures { result ≡ cond lines.now.ended (length line.now == 0) false }
 {
@@ -100,7 +100,7 @@ fn is_empty_end(lines: &LineReader, line: &[u8]) -> bool
     false
 }
 
-// Reads up to the next LF, or to the end of the text, as the line with this number. Returns `false` at the end of the text.
+// Reads the piece up to the next LF or the end of the text. Returns `false` if no pieces are left. A fault names the line `number`.
 fn next_piece<R: Read>(
     lines: &mut LineReader,
     reader: &mut R,
@@ -118,7 +118,7 @@ fn next_piece<R: Read>(
     }
 }
 
-// The loaded database, if the dump may end at this stage.
+// Returns the loaded database. Fails with `CutOff` if the dump may not end at this stage.
 fn finish(loading: Loading) -> Result<Loaded, DumpFault>
     ensures ok { IfOk result (λ r. (is_end loading.stage ≡ true) × ((r.image ≡ loading.image) × (r.count ≡ loading.count))) }
     ensures fault { IfErr result (λ fault. (is_end loading.stage ≡ false) × (fault ≡ DumpFault.CutOff)) }
@@ -134,7 +134,7 @@ fn finish(loading: Loading) -> Result<Loaded, DumpFault>
     Ok(Loaded { image, count })
 }
 
-// Takes the line with this number, and stores its pair if it has one.
+// Reads the line with this number, and stores the pair that it completes, if there is one.
 fn take_line(
     alloc: Global,
     mode: Mode,
@@ -174,7 +174,7 @@ fn take_line(
     }
 }
 
-// Stores the pair of the line with this number.
+// Stores a pair. A fault names the line `number`.
 pub(crate) fn store_pair(
     alloc: Global,
     mode: Mode,

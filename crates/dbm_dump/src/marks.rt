@@ -72,21 +72,21 @@ fn number_in(digits: &[u8]) -> Option<u64>
     read_number(digits, u64::MAX)
 }
 
-/// The number after `front`, if the line begins with it.
+/// Returns the number after `front`, if the line begins with `front`.
 pub fn number_behind(front: &[u8], line: &[u8]) -> Option<u64>
     ensures { result ≡ number_behind front.now line.now }
 {
     number_in(behind(front, line)?)
 }
 
-// The rest of a line after `front`, if the line begins with it.
+// Returns the rest of a line after `front`, if the line begins with `front`.
 fn behind<'a>(front: &[u8], line: &'a [u8]) -> Option<&'a [u8]>
     ensures { option_map (λ rest. rest.now) result ≡ behind front.now line.now }
 {
     line.strip_prefix(front)
 }
 
-/// The pair of a line, key and value in hex. Returns `None` if the line is not a pair.
+/// Reads the pair of a line, key and value in hex. Returns `None` if the line is not a pair.
 ///
 /// # Errors
 /// `AllocError` if allocation fails.
@@ -107,7 +107,7 @@ pub fn pair_of(
     }
 }
 
-// A key and a value in hex. Returns `None` if one of them is invalid.
+// Reads a key and a value in hex. Returns `None` if either is invalid.
 fn both(
     alloc: Global,
     key: &[u8],

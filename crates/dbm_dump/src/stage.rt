@@ -89,7 +89,7 @@ impl Stage {
         matches!(self, Stage::Over)
     }
 
-    /// The length of the datum that has begun, or 0.
+    /// The length of the datum that has begun, or 0 if no datum has begun.
     pub fn open_len(&self) -> u64
         ensures { result ≡ open_len self.now }
     {
@@ -99,7 +99,7 @@ impl Stage {
         }
     }
 
-    /// The key of the value that has begun, if any.
+    /// The head of the key whose value has begun, if a value has begun.
     pub fn open_key(&self) -> Option<KeyHead>
         ensures { IsReported (open_key self.now) result }
     {
@@ -139,14 +139,14 @@ pub fn step(alloc: Global, stage: Stage, line: &[u8]) -> Result<Option<Next>, Al
     }
 }
 
-// The next stage, without a pair.
+// Returns a step to a stage, without a pair.
 fn goes(stage: Stage) -> Option<Next>
     ensures { result ≡ Some (spec.goes stage) }
 {
     Some(Next { stage, pair: None })
 }
 
-// The first line, which determines the format.
+// Reads the first line, which determines the format.
 fn first_step(alloc: Global, line: &[u8]) -> Result<Option<Next>, AllocError>
     ensures { IfOk result (λ s. s ≡ spec.first_step line.now) }
 {
@@ -210,7 +210,7 @@ fn gap_step(left: u64, line: &[u8]) -> Option<Next>
     None
 }
 
-// A line while `left` pairs are left.
+// Reads a line of our own format while `left` pairs are left.
 fn pairs_step(alloc: Global, left: u64, line: &[u8]) -> Result<Option<Next>, AllocError>
     ensures { IfOk result (λ s. s ≡ spec.pairs_step left line.now) }
 {
@@ -224,7 +224,7 @@ fn pairs_step(alloc: Global, left: u64, line: &[u8]) -> Result<Option<Next>, All
     Ok(listed(left, pair))
 }
 
-// The last line, valid if no pairs are left.
+// Reads the last line, which is valid only if no pairs are left.
 fn closes(left: u64) -> Option<Next>
     ensures { result ≡ spec.closes left }
 {
@@ -234,7 +234,7 @@ fn closes(left: u64) -> Option<Next>
     None
 }
 
-// A line with one of the remaining pairs.
+// Reads a line with one of the remaining pairs.
 fn listed(left: u64, pair: Option<(Bytes<Global>, Bytes<Global>)>) -> Option<Next>
     ensures { result ≡ spec.listed left pair }
 {
@@ -248,7 +248,7 @@ fn listed(left: u64, pair: Option<(Bytes<Global>, Bytes<Global>)>) -> Option<Nex
     })
 }
 
-// A line of gdbm's format between two data.
+// Reads a line of gdbm's format between two data.
 fn between_step(
     alloc: Global,
     seen: u64,
@@ -270,7 +270,7 @@ fn between_step(
     }
 }
 
-// The line with the number of pairs.
+// Reads the line with the number of pairs.
 fn ended(seen: u64, role: Role, count: u64) -> Option<Next>
     ensures { result ≡ spec.dump_ended seen role count }
 {
@@ -285,7 +285,7 @@ fn ended(seen: u64, role: Role, count: u64) -> Option<Next>
     }
 }
 
-// A line of gdbm's format within a datum.
+// Reads a line of gdbm's format within a datum.
 fn within_step(
     alloc: Global,
     seen: u64,
@@ -315,7 +315,8 @@ fn within_step(
     }
 }
 
-// Returns `true` if a line may follow this text of a datum of `len` bytes: it completes the datum, or the base64 may continue after it.
+// Returns `true` if a line may follow `text`, the base64 so far of a datum of `len` bytes. The line must complete the datum, or more base64
+// may follow it.
 fn may_follow(len: u64, text: &Part, line: &[u8]) -> bool
     ensures { result ≡ spec.may_follow len text.now line.now }
 {
@@ -344,7 +345,7 @@ fn is_full(len: u64, text: &Part) -> bool
     holds(len, text.text.len())
 }
 
-// A datum of `len` bytes after some of its text was read.
+// Returns the step after `text` was read of a datum of `len` bytes. Decodes the datum if its base64 is complete.
 fn grown(
     alloc: Global,
     seen: u64,
@@ -374,7 +375,7 @@ fn grown(
     }
 }
 
-// A complete key, or the complete value of a key.
+// Takes a complete datum: a key, or the value that completes a pair.
 fn closed(seen: u64, role: Role, bytes: Bytes<Global>) -> Option<Next>
     ensures { result ≡ spec.datum_closed seen role bytes }
 {
@@ -400,7 +401,7 @@ fn closed(seen: u64, role: Role, bytes: Bytes<Global>) -> Option<Next>
     }
 }
 
-// A line after the end.
+// Reads a line after the end.
 fn over_step(mark: Mark) -> Option<Next>
     ensures { result ≡ spec.over_step mark }
 {

@@ -3,8 +3,8 @@ ghost use Rattle.std.specs.Prelude.{◌≡◌};
 ghost use Rattle.std.specs.List.{list_all};
 ghost use Rattle.dbm_dump.specs.Symbols.{is_open, is_symbol, without_pad};
 
-/// Returns `true` if `line` may follow `text` in a base64 text that continues after it. Both have only symbols, except that `line` may end
-/// with one `=` if that is the third character of its group of four.
+/// Returns `true` if `line` may follow `text`, and more base64 may follow both. `text` must not end with `=`, and `line` must have only
+/// symbols. As an exception, `line` may end with one `=` that is the third character of its group of four.
 pub fn is_open(text: &[u8], line: &[u8]) -> bool
     ensures { result ≡ is_open text.now line.now }
 {
@@ -14,7 +14,7 @@ pub fn is_open(text: &[u8], line: &[u8]) -> bool
     are_symbols(without_pad(text.len() + line.len(), line))
 }
 
-// The line without its last `=` if `count` characters of text end with the third of a group of four.
+// Removes an `=` at the end of a line if it is the third character of its group of four. `count` is the length of the text with the line.
 fn without_pad(count: usize, line: &[u8]) -> &[u8]
     ensures { result.now ≡ without_pad count line.now }
 {

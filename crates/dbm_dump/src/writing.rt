@@ -18,7 +18,7 @@ use std::alloc::{AllocError, Global};
 const GDBM_HEADER: &[u8] =
     b"# GDBM dump file created by Boddurci\n#:version=1.1\n#:format=standard\n# End of header\n";
 
-/// The dump of these pairs in a format. Reading a dump in our own format or in gdbm's returns the same pairs.
+/// Writes a dump of the pairs in a format. Reading a dump in our own format or in gdbm's returns the same pairs.
 ///
 /// # Errors
 /// `AllocError` if allocation fails.
@@ -39,7 +39,7 @@ pub fn dump_pairs(
     }
 }
 
-// Our own format: a header, a line for each pair, and a last line.
+// Writes our own format: a header, a line for each pair, and a last line.
 fn plain_dump(
     alloc: Global,
     kind: KeyBytes,
@@ -57,7 +57,7 @@ fn plain_dump(
     Ok(text)
 }
 
-// The header of our own format.
+// Writes the header of our own format.
 fn plain_header(
     alloc: Global,
     kind: KeyBytes,
@@ -114,7 +114,7 @@ fn show_pair(key: &[u8], value: &[u8], text: &mut Vec<u8>) -> Result<(), AllocEr
     Ok(text.push(b'\n')?)
 }
 
-// gdbm's format: a header, the pairs, and their number.
+// Writes gdbm's format: a header, the pairs, and the number of pairs.
 fn gdbm_dump(alloc: Global, pairs: &[(Bytes<Global>, Bytes<Global>)]) -> Result<Vec<u8>, AllocError>
     ensures text { IfOk result (λ text. text.items ≡ spec.gdbm_text pairs.now) }
     ensures reads { IfOk result (λ text. pairs_in_dump Stage.First text.items ≡ Some pairs.now) }
@@ -139,7 +139,7 @@ fn show_data(alloc: Global, key: &[u8], value: &[u8], text: &mut Vec<u8>) -> Res
     show_datum(alloc, value, text)
 }
 
-// Appends the length of a datum, and then its base64 on a line, to `text`. An empty datum has no line.
+// Appends to `text` a line with the length of a datum, and a line with its base64. An empty datum has no second line.
 fn show_datum(alloc: Global, bytes: &[u8], text: &mut Vec<u8>) -> Result<(), AllocError>
     ensures text { OnOk result (text.new.items ≡ text.old.items ++ spec.datum_lines bytes.now) }
     ensures bytes { IsBytes bytes.now }
@@ -156,7 +156,7 @@ fn show_datum(alloc: Global, bytes: &[u8], text: &mut Vec<u8>) -> Result<(), All
     Ok(text.push(b'\n')?)
 }
 
-// A SET command for each pair.
+// Writes a SET command for each pair.
 fn redis_dump(
     alloc: Global,
     pairs: &[(Bytes<Global>, Bytes<Global>)],
@@ -179,7 +179,7 @@ fn show_set(key: &[u8], value: &[u8], text: &mut Vec<u8>) -> Result<(), AllocErr
     show_bulk(value, text)
 }
 
-// Appends the length of some bytes, and then the bytes, to `text`.
+// Appends to `text` a string of Redis's protocol: the length of the bytes, and then the bytes.
 fn show_bulk(bytes: &[u8], text: &mut Vec<u8>) -> Result<(), AllocError>
     ensures { OnOk result (text.new.items ≡ text.old.items ++ spec.bulk bytes.now) }
 {

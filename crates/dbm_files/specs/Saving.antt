@@ -1,11 +1,11 @@
--- The files after a save, for every outcome of a crash.
+-- The files that a crash during or after a save may leave.
 use Rattle.std.specs.Prelude.{◌≡◌, ◌⊎◌, ℕ, List}
 use Rattle.sdbm_addr.specs.Database.{Database}
 use Rattle.sdbm_saves.specs.Disk.{Image}
 use Rattle.sdbm_saves.specs.Saves.{AreFilesFor}
 use Rattle.sdbm_log.specs.Log.{files_of, CanRecover, Holds}
 
--- each image that a crash leaves represents these files and can be recovered
+-- each image that a crash may leave represents these files and can be recovered
 abbrev pub LeavesFiles : {D : Type 0} → List ℕ × List ℕ → (D → Image → Type 0) → D → Type 0
 LeavesFiles both may_leave disk = (c : Image) → may_leave disk c → Holds both c
 
@@ -13,11 +13,11 @@ LeavesFiles both may_leave disk = (c : Image) → may_leave disk c → Holds bot
 abbrev pub HoldsDatabase : Database → Image → Type 0
 HoldsDatabase db image = AreFilesFor db (files_of image).0 (files_of image).1 × CanRecover image
 
--- an image represents the old files or those of a database, and can be recovered
+-- an image represents the old files, or the files of a database, and can be recovered
 abbrev pub IsOldOrSaved : List ℕ × List ℕ → Database → Image → Type 0
 IsOldOrSaved old db image = Holds old image ⊎ HoldsDatabase db image
 
--- The files are those of a database. Either they were so before and the disk is unchanged, or each image that a crash leaves represents
--- them.
+-- A database is saved. Either its files were on the disk before, and the disk is unchanged; or each image that a crash may leave represents
+-- its files and can be recovered.
 abbrev pub IsSaved : {D : Type 0} → Database → List ℕ × List ℕ → (D → Image → Type 0) → D → D → Type 0
 IsSaved db before may_leave old new = (AreFilesFor db before.0 before.1 × (new ≡ old)) ⊎ ((c : Image) → may_leave new c → HoldsDatabase db c)

@@ -1,4 +1,4 @@
-//! Saves a database in new files, under another name until they are complete.
+//! Saves a database in new files, which have temporary names until they are complete.
 
 use crate::files::{RunFiles, take_files};
 use crate::saving::SaveOutcome;
@@ -17,16 +17,16 @@ use std::time::{Clock, Duration};
 pub enum CopyOutcome {
     /// Both files are complete and durable, and so are their names.
     Done,
-    /// A file of the copy exists already, or a redo file with a committed save. Nothing was changed.
+    /// The copy was not made: a data file with its name exists, or a redo file with a committed save.
     Exists,
 }
 
-/// Saves a database in new files of this base, with this mode less the umask. They are written and synced under another name in the same
-/// folder, and get their own names once they are complete. After a fault neither of them exists. A kill leaves both, or neither, or
-/// BASE.pag alone, and may leave files under the other name.
+/// Saves a database in new files of this base. Their permissions are `mode` without the bits of the umask. The files are written and synced
+/// under temporary names in the same folder, and get their own names once they are complete. After a fault neither file exists. After a
+/// kill both files, neither, or BASE.pag alone may exist, and files with temporary names may be left.
 ///
 /// # Errors
-/// `WriteFile`, `FileTooLong` and `NoMemory`, and those of `take_files` for the other name.
+/// `WriteFile`, `FileTooLong` and `NoMemory`, and the errors of `take_files` for the temporary names.
 pub fn save_copy<R: Files<File = File> + Clock + AllocGlobal>(
     rt: &R,
     base: &str,
@@ -48,7 +48,8 @@ pub fn save_copy<R: Files<File = File> + Clock + AllocGlobal>(
     copied
 }
 
-// The base for the files of a copy until they are complete. No other process uses it at the same time.
+// The base of the temporary names of a copy. It contains the number of this process, if /proc reports it, so that no other process uses the
+// same names.
 fn early_base_of<R: Files + AllocGlobal>(rt: &R, base: &str) -> Result<String, AllocError> {
     let Ok(process) = fs::read_link(rt, "/proc/self") else {
         return format!(in rt.alloc(); "{base}.new");
@@ -59,7 +60,7 @@ fn early_base_of<R: Files + AllocGlobal>(rt: &R, base: &str) -> Result<String, A
     }
 }
 
-// Makes both data files, which must not exist.
+// Creates both data files, which must not exist.
 fn make_both<R: Files<File = File>>(rt: &R, early: &Names, mode: u32) -> Result<(), FilesFault> {
     if make(rt, early.pages.as_str(), mode).is_err() {
         return Err(FilesFault::WriteFile);
@@ -71,7 +72,7 @@ fn make_both<R: Files<File = File>>(rt: &R, early: &Names, mode: u32) -> Result<
     Ok(())
 }
 
-// Saves a database in both files, which are empty.
+// Saves a database in both data files, which are empty.
 fn save_early<R: Files<File = File> + Clock + AllocGlobal>(
     rt: &R,
     base: &str,
@@ -100,7 +101,7 @@ fn save_early<R: Files<File = File> + Clock + AllocGlobal>(
     }
 }
 
-// Syncs both files of an empty database, which its save has not written.
+// Syncs both files after the save of an empty database, which has written neither.
 fn sync_both<R: Files<File = File>>(rt: &R, early: &Names) -> io::Result<()> {
     fs::open(rt, early.pages.as_str())?.sync_all()?;
     fs::open(rt, early.directory.as_str())?.sync_all()
@@ -113,7 +114,7 @@ fn synced(outcome: io::Result<()>) -> Result<(), FilesFault> {
     }
 }
 
-// Gives both files their names and syncs the folder. After a fault neither name exists.
+// Gives both files their own names and syncs the folder. After a fault neither name exists.
 fn publish<R: Files<File = File>>(
     rt: &R,
     early: &Names,
@@ -136,7 +137,7 @@ fn publish<R: Files<File = File>>(
     outcome.map(|_| CopyOutcome::Done)
 }
 
-// Gives a file another name. Returns `false` if that name exists. If the file system has no hard links, the file is renamed.
+// Gives a file another name, by a hard link or, if the file system has none, by renaming it. Returns `false` if that name exists.
 fn give_name<R: Files<File = File>>(rt: &R, from: &str, to: &str) -> Result<bool, FilesFault> {
     match fs::hard_link(rt, from, to) {
         Ok(()) => return Ok(true),
@@ -156,7 +157,7 @@ fn sync_folder<R: Files<File = File>>(rt: &R, name: &str) -> io::Result<()> {
     fs::open(rt, folder_of(name))?.sync_all()
 }
 
-// Removes the files under the other name.
+// Removes the files with temporary names.
 fn remove_early<R: Files<File = File>>(rt: &R, early: &Names) {
     let names = [
         &early.pages,

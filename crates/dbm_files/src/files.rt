@@ -24,12 +24,12 @@ use std::rt::Files;
 use std::time::{Clock, Duration};
 use std::{fs, thread};
 
-/// Maximum size of a redo file, in bytes. The plan of the largest save has the new and the old bytes of both files at their limits, in
-/// blocks of 1,024 with nine bytes before each, and twenty-nine bytes at the start. A log has a header before it and up to 1 MiB of zeros
-/// after it.
+/// Maximum size of a redo file, in bytes. The plan of the largest save begins with 29 bytes, and has the new and the old bytes of both
+/// files at their limits, in blocks of 1,024 bytes with nine bytes before each. A log has a header before the plan, and up to 1 MiB of
+/// zeros after it.
 const REDO_LIMIT: u64 = 2_697_203_749;
 
-/// Maximum number of times that a writing run reads its files again because they changed meanwhile.
+/// Maximum number of times that a writing run reads its files again because a file changed during the read.
 const MOST_READS: usize = 2;
 
 /// The number of bytes of BASE.pag that are read at once: whole pages of either size.
@@ -44,7 +44,8 @@ pub struct RunFiles {
     pub unread: Option<UnreadPages>,
 }
 
-/// A database that a run may change: its files, the IDs of those that were read, and its locks. Other runs wait until these are dropped.
+/// A database that a run may change: its files, the IDs of the data files that were read, and its locks. Other runs wait until the locks
+/// are dropped.
 #[derive(Drop)]
 pub struct LockedFiles {
     pub place: Place,
@@ -54,18 +55,25 @@ pub struct LockedFiles {
     pub(crate) states: DataStates,
 }
 
-/// Takes the lock, then reads the files of a run. A reading run waits only for a run that uses the files. An interrupted save is recovered
-/// first by a writing run; a reading run applies the redo file to the bytes that it read. A writing run keeps its lock, so that its files
-/// stay those that were read until it has written them. The lock and the redo file are next to the files themselves, even if links lead
-/// there, and all of them are in the folder that the base named first. A peeking run gets `.pag` unread, unless there is a save to recover
-/// or something is wrong with a file: then all files are read.
+/// Takes the lock, then reads the files of a run. A reading run waits only while another run uses the files.
+///
+/// A writing run first recovers an interrupted save. It keeps its locks, so that no other run changes the files before this run has saved.
+/// A reading run applies the redo file to the bytes that it read. The locks and the redo file are next to the data files, even if the names
+/// of the data files are links. All files are in the folder to which the base led at first. A peeking run does not read `.pag`, unless a
+/// save must be recovered or a file has a problem.
 ///
 /// # Errors
-/// Those of `resolve`, `Unsafe` if another user could have planted the lock or the redo file, and `Locked` if another run holds the lock
-/// for longer than the patience. `Moved` if links to another base appeared during the wait, or if the lock refers to a different file again
-/// and again. `WriteFile` if a writing run cannot take its lock or recover a save. `ReadFile` if a reading run cannot take an existing
-/// lock. Then those of `read_files`, and `BadRedo` if the commit byte of the redo file is 1, but it belongs to different data files, or no
-/// save has left it. On a fault nothing is written, except by the recovery of a save.
+/// - The errors of `resolve`.
+/// - `Unsafe` if another user could have planted a lock or the redo file.
+/// - `Locked` if another run holds the lock for longer than `patience`.
+/// - `Moved` if the data files became links to another base during the wait, or if the name of the lock refers to a different file each
+///   time.
+/// - `WriteFile` if a writing run cannot take its locks or recover a save.
+/// - `ReadFile` if a reading run cannot take an existing lock.
+/// - The errors of `read_files`.
+/// - `BadRedo` if the commit byte of the redo file is 1, but the redo file belongs to other data files or was not written by a save.
+///
+/// On an error no data file was written, except by the recovery of a save.
 pub fn take_files<R: Files<File = File> + Clock + AllocGlobal>(
     rt: &R,
     place: RunPlace<'_>,
@@ -86,7 +94,7 @@ pub fn take_files<R: Files<File = File> + Clock + AllocGlobal>(
     Ok(read_whole(bytes, None))
 }
 
-// Files that were read completely.
+// Returns the files of a run that has read all of them.
 fn read_whole(bytes: FileBytes, held: Option<LockedFiles>) -> RunFiles {
     RunFiles {
         bytes,
@@ -95,7 +103,7 @@ fn read_whole(bytes: FileBytes, held: Option<LockedFiles>) -> RunFiles {
     }
 }
 
-// The place of a run, with the names that its files have in their folder.
+// Returns the place of a run with the base of `files`, whose names lead into the folder that is held open.
 fn inside<'a>(place: RunPlace<'a>, files: &'a Place) -> RunPlace<'a> {
     RunPlace {
         base: Some(files.base()),
@@ -132,7 +140,7 @@ fn take_to_write<R: Files<File = File> + Clock + AllocGlobal>(
     }
     let (bytes, states) = read_still(rt, place, &files)?;
     let seen = bytes.seen;
-    // An interrupted save may have been recovered, and may have made a file.
+    // The recovery of an interrupted save may have created a file.
     files.hold_data(rt);
     files.must_be_open(&seen)?;
     let held = LockedFiles {
@@ -144,7 +152,7 @@ fn take_to_write<R: Files<File = File> + Clock + AllocGlobal>(
     Ok(read_whole(bytes, Some(held)))
 }
 
-// Reads the files of a reading run except `.pag`, and keeps the lock if there is one. If that is impossible, reads all files.
+// Reads the files of a reading run except `.pag`, and keeps the lock if its file exists. If `.pag` must be read, reads all files.
 fn peek_to_read<R: Files<File = File> + Clock + AllocGlobal>(
     rt: &R,
     place: RunPlace<'_>,
@@ -170,7 +178,7 @@ fn peek<R: Files<File = File> + AllocGlobal>(
     files: &Place,
     is_locked: bool,
 ) -> Option<(FileBytes, UnreadPages)> {
-    // A pipe could not be read again.
+    // If the program's file is a pipe, it cannot be read a second time.
     if let Some(file) = place.file
         && is_special(rt, file)
     {
@@ -188,11 +196,11 @@ fn peek<R: Files<File = File> + AllocGlobal>(
     Some((FileBytes { seen, ..read }, unread))
 }
 
-/// Reads the files that a peeking run has left unread, under its lock. A reading run that found no lock waits for a lock that was made
-/// since.
+/// Reads the files that a peeking run has left unread, under its lock. If a reading run found no lock file, but the file exists now, the
+/// run waits for that lock.
 ///
 /// # Errors
-/// The same as `take_files`.
+/// The errors of `take_files`.
 pub fn take_rest<R: Files<File = File> + Clock + AllocGlobal>(
     rt: &R,
     place: RunPlace<'_>,
@@ -232,7 +240,7 @@ pub fn take_rest<R: Files<File = File> + Clock + AllocGlobal>(
     Ok(read_whole(FileBytes { program, ..read }, None))
 }
 
-// Reads the files of a reading run that has read only one page.
+// Reads all files of a reading run that has left `.pag` unread.
 fn read_guarded<R: Files<File = File> + Clock + AllocGlobal>(
     rt: &R,
     place: RunPlace<'_>,
@@ -245,10 +253,10 @@ fn read_guarded<R: Files<File = File> + Clock + AllocGlobal>(
     }
 }
 
-/// Reads the files of a database again. Its lock must be held, and `seen` must be the files of the last read.
+/// Reads the files of a database again. Its locks must be held, and `seen` must have the data files of the last read.
 ///
 /// # Errors
-/// `Moved` if the lock or one of the files has lost its name to another file, and those of `take_files` except for its lock.
+/// `Moved` if the name of a lock or of a data file now refers to another file. The errors of `take_files` that are not about the locks.
 pub fn read_again<R: Files<File = File> + AllocGlobal>(
     rt: &R,
     place: RunPlace<'_>,
@@ -259,7 +267,7 @@ pub fn read_again<R: Files<File = File> + AllocGlobal>(
     read_database(rt, place, &held.place, true, Some(*seen))
 }
 
-// Reads the files of a reading run, under a lock if there is one.
+// Reads the files of a reading run, under the lock if its file exists.
 fn read_under_lock<R: Files<File = File> + Clock + AllocGlobal>(
     rt: &R,
     place: RunPlace<'_>,
@@ -282,7 +290,7 @@ fn read_locked<R: Files<File = File> + Clock + AllocGlobal>(
         return read_held(rt, place, files, lock);
     }
     let read = read_held(rt, place, files, None);
-    // The first writing run may have come in between, and made the lock.
+    // The first writing run may have created the lock while the files were read.
     match read_lock(rt, files, patience)? {
         Some(lock) => read_held(rt, place, files, Some(lock)),
         None => read,
@@ -299,7 +307,7 @@ fn read_lock<R: Files<File = File> + Clock + AllocGlobal>(
     Ok(lock)
 }
 
-// Reads the database of a writing run. If a file was changed or recovered meanwhile, it is read again.
+// Reads the database of a writing run. If a data file changes or is recovered meanwhile, reads the files again.
 fn read_still<R: Files<File = File> + AllocGlobal>(
     rt: &R,
     place: RunPlace<'_>,
@@ -318,7 +326,7 @@ fn read_still<R: Files<File = File> + AllocGlobal>(
     Ok((read, states))
 }
 
-// Reads the files of a reading run, then releases its lock.
+// Reads the files of a reading run, then releases the lock.
 fn read_held<R: Files<File = File> + AllocGlobal>(
     rt: &R,
     place: RunPlace<'_>,
@@ -328,7 +336,7 @@ fn read_held<R: Files<File = File> + AllocGlobal>(
     read_database(rt, place, files, lock.is_some(), None)
 }
 
-// Reads the database of a run. If its files were known before, they must be the same.
+// Reads the database of a run. If `known` is given, the data files must be the same as those.
 fn read_database<R: Files<File = File> + AllocGlobal>(
     rt: &R,
     place: RunPlace<'_>,
@@ -380,7 +388,7 @@ fn read_database<R: Files<File = File> + AllocGlobal>(
     })
 }
 
-// The bytes of the three files, in the form that the log needs.
+// Returns the bytes of the three files in the form that `sdbm_log` takes.
 fn log_files(found: &Found) -> LogFiles<'_>
     ensures redo { result.redo.now ≡ found.now.redo.items }
     ensures pages { result.pages.now ≡ found.now.pages.items }
@@ -401,15 +409,15 @@ fn fault_of(fault: LogFault) -> FilesFault {
     }
 }
 
-// Returns whether a plan makes a file longer than it may be.
+// Returns `true` if a plan makes a data file longer than its limit.
 fn is_too_long(place: RunPlace<'_>, plan: &[u8]) -> bool
     requires { IsPlan plan.now }
 {
     number(plan, 8) as u64 > place.pages_limit || number(plan, 12) as u64 > DIR_LIMIT
 }
 
-// Syncs a committed redo file, and its name, before any answer that depends on it is reported: the run that committed it may have been
-// killed before the commit was durable. A file system that is read-only needs no sync.
+// Syncs a committed redo file and its name. The run that committed it may have been killed before the commit was durable, so this call must
+// come before any answer that depends on the redo file. A read-only file system needs no sync.
 fn keep_plan<R: Files<File = File>>(rt: &R, names: &Names) -> io::Result<()> {
     let name = names.redo.as_str();
     let synced = open_beside(rt, Side::Redo, name, names.pages.as_str(), false)?.sync_data();
@@ -423,7 +431,7 @@ fn keep_plan<R: Files<File = File>>(rt: &R, names: &Names) -> io::Result<()> {
     Ok(())
 }
 
-// Applies the plan to the bytes of the data files.
+// Applies the plan, if there is one, to the bytes of the data files.
 fn lay_over(
     alloc: Global,
     place: RunPlace<'_>,
@@ -461,7 +469,7 @@ fn lay_over(
     Ok(read_over(alloc, pages, directory))
 }
 
-// The files that were read, without a program.
+// Returns the data files as a `FileBytes` without a program.
 fn read_over(alloc: Global, pages: ReadPages<Global>, directory: Vec<u8>) -> FileBytes {
     FileBytes {
         directory,
@@ -471,7 +479,8 @@ fn read_over(alloc: Global, pages: ReadPages<Global>, directory: Vec<u8>) -> Fil
     }
 }
 
-// Recovers the files after a kill or a power failure: applies the redo file to both data files, clears its commit byte, and removes it.
+// Recovers the files after a kill or a power failure. Applies the redo file to both data files, clears the commit byte, and removes the
+// redo file.
 fn recover_files<R: Files<File = File> + AllocGlobal>(
     rt: &R,
     names: &Names,
@@ -489,8 +498,8 @@ fn recover_files<R: Files<File = File> + AllocGlobal>(
     Ok(disk.clear()?)
 }
 
-// The bytes of a committed redo file. A reading run under BASE.lock does not need them while another run has the database open for changes,
-// because the data files contain all saves.
+// Returns the bytes of a committed redo file, or no bytes if the run does not need them. A reading run that holds BASE.lock does not need
+// them while another run has the database open for changes, because the data files then contain all saves.
 fn redo_of<R: Files<File = File> + AllocGlobal>(
     rt: &R,
     place: RunPlace<'_>,
@@ -503,8 +512,7 @@ fn redo_of<R: Files<File = File> + AllocGlobal>(
     read_redo(rt, &files.names)
 }
 
-// The bytes of a committed redo file. If its commit byte is not 1, there is nothing to apply: it counts as empty, and only its first byte
-// is read.
+// Reads a committed redo file. If its commit byte is not 1, there is nothing to apply: reads only that byte, and returns no bytes.
 fn read_redo<R: Files<File = File> + AllocGlobal>(
     rt: &R,
     names: &Names,
@@ -527,8 +535,8 @@ fn read_redo<R: Files<File = File> + AllocGlobal>(
     Ok(bytes)
 }
 
-// Reads the files of a run, except `.pag` if it peeks. The error is the first that occurs: `ReadFile`, `FileTooLong` if a file is longer
-// than it may be, and `NoMemory`.
+// Reads the files of a run, except `.pag` if `peeks` is set. The error is the first of these that occurs: `ReadFile`, `FileTooLong` if a
+// file is longer than its limit, and `NoMemory`.
 fn read_files<R: Files<File = File> + AllocGlobal>(
     rt: &R,
     place: RunPlace<'_>,
@@ -561,7 +569,7 @@ fn read_files<R: Files<File = File> + AllocGlobal>(
     Ok(read)
 }
 
-// The bytes of a data file and its ID. A missing file counts as empty.
+// Returns the bytes of a data file, and its ID. A missing file counts as empty.
 fn read_data<R: Files<File = File> + AllocGlobal>(
     rt: &R,
     name: &str,
@@ -593,7 +601,7 @@ fn open_data<R: Files<File = File>>(
     }
 }
 
-// The bytes of a program's file.
+// Reads a program's file.
 fn read_file<R: Files + AllocGlobal>(
     rt: &R,
     name: &str,
@@ -605,7 +613,7 @@ fn read_file<R: Files + AllocGlobal>(
     }
 }
 
-// The pages of a file that may be missing, read piece by piece, and its ID.
+// Reads the pages of a file piece by piece, and returns them with its ID. A missing file has no pages.
 fn read_pages<R: Files<File = File> + AllocGlobal>(
     rt: &R,
     name: &str,
@@ -618,7 +626,7 @@ fn read_pages<R: Files<File = File> + AllocGlobal>(
     }
 }
 
-// The pages of an open file, read piece by piece.
+// Reads the pages of an open file piece by piece.
 fn read_pieces(
     alloc: Global,
     file: File,
@@ -637,7 +645,8 @@ fn read_pieces(
     Err(FilesFault::FileTooLong)
 }
 
-// Reads the next bytes of a file into `room` and returns their number. It is less than the size of the room only at the end of the file.
+// Reads the next bytes of a file into `room` and returns the number of bytes read. It is less than the size of `room` only at the end of
+// the file.
 fn read_piece<F: Read>(file: &mut F, room: &mut [u8]) -> Result<usize, FilesFault>
     ensures count { IfOk result (λ count. count ≤ length room.old) }
     ensures room { length room.new ≡ length room.old }
@@ -660,7 +669,7 @@ fn read_piece<F: Read>(file: &mut F, room: &mut [u8]) -> Result<usize, FilesFaul
     Ok(count)
 }
 
-// Appends a piece and returns whether more may follow. A piece that is not full is the last.
+// Appends a piece of `.pag`. Returns `true` if another piece may follow. A piece that is not full is the last one.
 fn push_piece(pages: &mut ReadPages<Global>, piece: &[u8], limit: u64) -> Result<bool, FilesFault>
     requires { length pages.old.bytes % page_bytes pages.old.size ≡ 0 }
     ensures after { OnOk result (pages.new ≡ with_piece pages.old piece.now) }
@@ -677,10 +686,10 @@ fn push_piece(pages: &mut ReadPages<Global>, piece: &[u8], limit: u64) -> Result
     Ok(pages.is_whole())
 }
 
-/// The bytes of a program's file, which must not be a FIFO or a device.
+/// Reads a program's file, which must not be a FIFO or a device.
 ///
 /// # Errors
-/// `ReadFile` if the file cannot be read, `FileTooLong` if it has more than 1,048,576 bytes, and `NoMemory`.
+/// `ReadFile` if the file cannot be read, `FileTooLong` if it has more than 1,048,576 bytes, and `NoMemory` if allocation fails.
 pub fn read_program<R: Files + AllocGlobal>(rt: &R, name: &str) -> Result<Vec<u8>, FilesFault> {
     if is_special(rt, name) {
         return Err(FilesFault::ReadFile);
@@ -688,7 +697,7 @@ pub fn read_program<R: Files + AllocGlobal>(rt: &R, name: &str) -> Result<Vec<u8
     read_file(rt, name, PROGRAM_LIMIT)
 }
 
-// The bytes of an open file.
+// Reads an open file of at most `limit` bytes.
 fn read_all<F: Read + Drop>(alloc: Global, file: F, limit: u64) -> Result<Vec<u8>, FilesFault> {
     let mut file = file;
     let mut bytes = Vec::new(alloc);
@@ -699,7 +708,7 @@ fn read_all<F: Read + Drop>(alloc: Global, file: F, limit: u64) -> Result<Vec<u8
     Ok(bytes)
 }
 
-// Appends the next bytes of a file, at most `most`.
+// Appends the next bytes of a file, at most `most`, to `bytes`.
 pub(crate) fn read_up_to<F: Read>(
     file: &mut F,
     most: u64,

@@ -28,7 +28,7 @@ fn name_of(names: &Names, part: DiskFile) -> &str {
 #[derive(Drop)]
 struct SaveFile {
     file: Option<File>,
-    // The file was synced and has not been written since.
+    // The file was synced, and has not been written since then.
     is_synced: bool,
 }
 
@@ -41,24 +41,24 @@ impl SaveFile {
     }
 }
 
-// The files of a database. Each is opened when it is first written or synced, made if it is missing, and kept open. The files are written
-// in place, so they keep owner, permissions and links. A data file must be the one that was read: a different file under its name is not
-// opened. If there was no data file, a file that appears later is not used.
+// The files of a database. Each file is opened when it is first written or synced, and stays open. A missing file is created. The files are
+// written in place, so they keep their owner, permissions and links. A data file must be the one that was read: another file that now has
+// its name is not used, nor is a file that has appeared where none existed.
 #[derive(Drop)]
 struct OpenFiles<'a, R: Files<File = File>> {
     rt: &'a R,
     names: &'a Names,
     seen: SeenFiles,
-    // The size of the longest file that this process may write, in bytes. A longer file raises SIGXFSZ.
+    // The maximum length of a file that this process may write, in bytes. Writing past it raises SIGXFSZ.
     most: u64,
     pages: SaveFile,
     directory: SaveFile,
     redo: SaveFile,
-    // This run has synced the folder and has made no file since. Names that an earlier run made may not be durable.
+    // This run has synced the folder, and has created no file since then. The names that an earlier run created may not be durable.
     is_folder_kept: bool,
     // The redo file counts as missing, and is removed before it is used.
     is_redo_stale: bool,
-    // This run has removed the redo file, so it does not open a redo file that appears later.
+    // This run has removed the redo file. It does not open a redo file that appears later.
     is_redo_gone: bool,
 }
 
@@ -71,7 +71,7 @@ impl<'a, R: Files<File = File>> OpenFiles<'a, R> {
         }
     }
 
-    // Opens a file for writing if it is not open, and makes it if it is missing.
+    // Returns a file that is open for writing. Opens it if it is not open, and creates it if it is missing.
     fn open(&mut self, part: DiskFile) -> io::Result<&mut File> {
         if self.slot(part).file.is_none() {
             let file = match self.open_there(part) {
@@ -106,7 +106,7 @@ impl<'a, R: Files<File = File>> OpenFiles<'a, R> {
         Ok(open_beside(self.rt, Side::Redo, name, pages, true)?)
     }
 
-    // Makes a missing file.
+    // Creates a missing file.
     fn make(&mut self, part: DiskFile) -> io::Result<File> {
         self.is_folder_kept = false;
         let name = name_of(self.names, part);
@@ -126,8 +126,8 @@ impl<'a, R: Files<File = File>> OpenFiles<'a, R> {
         Ok(())
     }
 
-    // Writes bytes, if the file may become that long. Bytes after the header of a log are a record, and its plan has the new lengths of
-    // both data files. These lengths must fit before the record is committed.
+    // Writes bytes, if the file may become that long. Bytes after the header of a log are a record, whose plan has the new lengths of both
+    // data files. Those lengths are checked too, before the record is committed.
     fn write_in(&mut self, part: DiskFile, at: usize, bytes: &[u8]) -> io::Result<()> {
         self.must_fit(at.saturating_add(bytes.len()))?;
         if part == DiskFile::Redo && at >= LOG_HEADER {
@@ -145,7 +145,7 @@ impl<'a, R: Files<File = File>> OpenFiles<'a, R> {
         self.open(part)?.set_len(len as u64)
     }
 
-    // Returns whether a file is open and has this length.
+    // Returns `true` if a file is open and has this length.
     fn is_long(&mut self, part: DiskFile, len: usize) -> io::Result<bool> {
         match &self.slot(part).file {
             Some(file) => Ok(file.metadata()?.len() == len as u64),
@@ -154,7 +154,7 @@ impl<'a, R: Files<File = File>> OpenFiles<'a, R> {
     }
 
     // Syncs a file, and the folder with its name. A file that this run has not written is synced too, because an earlier run may have been
-    // killed after a write. A missing file needs no sync. A file that may not be written fails here instead of in the middle of a commit.
+    // killed after a write. A missing file needs no sync. If this user may not write the file, the call fails, before the commit begins.
     fn keep(&mut self, part: DiskFile) -> io::Result<()> {
         if self.slot(part).file.is_none() {
             match self.open_there(part) {
@@ -188,7 +188,7 @@ impl<'a, R: Files<File = File>> OpenFiles<'a, R> {
     }
 }
 
-// Opens a data file that was read, for writing. The error is `NotFound` if the file was missing and still is.
+// Opens a data file that was read, for writing. The error is `NotFound` if the file was missing and is still missing.
 fn open_seen<R: Files<File = File>>(rt: &R, name: &str, seen: Option<FileId>) -> io::Result<File> {
     let file = match OpenOptions::new().read(true).write(true).open(rt, name) {
         Err(error) if error.kind() == ErrorKind::NotFound && seen.is_some() => return Err(moved()),
@@ -200,7 +200,7 @@ fn open_seen<R: Files<File = File>>(rt: &R, name: &str, seen: Option<FileId>) ->
     Err(moved())
 }
 
-// The error for a file that has lost its name.
+// The error for a file whose name now refers to another file or to none.
 fn moved() -> io::Error {
     io::Error::from(ErrorKind::StaleNetworkFileHandle)
 }
@@ -215,8 +215,8 @@ pub struct RealFiles<'a, R: Files<File = File>> {
 impl<'a, R: Files<File = File>> RealFiles<'a, R> {
     ghost use Rattle.sdbm_saves.specs.CallLog.{acts};
 
-    /// The files with these names. `seen` has the IDs of those that were read. No file is opened yet. A stale redo file counts as missing,
-    /// and is removed before it is used.
+    /// The files with these names; no file is opened yet. `seen` has the IDs of the data files that were read. A stale redo file counts as
+    /// missing, and is removed before a new one is created.
     pub fn new(
         rt: &'a R,
         names: &'a Names,
@@ -286,8 +286,8 @@ impl<'a, R: Files<File = File>> Host for RealFiles<'a, R> {
     }
 }
 
-/// Removes the redo file of a save that failed before it wrote either data file. The file may survive. If its commit byte is not 1, the
-/// next save reuses it. If its commit byte is 1, the next writing run recovers the files.
+/// Removes the redo file of a save that failed before it wrote either data file. If the file cannot be removed, its commit byte decides: if
+/// it is 1, the next writing run recovers the files; otherwise the next save reuses the redo file.
 pub fn forget_redo<R: Files<File = File>>(rt: &R, names: &Names) {
     let _ = fs::remove_file(rt, names.redo.as_str());
 }

@@ -4,7 +4,7 @@ use std::fs::{self, File};
 use std::io::Read;
 use std::rt::Files;
 
-/// The maximum number of bytes that this process may write into a file. If the system does not report it, there is no limit.
+/// Returns the maximum length of a file that this process may write, or `u64::MAX` if the system reports no limit.
 pub fn most_bytes<R: Files<File = File>>(rt: &R) -> u64 {
     let mut room = [0u8; 1024];
     let Ok(mut file) = fs::open(rt, "/proc/self/limits") else {
@@ -16,7 +16,7 @@ pub fn most_bytes<R: Files<File = File>>(rt: &R) -> u64 {
     }
 }
 
-// The soft limit from a table. Its line `Max file size` has the soft limit and the hard limit, each a number or `unlimited`.
+// Returns the soft limit from a table of limits. The line `Max file size` has the soft and the hard limit, each a number or `unlimited`.
 fn limit_in(table: &[u8]) -> u64 {
     let Ok(table) = str::from_utf8(table) else {
         return u64::MAX;

@@ -1,4 +1,4 @@
-//! The files of a run that reads one page: all except `.pag`, which stays open.
+//! Reads single pages of a `.pag` that stays open, for a run that needs only one page.
 ghost use Rattle.std.specs.Prelude.{◌≡◌, ◌+◌, ◌*◌, ◌<◌, ◌≤◌, ℕ, length, get_or, IfOk};
 ghost use Rattle.sdbm_addr.specs.Pairs.{page_bytes};
 
@@ -10,7 +10,7 @@ use std::io::ErrorKind;
 use std::os::unix::fs::FileExt;
 use std::rt::Files;
 
-/// A `.pag` whose pages are read one by one. It is open, or missing and empty.
+/// A `.pag` whose pages are read one by one. A missing file counts as empty.
 #[derive(Drop)]
 pub struct UnreadPages {
     /// The length in bytes.
@@ -26,13 +26,13 @@ pub struct UnreadPages {
 pub enum Guard {
     /// The lock of a writing run, which is held separately.
     Writer,
-    /// The place and the lock of a reading run. There is no lock if its file was missing: then no run has written yet.
+    /// The place and the lock of a reading run. The lock is `None` if its file was missing, because no run has written yet.
     Reader(Place, Option<File>),
 }
 
 impl UnreadPages {
-    /// Opens a `.pag` of at most `limit` bytes, under the lock of a writing run. Returns `None` if it cannot be read this way. A run that
-    /// reads the whole file finds out why.
+    /// Opens a `.pag` of at most `limit` bytes, under the lock of a writing run. Returns `None` if it is longer or cannot be opened. Then
+    /// the run reads all files, and reports the reason.
     pub fn open<R: Files<File = File>>(rt: &R, name: &str, limit: u64) -> Option<UnreadPages> {
         if is_special(rt, name) {
             return None;
@@ -63,7 +63,7 @@ impl UnreadPages {
         })
     }
 
-    /// The same file for a reading run, which holds a lock or found no lock file.
+    /// Returns the file with the guard of a reading run, which holds a lock or found no lock file.
     pub fn read_in(self, place: Place, lock: Option<File>) -> UnreadPages {
         UnreadPages {
             guard: Guard::Reader(place, lock),
@@ -71,10 +71,10 @@ impl UnreadPages {
         }
     }
 
-    /// Reads page `number`, for pages of this size. A page that is not completely in the file is zeros.
+    /// Reads page `number`, for pages of this size. Returns zeros for a page that is not completely in the file.
     ///
     /// # Errors
-    /// `ReadFile` if the page cannot be read, and `NoMemory`.
+    /// `ReadFile` if the page cannot be read, and `NoMemory` if allocation fails.
     pub fn page(&self, alloc: Global, number: u32, size: PageSize) -> Result<Vec<u8>, FilesFault>
         ensures long { IfOk result (λ page. length page.items ≡ page_bytes size) }
         ensures past { IfOk result (λ page. (i : ℕ) → i < page_bytes size → self.now.len ≤ number * page_bytes size + i → get_or page.items i 0 ≡ 0) }
@@ -100,7 +100,7 @@ impl UnreadPages {
         guard
     }
 
-    /// Returns whether no run can have written the files meanwhile.
+    /// Returns `true` if no other run can have written the files since this run opened them.
     pub fn is_guarded<R: Files<File = File>>(&self, rt: &R) -> bool {
         match &self.guard {
             Guard::Writer | Guard::Reader(_, Some(_)) => true,

@@ -20,11 +20,11 @@ use std::io::Write;
 /// The outcome of a save without a fault.
 #[derive(Clone, Copy, Debug, PartialEq, Eq)]
 pub enum SaveOutcome {
-    /// The files already were those of the database, and nothing was written.
+    /// The files already were those of the database. Nothing was written.
     Unchanged,
-    /// The save is done in both files.
+    /// The save is complete in both data files.
     Whole,
-    /// The save is durable in the redo file, but a file could not be written after that. The next writing run finishes the save.
+    /// The save is durable in the redo file, but a data file could not be written. The next writing run finishes the save.
     Pending,
 }
 
@@ -36,17 +36,18 @@ pub struct Change<'a> {
     pub after: &'a Image<Global>,
 }
 
-/// Saves a change, releases the lock, and then prints the lines that report it. So a reader of the lines can take the lock, and the change
-/// is durable. A crash at any time leaves the files before the change, or those of the database after it, in a state that can be recovered.
-/// Once this function has returned `Ok`, a crash leaves those of the database. If the files are already those of the database, the lines
-/// are printed and the disk is not used. Allocates the plan, the steps of the save, and the memory of the disk's calls.
+/// Saves a change, releases the lock, and then prints `lines`, which report the change. So a reader of the lines can take the lock, and the
+/// change is durable. After a crash at any time, the files can be recovered to those before the change or to those of the database after
+/// it. Once this function has returned `Ok`, only the second is possible. If the files already are those of the database, the disk is not
+/// used. Allocates the plan, the steps of the save, and the memory of the disk's calls.
+///
+/// Before the commit, the save checks that the disk has the room that the files may need. A failure after the commit is not an error: the
+/// save is `Pending`, and the next writing run finishes it.
 ///
 /// # Errors
-/// `FileTooLong` if a file has, or would have, 2^32 bytes or more, `NoMemory`, and `WriteFile` if the disk has failed; nothing is printed
-/// then. If the disk failed during the commit, the save may be committed or not. `Write` if the lines could not be printed, or only their
-/// first bytes; the change is committed then, and the lock is released. After all faults except `Write` the lock is still held. A failure
-/// after the commit is not a fault: the save is `Pending`, and the next writing run finishes it. The save first tries whether the disk has
-/// the room that the files may need, so a full disk is found before the commit.
+/// - `FileTooLong` if a file has, or would have, 2^32 bytes or more; `NoMemory` if allocation fails; `WriteFile` if the disk failed.
+///   Nothing is printed, and the lock is still held. If the disk failed during the commit, the change may or may not be committed.
+/// - `Write` if none or only the first bytes of the lines could be printed. The change is committed, and the lock is released.
 pub fn save_change<D: Disk, W: Write, L: Drop>(
     alloc: Global,
     disk: &mut D,
@@ -61,7 +62,7 @@ pub fn save_change<D: Disk, W: Write, L: Drop>(
     ensures saved { OnOk result (IsSaved change.entry.after.now (change.entry.before.pages.now.bytes, change.entry.before.directory.now) D.may_leave disk.old disk.new) }
     ensures printed { OnOk result (Appends (W.contents writer.old) (W.contents writer.new) lines.now) }
 
-    // If the save is `Whole`, the commit byte is not 1, and both files are durable.
+    // After `Whole`, the commit byte is not 1, and both data files are durable.
     ensures whole { IfOk result (λ how. how ≡ saved.Whole → IsAtRest (D.seen disk.new) (D.may_leave disk.new)) }
 
     // Lines are printed only if the change is saved.
@@ -69,13 +70,13 @@ pub fn save_change<D: Disk, W: Write, L: Drop>(
     ensures part { IsErrOf result fault.Write → WritesPart (W.contents writer.old) (W.contents writer.new) lines.now }
     ensures unprinted { IfErr result (λ why. why ≢ fault.Write → W.contents writer.new ≡ W.contents writer.old) }
 
-    // The lock is released exactly if the change is committed, and before its lines are printed.
+    // The lock is released after `Ok` and `Write`, and still held after any other fault.
     ensures released { OnOk result (lock.new ≡ None) }
     ensures unprinted_released { IsErrOf result fault.Write → lock.new ≡ None }
     ensures held { IfErr result (λ why. why ≢ fault.Write → lock.new ≡ lock.old) }
 
-    // A crash during the call leaves what it might have left before, or the files before the change, or those of the database after it, and
-    // they can be recovered.
+    // A crash during the call leaves files that a crash before the call could have left, or files that can be recovered to the database
+    // before the change or after it.
     ensures any_moment { LeavesOnly D.moment D.left_since disk.old disk.new
         (λ c. D.may_leave disk.old c ⊎ IsOldOrSaved (change.entry.before.pages.now.bytes, change.entry.before.directory.now) change.entry.after.now c) }
 {
@@ -107,17 +108,17 @@ fn print<W: Write, L>(writer: &mut W, lines: &[u8], _lock: &Option<L>) -> Result
     }
 }
 
-/// The bytes of a redo file whose commit byte is not 1, and a plan that knows the data files next to it.
+/// The bytes of a redo file whose commit byte is not 1, and a plan that knows the data files.
 #[derive(Clone, Copy)]
 pub struct Planned<'a> {
     pub redo: &'a [u8],
     pub plan: &'a [u8],
 }
 
-/// Saves a change by its plan, releases the lock, and then prints the lines that report it, like `save_change`.
+/// Like `save_change`, for a change that is given as a plan.
 ///
 /// # Errors
-/// Those of `save_change`, and `FileTooLong` if the plan has 3,000,000,000 bytes or more.
+/// The errors of `save_change`, and `FileTooLong` if the plan has 3,000,000,000 bytes or more.
 pub fn save_plan<D: Disk, W: Write, L: Drop>(
     alloc: Global,
     disk: &mut D,
@@ -149,7 +150,7 @@ pub fn save_plan<D: Disk, W: Write, L: Drop>(
     Ok(saved)
 }
 
-// Commits a change by its plan, and applies it to both data files. The fault is `NoMemory`, `WriteFile` or `FileTooLong`.
+// Commits a plan, and applies it to both data files. The fault is `NoMemory`, `WriteFile` or `FileTooLong`.
 fn commit_plan<D: Disk>(
     alloc: Global,
     disk: &mut D,

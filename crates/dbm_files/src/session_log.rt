@@ -1,4 +1,4 @@
-//! Saves of a session. Its log stays open from one save to the next.
+//! The saves of a session, whose log stays open from one save to the next.
 ghost use Rattle.std.specs.Prelude.{◌≡◌, ◌≢◌, ◌<◌, [], length, get_or, IfOk, IfSome};
 ghost use Rattle.sdbm_saves.specs.CallLog.{acts};
 ghost use Rattle.sdbm_saves.specs.Redo.{renewed, IsPlan, Knows};
@@ -25,10 +25,10 @@ use std::fs::File;
 use std::mem;
 use std::rt::Files;
 
-// The session keeps the bytes of both files in memory if `.pag` has at most this many. Then the log takes one save after another.
+// If `.pag` has at most this many bytes, the session keeps the bytes of both files in memory, and its log takes one save after another.
 const MOST_KEPT: usize = 16_777_216;
 
-// The size of a session's log in bytes, for some hundred small saves.
+// The size of a session's log in bytes, enough for some hundred small saves.
 const ROOM: usize = 258_048;
 
 // The disk of a session, which holds the files open.
@@ -37,11 +37,11 @@ type SessionDisk<'a, R> = Recorded<RealFiles<'a, R>, Unknown, GhostImage>;
 // The log of a session between two saves.
 #[derive(Drop)]
 enum SessionLog<'a, R: Files<File = File>> {
-    // No log is open, because it could not be opened or a save has failed.
+    // No log is open: a data file was missing, the log could not be opened, or a save has failed.
     Closed,
-    // The log takes the next save.
+    // The log is open and takes the next save.
     Kept(KeptDisk<SessionDisk<'a, R>>),
-    // The log of a large database stays open only for its mark, and is closed before the next save.
+    // The database is large. Its log stays open only for the mark, and is closed before the next save.
     Marked(LoggedDisk<SessionDisk<'a, R>>),
 }
 
@@ -55,13 +55,13 @@ impl<'a, R: Files<File = File>> SessionLog<'a, R> {
 #[derive(Drop)]
 pub struct SessionSaves<'a, R: Files<File = File>> {
     log: SessionLog<'a, R>,
-    // The data files as the session last read or saved them.
+    // The state of the data files when the session last read or saved them.
     states: DataStates,
 }
 
 impl<'a, R: Files<File = File> + AllocGlobal> SessionSaves<'a, R> {
-    /// The state of a session that has read its files and saved nothing. Opens a log with its mark, so that older versions of this program
-    /// do not write the files meanwhile. If that fails, or a data file is missing, the session continues without a mark until its first
+    /// Begins the saves of a session that has read its files. Opens a log with its mark, so that older versions of this program do not
+    /// write the files during the session. If that fails, or a data file is missing, the session continues without a mark until its first
     /// save. Releases BASE.lock.
     pub fn begin(rt: &'a R, place: RunPlace<'_>, held: &'a LockedFiles) -> Self {
         let mut log = SessionLog::Closed;
@@ -91,14 +91,14 @@ fn mark_log<'a, R: Files<File = File> + AllocGlobal>(
     save_opening(rt, held, &read, None, log)
 }
 
-/// Saves a database in a session, under BASE.lock. Releases BASE.lock once the save is committed. The first save opens a log. Each later
-/// save needs one sync while the log stays open. If the log is full, or the files may need new blocks of the disk, the log is closed, and
-/// the files are read again and saved in a new log. If the database is large, each save does this. If the disk has no room for a log that
-/// stays open, the save uses a log for this save alone.
+/// Saves a database in a session: takes BASE.lock, and releases it once the save is committed. The first save opens a log. A later save
+/// needs one sync, as long as this log stays open. If the log is full, or the data files may need new blocks of the disk, the log is
+/// closed; then the files are read again and saved in a new log. If the database is large, each save opens a new log. If the disk has no
+/// room for a log that stays open, the save uses a log for this save alone.
 ///
 /// # Errors
-/// `Changed` if another program has written a data file since the session read or saved it; nothing is saved then. Those of `save_held` and
-/// `read_again`. Earlier saves are never lost. After an error BASE.lock is still held.
+/// `Changed` if another program has written a data file since the session read or saved it; nothing is saved then. The errors of
+/// `save_held` and `read_again`. Earlier saves are never lost. After an error BASE.lock is still held, unless it could not be taken.
 pub fn save_session<'a, R: Files<File = File> + AllocGlobal>(
     rt: &'a R,
     place: RunPlace<'_>,
@@ -127,7 +127,7 @@ pub fn save_session<'a, R: Files<File = File> + AllocGlobal>(
     saved
 }
 
-// Saves under BASE.lock, in the log if it takes another save.
+// Saves under BASE.lock: in the open log if it takes another save, otherwise in a new one.
 fn save_locked<'a, R: Files<File = File> + AllocGlobal>(
     rt: &'a R,
     place: RunPlace<'_>,
@@ -154,8 +154,8 @@ fn save_locked<'a, R: Files<File = File> + AllocGlobal>(
 /// Closes the log of a session, if it is open, under BASE.lock. Afterwards both data files are complete and durable.
 ///
 /// # Errors
-/// `NoMemory`, `WriteFile` if the disk has failed or BASE.lock cannot be taken, and `Moved` if a lock has lost its name: another run may
-/// have opened a log in the same file by then. No save is lost: the next writing run finishes the work.
+/// `NoMemory` if allocation fails, `WriteFile` if the disk fails or BASE.lock cannot be taken, and `Moved` if the name of a lock now refers
+/// to another file, since another run may have opened a log in the same redo file. No save is lost: the next writing run finishes the work.
 pub fn close_session<R: Files<File = File> + AllocGlobal>(
     rt: &R,
     held: &LockedFiles,
@@ -186,7 +186,7 @@ fn close_log<R: Files<File = File>>(
     }
 }
 
-// Saves a database as a command does, in a log for this save alone.
+// Saves a database in a log for this save alone, as a command does.
 fn save_alone<R: Files<File = File> + AllocGlobal>(
     rt: &R,
     place: RunPlace<'_>,
@@ -202,7 +202,8 @@ fn save_alone<R: Files<File = File> + AllocGlobal>(
     save_held(rt, held, &read.seen, old, image)
 }
 
-// Saves in an open log and keeps it. Returns `None` if the log had to be closed instead. If the save cannot be planned, the log stays open.
+// Saves in an open log, which stays open. Returns `None` if the log had to be closed instead. If the save cannot be planned, the log stays
+// open.
 fn save_more<'a, R: Files<File = File>>(
     alloc: Global,
     kept: KeptDisk<SessionDisk<'a, R>>,
@@ -222,7 +223,7 @@ fn save_more<'a, R: Files<File = File>>(
     }
 }
 
-// Saves a plan in an open log and keeps it. Returns `None` if the log had to be closed instead.
+// Saves a plan in an open log, which stays open. Returns `None` if the log had to be closed instead.
 fn save_planned<'a, R: Files<File = File>>(
     alloc: Global,
     kept: KeptDisk<SessionDisk<'a, R>>,
@@ -246,8 +247,8 @@ fn save_planned<'a, R: Files<File = File>>(
     }
 }
 
-// Saves in a new log, which stays open. Without a database the save changes nothing, and only gives the log its mark. If nothing was
-// committed, the redo file is removed.
+// Saves in a new log, which stays open. Without a database to save, only gives the log its mark. If nothing was committed, removes the redo
+// file.
 fn save_opening<'a, R: Files<File = File> + AllocGlobal>(
     rt: &'a R,
     held: &'a LockedFiles,
@@ -288,7 +289,7 @@ fn save_opening<'a, R: Files<File = File> + AllocGlobal>(
     }
 }
 
-// The plan of the first save in a log.
+// Returns the plan of the first save in a log.
 fn plan_opening(
     alloc: Global,
     old: ReadFiles<'_, Global>,
@@ -305,7 +306,7 @@ fn plan_opening(
     Ok(plan_nothing(alloc, old)?)
 }
 
-// The bytes of both files after a plan. `None` if `.pag` is too long to keep them in memory.
+// Returns the bytes of both data files after a plan. Returns `None` if `.pag` is too long to keep in memory.
 fn kept_bytes(
     alloc: Global,
     old: ReadFiles<'_, Global>,
@@ -327,8 +328,8 @@ fn kept_bytes(
     Ok(Some(bytes.renewed(alloc, plan)?))
 }
 
-// Saves files by a plan, in a new log, which stays open. With the bytes of the new files, the log takes the next save. Returns `Closed` if
-// something failed after the commit.
+// Saves a plan in a new log, which stays open. If `new` has the bytes of the data files after the plan, the log takes the next save.
+// Returns `Closed` if a call failed after the commit.
 fn save_found<'a, R: Files<File = File>>(
     alloc: Global,
     files: RealFiles<'a, R>,

@@ -5,7 +5,7 @@ use std::fs;
 use std::os::unix::fs::MetadataExt;
 use std::rt::Files;
 
-// The ID and the length of a file, and the times of the last change of its bytes and of its inode.
+// The ID and the length of a file, and the times of the last changes of its bytes and of its inode.
 #[derive(Clone, Copy, PartialEq, Eq)]
 struct FileState {
     id: FileId,
@@ -15,13 +15,13 @@ struct FileState {
 }
 
 impl FileState {
-    // Returns whether it is a different file, or its bytes were written in between.
+    // Returns `true` if `other` is the state of a different file, or if the file was written after `other`.
     fn is_written_since(self, other: FileState) -> bool {
         self.id != other.id || self.len != other.len || self.written != other.written
     }
 }
 
-/// The current state of the data files, which another program may change.
+/// The state of both data files at one time. Another program may change the files later.
 #[derive(Clone, Copy, PartialEq, Eq)]
 pub(crate) struct DataStates {
     pages: Option<FileState>,
@@ -41,7 +41,7 @@ impl DataStates {
     }
 }
 
-// Returns whether a file was written, made or removed in between.
+// Returns `true` if a file was written, created or removed between two states.
 fn is_written(now: Option<FileState>, before: Option<FileState>) -> bool {
     match (now, before) {
         (Some(now), Some(before)) => now.is_written_since(before),

@@ -1,4 +1,4 @@
-//! Writes the files of a run.
+//! Saves the database of a run in its files.
 ghost use Rattle.std.specs.Prelude.{◌≡◌, ◌≢◌, get_or, IfOk};
 ghost use Rattle.sdbm_saves.specs.Redo.{IsPlan, Knows};
 ghost use Rattle.sdbm_saves.specs.Recording.{part_pages};
@@ -18,26 +18,27 @@ use std::fs::File;
 use std::io::{self, Write};
 use std::rt::Files;
 
-// A save removes a redo file with more bytes than this instead of reusing it.
+// A save does not reuse a redo file with more bytes than this, but removes it.
 const MOST_REDO: u64 = 262_144;
 
 // The redo file before a save.
 #[derive(Drop)]
 pub(crate) struct OldRedo {
-    // Its bytes, or no bytes if it is stale.
+    // The bytes of the redo file, or no bytes if it is stale.
     pub(crate) bytes: Vec<u8>,
-    // It is long, or other users could not use it. The save removes it first.
+    // The redo file is too long, or other users could not use it. The save removes it first.
     pub(crate) is_stale: bool,
 }
 
 /// Saves the database of a run, releases its locks, and then prints its lines. The files are written in place, with a log: after a crash at
-/// any time the next run gets the database before the save or after it. If nothing changed, no file is written, made or touched. If the
-/// save failed before its commit, its redo file is removed.
+/// any time, the next run gets the database before the save or after it. If the database is unchanged, no file is written or created. If
+/// the save fails before its commit, its redo file is removed.
 ///
 /// # Errors
-/// Those of `save_change`. `BadRedo` if the commit byte of the redo file is 1, `Unsafe` if another user could have planted the redo file,
-/// and `ReadFile` if it cannot be read. Before everything else, `Moved` if a lock or a data file has lost its name to another file, and
-/// `Changed` if another program has written a data file since it was read.
+/// - `Moved` if the name of a lock or of a data file now refers to another file.
+/// - `Changed` if another program has written a data file since it was read.
+/// - `Unsafe` if another user could have planted the redo file, `ReadFile` if it cannot be read, and `BadRedo` if its commit byte is 1.
+/// - The errors of `save_change`.
 pub fn save_files<R: Files<File = File> + AllocGlobal, W: Write>(
     rt: &R,
     held: LockedFiles,
@@ -66,10 +67,10 @@ pub fn save_files<R: Files<File = File> + AllocGlobal, W: Write>(
     saved
 }
 
-/// Like `save_files`, but keeps the locks and prints nothing. The files must be those that were seen at the last read.
+/// Like `save_files`, but keeps the locks and prints nothing. `seen` must have the data files of the last read.
 ///
 /// # Errors
-/// Those of `save_files`, except `Changed` and `Write`.
+/// The errors of `save_files`, except `Changed` and `Write`.
 pub fn save_held<R: Files<File = File> + AllocGlobal>(
     rt: &R,
     held: &LockedFiles,
@@ -110,7 +111,7 @@ pub struct PlannedPart<'a> {
 /// Like `save_files`, if only one page of the database was read. The plan must know the files.
 ///
 /// # Errors
-/// Those of `save_plan`, and `BadRedo`, `Unsafe`, `ReadFile`, `Moved` and `Changed` as in `save_files`.
+/// The errors of `save_plan`, and `BadRedo`, `Unsafe`, `ReadFile`, `Moved` and `Changed` as in `save_files`.
 pub fn save_part<R: Files<File = File> + AllocGlobal, W: Write>(
     rt: &R,
     held: LockedFiles,
@@ -176,7 +177,7 @@ fn change_of<'a>(
     }
 }
 
-// The files, as read.
+// The files as read, for `Recorded`.
 fn found_of<'a>(old: ReadFiles<'a, Global>, redo: &'a OldRedo) -> FoundRead<'a>
     ensures files { result.files ≡ old.entry }
     ensures redo { result.redo.now ≡ redo.now.bytes.items }
@@ -187,7 +188,7 @@ fn found_of<'a>(old: ReadFiles<'a, Global>, redo: &'a OldRedo) -> FoundRead<'a>
     }
 }
 
-// The redo file before a save. The fault is `BadRedo` if its commit byte is 1.
+// Reads the redo file before a save. Fails with `BadRedo` if its commit byte is 1.
 pub(crate) fn find_redo<R: Files<File = File> + AllocGlobal>(
     rt: &R,
     names: &Names,
@@ -209,7 +210,7 @@ pub(crate) fn find_redo<R: Files<File = File> + AllocGlobal>(
     Ok(OldRedo { bytes, is_stale })
 }
 
-// Reads the first bytes of the redo file, at most one more than may be reused. A missing file counts as empty.
+// Reads at most `MOST_REDO` + 1 bytes of the redo file, enough to see whether it is too long. A missing file counts as empty.
 fn read_redo<R: Files<File = File> + AllocGlobal>(
     rt: &R,
     names: &Names,

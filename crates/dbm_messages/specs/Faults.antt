@@ -1,4 +1,4 @@
--- The faults of the functions that a run calls, as faults of the run.
+-- How the fault of a step becomes the fault of a run.
 use Rattle.dbm_places.specs.declared.fault.FilesFault.{FilesFault}
 use Rattle.dbm_places.specs.declared.fault.FilesFault.TheVariants as files
 use Rattle.dbm_script.specs.declared.tasks.TasksFault.{TasksFault}
@@ -14,29 +14,29 @@ use Rattle.dbm_reports.specs.declared.fault.ReportFault.TheVariants as reports
 use Rattle.dbm_messages.specs.declared.fault.ServeFault.{ServeFault}
 use Rattle.dbm_messages.specs.declared.fault.ServeFault.TheVariants.{ReadFile, FileTooLong, WriteFile, BadRedo, Unsafe, Locked, Moved, Changed, Report, Dump, Submit, BadLine, Pool, Saved, NoMemory}
 
--- the fault of a report
+-- a fault of a report
 abbrev pub report_fault : ReportFault → ServeFault
 report_fault reports.NoMemory = NoMemory
 report_fault fault = Report fault
 
--- the fault of a dump
+-- a fault of `dump` or `load`
 abbrev pub copy_fault : CopyFault → ServeFault
 copy_fault (dumps.Report fault) = report_fault fault
 copy_fault (dumps.Dump fault) = Dump fault
 
--- the fault of the lines of a batch
+-- a fault of the lines of a batch
 abbrev pub tasks_fault : TasksFault → ServeFault
 tasks_fault (tasks.BadLine number) = BadLine number
 tasks_fault tasks.NoMemory = NoMemory
 
--- the fault of a program image
+-- a fault of submitting a program image
 abbrev pub submit_fault : RegFault → ServeFault
 submit_fault reg.NoMemory = NoMemory
 submit_fault (reg.Decode fault) = Submit (reg.Decode fault)
 submit_fault (reg.Verify fault) = Submit (reg.Verify fault)
 submit_fault reg.Full = Submit reg.Full
 
--- the fault of the workers
+-- a fault of the workers
 abbrev pub pool_fault : PoolFault → ServeFault
 pool_fault jobs.NoWorkers = Pool jobs.NoWorkers
 pool_fault (jobs.NoProgram task) = Pool (jobs.NoProgram task)
@@ -45,7 +45,7 @@ pool_fault (jobs.NoThread worker) = Pool (jobs.NoThread worker)
 pool_fault (jobs.Refused task refusal) = Pool (jobs.Refused task refusal)
 pool_fault jobs.NoMemory = NoMemory
 
--- the fault of the files
+-- a fault of the files
 abbrev pub files_fault : FilesFault → ServeFault
 files_fault files.ReadFile = ReadFile
 files_fault files.FileTooLong = FileTooLong

@@ -1,4 +1,4 @@
-//! The sentence for each fault: what it is about, and what to do.
+//! The sentence for each fault: the cause, and what to do.
 
 use crate::dumps::dump_sentence;
 use crate::fault::ServeFault;
@@ -19,10 +19,10 @@ use dbm_reports::ReportFault;
 use prog_registry::RegFault;
 use std::alloc::Global;
 
-/// What to look for, before a fault is reported, to find the file that it is about.
+/// The file to look for before a fault is reported, so that the message can name it.
 #[derive(Clone, Copy)]
 pub enum Look {
-    /// Nothing.
+    /// No file.
     Nothing,
     /// The file that cannot be read.
     Unread,
@@ -36,7 +36,7 @@ pub enum Look {
     Object,
 }
 
-/// What to look for before a fault is reported.
+/// Returns the file to look for before this fault is reported.
 pub fn look_for(fault: ServeFault) -> Look {
     match fault {
         ServeFault::ReadFile => Look::Unread,
@@ -49,8 +49,8 @@ pub fn look_for(fault: ServeFault) -> Look {
     }
 }
 
-/// The sentence after a fault: what it is about, and what to do. If the second look by `look_for` has found something, report that
-/// instead (`finding_sentence`). Returns `None` if the words do not say enough.
+/// Returns the sentence after a fault: the cause, and what to do. If the file of `look_for` was found, print `finding_sentence` instead.
+/// Returns `None` if the arguments do not show the cause.
 pub fn sentence_of<'a>(
     alloc: Global,
     words: &Words<'a>,
@@ -72,7 +72,7 @@ pub fn sentence_of<'a>(
     }
 }
 
-/// Out of memory.
+/// The sentence if memory runs out.
 pub fn memory_sentence() -> Sentence<'static> {
     plain(
         "Out of memory: dbm holds both files of a database and everything that it prints. ulimit -v shows a limit.",
@@ -83,7 +83,7 @@ fn or_memory<'a>(sentence: Option<Sentence<'a>>) -> Sentence<'a> {
     sentence.unwrap_or(memory_sentence())
 }
 
-// For faults of the files, the clock, the streams and the lines of a batch.
+// The sentence for a fault of the files, the clock, the streams or the lines of a batch.
 fn rest_sentence<'a>(words: &Words<'a>, fault: ServeFault) -> Sentence<'a> {
     match fault {
         ServeFault::ReadFile => unread_sentence(words.base),
@@ -118,7 +118,7 @@ fn rest_sentence<'a>(words: &Words<'a>, fault: ServeFault) -> Sentence<'a> {
     }
 }
 
-// For faults of the words, the contents of the files and standard input.
+// The sentence for a fault of the arguments, the contents of the files or standard input.
 fn report_sentence<'a>(
     alloc: Global,
     words: &Words<'a>,

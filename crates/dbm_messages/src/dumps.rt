@@ -1,10 +1,10 @@
-//! Sentences about a dump that was not written or not loaded.
+//! Sentences about a dump that could not be written or loaded.
 
 use crate::sentence::{Part, Sentence, plain, with_one, with_three, with_two};
 use dbm_args::{Named, Words};
 use dbm_dump::{DumpFault, KeyHead};
 
-/// For a dump. Returns `None` if memory ran out.
+/// The sentence for a fault of a dump. Returns `None` for `Read` and `NoMemory`.
 pub fn dump_sentence<'a>(words: &Words<'a>, fault: DumpFault) -> Option<Sentence<'a>> {
     match fault {
         DumpFault::BadFormat => Some(format_sentence(words.first)),
@@ -24,7 +24,7 @@ pub fn dump_sentence<'a>(words: &Words<'a>, fault: DumpFault) -> Option<Sentence
     }
 }
 
-// For an unknown format.
+// The sentence for an unknown format.
 fn format_sentence<'a>(format: Option<Named<'a>>) -> Sentence<'a> {
     let word = match format {
         Some(format) => format.word,
@@ -36,7 +36,7 @@ fn format_sentence<'a>(format: Option<Named<'a>>) -> Sentence<'a> {
     )
 }
 
-// For a line whose pair does not fit.
+// The sentence for a line whose pair does not fit.
 fn crowded_sentence(wide: bool, line: u64, key: KeyHead) -> Sentence<'static> {
     let (line, key) = (Part::Number(line), Part::Key(key));
     if wide {
@@ -53,7 +53,7 @@ fn crowded_sentence(wide: bool, line: u64, key: KeyHead) -> Sentence<'static> {
     )
 }
 
-// For a line with too many bytes.
+// The sentence for a line that is too long, or has a pair that is too large.
 fn large_sentence(wide: bool, line: u64, key: Option<KeyHead>) -> Sentence<'static> {
     let most = if wide { 8008 } else { 1008 };
     let (line, most) = (Part::Number(line), Part::Number(most));

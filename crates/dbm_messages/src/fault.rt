@@ -1,4 +1,4 @@
-//! Why a request failed.
+//! The reasons why a request failed.
 ghost use Rattle.std.specs.Prelude.{◌≡◌};
 ghost use Rattle.dbm_messages.specs.declared.fault.ServeFault.TheVariants.{NoMemory};
 
@@ -13,10 +13,10 @@ use std::fmt;
 use store_shared::CloseFault;
 use worker_pool::PoolFault;
 
-/// Why a request failed. It prints as the text after `dbm: ` on standard error.
+/// The reason why a request failed. It prints as the text after `dbm: ` on standard error.
 #[derive(Clone, Copy, Debug)]
 pub enum ServeFault {
-    /// A word of the command line is not UTF-8.
+    /// An argument of the command line is not UTF-8.
     NotText,
     /// A file could not be read.
     ReadFile,
@@ -24,17 +24,17 @@ pub enum ServeFault {
     FileTooLong,
     /// A file could not be written.
     WriteFile,
-    /// The commit byte of the redo file is 1, but the file does not fit these files or was not written by a save.
+    /// The commit byte of the redo file is 1, but the redo file belongs to other data files or was not written by a save.
     BadRedo,
     /// Another user could have planted the redo file or the lock.
     Unsafe,
-    /// The files are to be opened with wide pages, but look like those of small pages.
+    /// The request says that pages are wide, but the files look as if they were small.
     OtherSize,
     /// The system does not report the time of day.
     ReadClock,
     /// The base is empty, `.` or `..`, or ends in `/`, so it names no file.
     BadBase,
-    /// Neither file of the database exists, although the words require it.
+    /// Neither file of the database exists, but the request needs an existing database.
     Absent,
     /// A file of the copy exists already.
     Exists,
@@ -46,9 +46,9 @@ pub enum ServeFault {
     Moved(MovedFile),
     /// Another program has written a data file since this run read or saved it. Nothing was saved.
     Changed,
-    /// The words, the files or standard input are invalid. The fault within is never `NoMemory`.
+    /// The arguments, the files or standard input are invalid. The fault within is never `NoMemory`.
     Report(ReportFault),
-    /// A dump was not written or not loaded. The fault within is never `Read` or `NoMemory`.
+    /// A dump could not be written or loaded. The fault within is never `Read` or `NoMemory`.
     Dump(DumpFault),
     /// The program of a batch is refused. The fault within is never `NoMemory`.
     Submit(RegFault),
@@ -56,13 +56,13 @@ pub enum ServeFault {
     BadLine(usize),
     /// The input of a session ends within the line with this number, counted from 1, which was not run. The changes before it are saved.
     CutLine(u64),
-    /// Not all tasks of a batch were done. The fault within is never `NoMemory`, but a single task may have failed for it.
+    /// Not all tasks of a batch were done. The fault within is never `NoMemory`, but may say that a task was refused for lack of memory.
     Pool(PoolFault),
     /// The calls of a batch's workers differ from those of its store.
     Close(CloseFault),
     /// Standard output could not be written, and nothing was changed.
     Write,
-    /// Standard output could not be written after a change, which is saved. It prints as `Write` does.
+    /// Standard output could not be written, after the change was saved. It prints as `Write`.
     Saved,
     /// Out of memory.
     NoMemory,

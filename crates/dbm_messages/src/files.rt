@@ -1,4 +1,4 @@
-//! Sentences about the files of a database: those that the system refuses, and those that are not a database.
+//! Sentences about the files of a database: files that the system refuses, and files that are not a database.
 
 use crate::finding::{Finding, Matter};
 use crate::sentence::{Part, Sentence, plain, with_four, with_one, with_three, with_two};
@@ -6,12 +6,12 @@ use dbm_args::Words;
 use dbm_places::{MovedFile, folder_of};
 use sdbm_files::OpenFault;
 
-/// The base as sentences show it.
+/// The base, for a sentence.
 pub fn base_part<'a>(base: Option<&'a str>) -> Part<'a> {
     Part::Name(base.unwrap_or("BASE"))
 }
 
-/// For a file or a folder, and its problem.
+/// The sentence for a file or a folder with a problem.
 pub fn finding_sentence<'a>(found: Finding<'a>) -> Sentence<'a> {
     let name = Part::Name(found.name);
     match found.matter {
@@ -48,7 +48,7 @@ pub fn finding_sentence<'a>(found: Finding<'a>) -> Sentence<'a> {
     }
 }
 
-/// For files that could not be read, if the second look finds no refused file.
+/// The sentence for files that could not be read, if the second look finds no refused file.
 pub fn unread_sentence<'a>(base: Option<&'a str>) -> Sentence<'a> {
     let Some(base) = base else {
         return plain("The file could not be read, but can be read now. Try again.");
@@ -61,7 +61,7 @@ pub fn unread_sentence<'a>(base: Option<&'a str>) -> Sentence<'a> {
     )
 }
 
-/// For files that could not be written, if the second look finds no refused file.
+/// The sentence for files that could not be written, if the second look finds no refused file.
 pub fn unwritten_sentence<'a>(base: &'a str) -> Sentence<'a> {
     with_two(
         "{}.lock, .writer, .redo, .dir or .pag could not be created or written. Check that you may write to the folder {}, that its disk has room, and that ulimit -f allows files of this length.",
@@ -70,7 +70,7 @@ pub fn unwritten_sentence<'a>(base: &'a str) -> Sentence<'a> {
     )
 }
 
-/// For a database that would be too long.
+/// The sentence for a database that would be too long.
 pub fn too_long_sentence<'a>(base: &'a str, wide: bool) -> Sentence<'a> {
     let text = if wide {
         "{}.pag would have more than 1 GiB after the command. Nothing was changed."
@@ -80,7 +80,7 @@ pub fn too_long_sentence<'a>(base: &'a str, wide: bool) -> Sentence<'a> {
     with_one(text, Part::Name(base))
 }
 
-/// For a redo file that is not of these files, or that was not written by a save.
+/// The sentence for a redo file that belongs to other data files, or was not written by a save.
 pub fn redo_sentence<'a>(base: Option<&'a str>) -> Sentence<'a> {
     with_one(
         "{}.redo has an unfinished save that does not match these files: an older copy was restored, another program wrote them, or no save has left it. Restore the files that it belongs to, or remove it to use the files as they are.",
@@ -88,7 +88,7 @@ pub fn redo_sentence<'a>(base: Option<&'a str>) -> Sentence<'a> {
     )
 }
 
-/// For an unsafe file next to a database, if the second look finds no such file.
+/// The sentence for an unsafe file next to a database, if the second look finds no unsafe file.
 pub fn untaken_sentence<'a>(base: Option<&'a str>) -> Sentence<'a> {
     let base = base_part(base);
     with_three(
@@ -99,13 +99,13 @@ pub fn untaken_sentence<'a>(base: Option<&'a str>) -> Sentence<'a> {
     )
 }
 
-// The permission bits as the digits of their octal number.
+// The permission bits, as an octal number of three digits.
 fn octal(mode: u32) -> Part<'static> {
     let digits = mode / 64 % 8 * 100 + mode / 8 % 8 * 10 + mode % 8;
     Part::Number(u64::from(digits))
 }
 
-/// For a base that names no file.
+/// The sentence for a base that is empty or names a folder.
 pub fn base_sentence<'a>(base: Option<&'a str>) -> Sentence<'a> {
     match base {
         Some("") => plain("The name of the database is empty. Give a name without .dir or .pag."),
@@ -116,7 +116,7 @@ pub fn base_sentence<'a>(base: Option<&'a str>) -> Sentence<'a> {
     }
 }
 
-/// For required files that are missing.
+/// The sentence for a missing database that must exist.
 pub fn absent_sentence<'a>(base: Option<&'a str>) -> Sentence<'a> {
     let base = base_part(base);
     with_two(
@@ -126,7 +126,7 @@ pub fn absent_sentence<'a>(base: Option<&'a str>) -> Sentence<'a> {
     )
 }
 
-/// For a copy whose files exist already.
+/// The sentence for a copy whose files exist already.
 pub fn exists_sentence<'a>(base: Option<&'a str>) -> Sentence<'a> {
     let base = base_part(base);
     with_two(
@@ -136,7 +136,7 @@ pub fn exists_sentence<'a>(base: Option<&'a str>) -> Sentence<'a> {
     )
 }
 
-/// For a lock held by another run.
+/// The sentence for a lock that another run held for the whole wait.
 pub fn lock_sentence<'a>(base: Option<&'a str>, timeout: Option<&str>) -> Sentence<'a> {
     let base = base_part(base);
     match timeout {
@@ -151,7 +151,7 @@ pub fn lock_sentence<'a>(base: Option<&'a str>, timeout: Option<&str>) -> Senten
     }
 }
 
-/// For files that look like those of small pages.
+/// The sentence for files that look as if their pages were small.
 pub fn small_sentence(base: Option<&str>) -> Sentence<'_> {
     let base = base_part(base);
     with_two(
@@ -161,7 +161,7 @@ pub fn small_sentence(base: Option<&str>) -> Sentence<'_> {
     )
 }
 
-/// For a file that lost its name to another file during the run.
+/// The sentence for a file whose name now refers to another file or to none.
 pub fn moved_sentence<'a>(base: Option<&'a str>, file: MovedFile) -> Sentence<'a> {
     let base = base_part(base);
     match file {
@@ -184,7 +184,7 @@ pub fn moved_sentence<'a>(base: Option<&'a str>, file: MovedFile) -> Sentence<'a
     }
 }
 
-/// For files that another program has written.
+/// The sentence for data files that another program has written.
 pub fn changed_sentence(base: Option<&str>) -> Sentence<'_> {
     let base = base_part(base);
     with_two(
@@ -194,7 +194,7 @@ pub fn changed_sentence(base: Option<&str>) -> Sentence<'_> {
     )
 }
 
-/// For files that are not a database. Returns `None` if memory ran out.
+/// The sentence for files that are not a database. Returns `None` if memory ran out.
 pub fn open_sentence<'a>(words: &Words<'a>, fault: OpenFault) -> Option<Sentence<'a>> {
     let base = base_part(words.base);
     match fault {
@@ -229,7 +229,7 @@ fn page_bytes(wide: bool) -> &'static str {
     if wide { "8,192" } else { "1,024" }
 }
 
-// The other page width.
+// The option that opens the files with the other page size.
 fn other_width(wide: bool) -> &'static str {
     if wide {
         "without --wide"
@@ -238,7 +238,7 @@ fn other_width(wide: bool) -> &'static str {
     }
 }
 
-// The other way to hash keys.
+// The option for the other way to hash keys.
 fn other_hash(unsigned: bool) -> &'static str {
     if unsigned {
         "without --unsigned"

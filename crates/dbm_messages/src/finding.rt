@@ -3,7 +3,7 @@
 use std::fmt;
 use std::io::{self, ErrorKind};
 
-/// Why the system refuses a file. It prints as a clause of a sentence.
+/// The reason why the system refuses a file. It prints as a clause of a sentence.
 #[derive(Clone, Copy)]
 pub struct Reason(pub io::Error);
 
@@ -16,7 +16,7 @@ impl fmt::Display for Reason {
     }
 }
 
-// The plain words for a reason, if there are any.
+// Returns a reason in plain words. Returns `None` for any other reason, which prints in the system's words.
 fn reason_text(kind: ErrorKind) -> Option<&'static str> {
     match kind {
         ErrorKind::NotFound => Some("it does not exist"),
@@ -51,7 +51,7 @@ pub enum Matter {
     TooLong(u64),
     /// It is an object file, the output of a compiler.
     Object,
-    /// It is next to a database, and is a link, a folder or the like, or has several names.
+    /// It is next to a database, and is a link, a folder or another special file, or has several names.
     NoOwnFile,
     /// It is next to a database, and another user could have planted it.
     Unsafe { owner: u32, mode: u32 },

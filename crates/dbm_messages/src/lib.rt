@@ -1,5 +1,5 @@
-//! Why a run of the program fails, and the sentences on standard error: the one after a fault, and the notes next to an answer. They are
-//! values, which the program prints.
+//! The reasons why a run of the program fails, and the sentences on standard error: one after a fault, and notes about an answer. They are
+//! values, which other crates print.
 #![tactic(auto)]
 
 mod advice;
@@ -18,7 +18,7 @@ pub use fault::ServeFault;
 pub use files::finding_sentence;
 pub use finding::{Finding, Matter, Reason};
 pub use notes::{
-    absent_note, bad_lines_note, half_line_note, holder_note, line_end_note, object_note,
-    pending_note, refusal_note, unsaved_note, wait_note,
+    absent_note, bad_lines_note, half_line_note, hex_word_note, holder_note, line_end_note,
+    object_note, pending_note, refusal_note, unsaved_note, wait_note,
 };
 pub use sentence::{Part, Sentence};

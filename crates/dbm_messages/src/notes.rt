@@ -1,8 +1,8 @@
-//! Notes for an answer that may not be what the user meant.
+//! Notes that explain an answer, for example one that the user may not expect.
 
 use crate::sentence::{Part, Sentence, plain, with_one, with_three, with_two};
 
-/// Neither file of the database exists.
+/// The note that neither file of the database exists.
 pub fn absent_note<'a>(base: &'a str) -> Sentence<'a> {
     let base = Part::Name(base);
     with_two(
@@ -12,7 +12,7 @@ pub fn absent_note<'a>(base: &'a str) -> Sentence<'a> {
     )
 }
 
-/// A save is durable in the redo file of a base, but not yet done in its files.
+/// The note that a save is durable in the redo file, but not yet complete in the data files.
 pub fn pending_note<'a>(base: &'a str) -> Sentence<'a> {
     let base = Part::Name(base);
     with_three(
@@ -23,7 +23,7 @@ pub fn pending_note<'a>(base: &'a str) -> Sentence<'a> {
     )
 }
 
-/// The changes of `lines` lines of a session are not saved.
+/// The note that the changes of `lines` lines of a session are not saved.
 pub fn unsaved_note(lines: u64) -> Sentence<'static> {
     if lines == 1 {
         return plain("not saved: the change of 1 line");
@@ -31,7 +31,7 @@ pub fn unsaved_note(lines: u64) -> Sentence<'static> {
     with_one("not saved: the changes of {} lines", Part::Number(lines))
 }
 
-/// A refused program image is an object file.
+/// The note that a refused program image is an object file.
 pub fn object_note<'a>(file: &'a str) -> Sentence<'a> {
     with_one(
         "{} is an ELF object and not an image. Use its section .text, or make the image with tools/bpfcc",
@@ -39,7 +39,7 @@ pub fn object_note<'a>(file: &'a str) -> Sentence<'a> {
     )
 }
 
-/// Why a program is refused, and how to see more.
+/// The note with the reason why a program is refused, and the command that explains it.
 pub fn refusal_note<'a>(refusal: &'a str, file: &'a str, image: bool) -> Sentence<'a> {
     let option = if image { " --image" } else { "" };
     with_three(
@@ -50,7 +50,8 @@ pub fn refusal_note<'a>(refusal: &'a str, file: &'a str, image: bool) -> Sentenc
     )
 }
 
-/// The run waits for the lock of a base: the process that holds it and its name, if the system reports them.
+/// The note that the run waits for the lock of a base. It has the number and the name of the process that holds the lock, if the system
+/// reports them.
 pub fn wait_note<'a>(base: &'a str, holder: Option<u64>, name: Option<&'a String>) -> Sentence<'a> {
     let base = Part::Name(base);
     let Some(process) = holder else {
@@ -71,7 +72,7 @@ pub fn wait_note<'a>(base: &'a str, holder: Option<u64>, name: Option<&'a String
     )
 }
 
-/// A process with this name held the lock of a base for the whole wait.
+/// The note that a process held the lock of a base for the whole wait.
 pub fn holder_note<'a>(base: &'a str, process: u64, name: Option<&'a String>) -> Sentence<'a> {
     let name = match name {
         Some(name) => Part::Name(name.as_str()),
@@ -85,7 +86,7 @@ pub fn holder_note<'a>(base: &'a str, process: u64, name: Option<&'a String>) ->
     )
 }
 
-/// The number of the first invalid line of a script, counted from 1, and the number of further ones.
+/// The note with the number of the first bad line of a script, counted from 1, and the number of further bad lines.
 pub fn bad_lines_note(first: u64, more: u64) -> Sentence<'static> {
     let first = Part::Number(first);
     if more == 0 {
@@ -98,7 +99,7 @@ pub fn bad_lines_note(first: u64, more: u64) -> Sentence<'static> {
     )
 }
 
-/// The number of the first line of a script or a batch that ends in CR, counted from 1.
+/// The note that a line of a script or a batch ends in CR. `line` is the number of the first one, counted from 1.
 pub fn line_end_note(line: u64) -> Sentence<'static> {
     with_one(
         "line {} ends in CR; lines must end in LF alone. With --text, write a CR within a value as \\x0d or hex:0d",
@@ -106,10 +107,18 @@ pub fn line_end_note(line: u64) -> Sentence<'static> {
     )
 }
 
-/// The number of the last line of a script or a batch, counted from 1, which has no LF after it and was run.
+/// The note that the last line of a script or a batch has no LF, and was run. `line` is its number, counted from 1.
 pub fn half_line_note(line: u64) -> Sentence<'static> {
     with_one(
         "line {}, the last one, has no LF, and was run as it is. If its sender was interrupted, it may be incomplete",
         Part::Number(line),
+    )
+}
+
+/// The note that an argument was read as hex, but may be meant as text.
+pub fn hex_word_note<'a>(word: &'a str) -> Sentence<'a> {
+    with_one(
+        "{} was read as hex. If it is text, use --text, or set DBM_TEXT=1",
+        Part::Name(word),
     )
 }

@@ -1,4 +1,4 @@
-//! Sentences about programs: invalid texts and images, and workers that did not do their tasks.
+//! Sentences about programs: invalid texts and images, and tasks that were not done.
 
 use crate::sentence::{Part, Sentence, plain, with_one, with_three, with_two};
 use bpf_asm::{AsmFault, FaultKind};
@@ -9,12 +9,12 @@ use stock_names::NAMES;
 use store_cmd::Refusal;
 use worker_pool::PoolFault;
 
-/// A program's file as sentences show it.
+/// A program's file, for a sentence.
 pub fn file_part<'a>(file: Option<&'a str>) -> Part<'a> {
     Part::Name(file.unwrap_or("FILE"))
 }
 
-/// For a text that is not UTF-8.
+/// The sentence for a text that is not UTF-8.
 pub fn no_text_sentence<'a>(words: &Words<'a>) -> Sentence<'a> {
     let file = file_part(words.file);
     match words.subject {
@@ -29,7 +29,7 @@ pub fn no_text_sentence<'a>(words: &Words<'a>) -> Sentence<'a> {
     }
 }
 
-/// For an unknown stock program. It lists the names of all.
+/// The sentence for an unknown stock program. It lists all names.
 pub fn stock_sentence<'a>(word: Option<&'a str>) -> Sentence<'a> {
     with_two(
         "There is no stock program {}. The stock programs are {}. Write ./ before the word to name a file.",
@@ -38,7 +38,7 @@ pub fn stock_sentence<'a>(word: Option<&'a str>) -> Sentence<'a> {
     )
 }
 
-/// For a text that is not a program. Returns `None` if memory ran out.
+/// The sentence for a text that is not a program. Returns `None` if memory ran out.
 pub fn assemble_sentence<'a>(words: &Words<'a>, fault: AsmFault) -> Option<Sentence<'a>> {
     let wrong = line_fault(fault.kind)?;
     Some(with_three(
@@ -49,7 +49,7 @@ pub fn assemble_sentence<'a>(words: &Words<'a>, fault: AsmFault) -> Option<Sente
     ))
 }
 
-// The error of a line.
+// Returns the clause about an invalid line. Returns `None` if memory ran out.
 fn line_fault(kind: FaultKind) -> Option<&'static str> {
     match kind {
         FaultKind::Mnemonic => Some("its first word is not an instruction"),
@@ -66,7 +66,7 @@ fn line_fault(kind: FaultKind) -> Option<&'static str> {
     }
 }
 
-/// For an image that is not a program. Returns `None` if memory ran out.
+/// The sentence for an image that is not a program. Returns `None` if memory ran out.
 pub fn decode_sentence<'a>(words: &Words<'a>, fault: DecodeFault) -> Option<Sentence<'a>> {
     let file = file_part(words.file);
     match fault {
@@ -101,7 +101,7 @@ pub fn decode_sentence<'a>(words: &Words<'a>, fault: DecodeFault) -> Option<Sent
     }
 }
 
-// What to do if the program image is a text.
+// The advice for a program image that may be a text.
 fn if_text(subject: Subject) -> &'static str {
     match subject {
         Subject::Disasm => "If it is a text, dbm asm makes its image",
@@ -109,7 +109,7 @@ fn if_text(subject: Subject) -> &'static str {
     }
 }
 
-/// For a refused program of a batch. Returns `None` if memory ran out.
+/// The sentence for the refused program of a batch. Returns `None` if memory ran out or the registry is full.
 pub fn submit_sentence<'a>(words: &Words<'a>, fault: RegFault) -> Option<Sentence<'a>> {
     match fault {
         RegFault::Decode(fault) => decode_sentence(words, fault),
@@ -122,7 +122,7 @@ pub fn submit_sentence<'a>(words: &Words<'a>, fault: RegFault) -> Option<Sentenc
     }
 }
 
-/// For the workers of a batch. Returns `None` if memory ran out.
+/// The sentence for a batch whose tasks were not all done. Returns `None` if memory ran out.
 pub fn pool_sentence(fault: PoolFault) -> Option<Sentence<'static>> {
     match fault {
         PoolFault::NoWorkers => Some(plain("WORKERS is 0: a batch has from 1 to 4,096.")),
@@ -136,7 +136,7 @@ pub fn pool_sentence(fault: PoolFault) -> Option<Sentence<'static>> {
 const UNDONE: &str =
     "The workers could not do all tasks, which should never happen. Nothing was changed.";
 
-// For a refused task. Returns `None` if memory ran out.
+// The sentence for a refused task. Returns `None` if memory ran out.
 fn refused_sentence(task: usize, refusal: Refusal) -> Option<Sentence<'static>> {
     let task = Part::Number(task as u64);
     match refusal {

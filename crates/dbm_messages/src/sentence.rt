@@ -1,4 +1,4 @@
-//! A sentence as a value: a pattern, and the parts for its places.
+//! A sentence as a value: a pattern with placeholders, and the parts that replace them.
 
 use crate::finding::Reason;
 use bpf_verify::VerifyFault;
@@ -6,24 +6,24 @@ use dbm_args::is_plain;
 use dbm_dump::KeyHead;
 use std::fmt;
 
-/// The text for a place of a sentence.
+/// The part of a sentence that replaces a placeholder.
 #[derive(Clone, Copy)]
 pub enum Part<'a> {
-    /// Nothing: the pattern has fewer places.
+    /// No part: the pattern has fewer placeholders.
     Nothing,
     /// A name, unchanged if it is plain. It is quoted and escaped if it is empty or has characters that do not print as themselves
     /// (`is_plain`).
     Name(&'a str),
-    /// A word in quotes.
+    /// An argument, which is quoted and escaped.
     Quoted(&'a str),
     /// A text, unchanged.
     Text(&'a str),
     Number(u64),
     /// The first bytes of a key.
     Key(KeyHead),
-    /// Why the system refuses a file.
+    /// The reason why the system refuses a file.
     Reason(Reason),
-    /// Why a program is not accepted.
+    /// The reason why a program is not accepted.
     Verdict(VerifyFault),
 }
 
@@ -42,7 +42,7 @@ impl<'a> fmt::Display for Part<'a> {
     }
 }
 
-// A name as a sentence shows it.
+// Prints a `Name`.
 fn show_name<W: fmt::Write>(name: &str, f: &mut fmt::Formatter<W>) -> fmt::Result {
     if name.is_empty() || !name.chars().all(is_plain) {
         return fmt::Debug::fmt(name, f);
@@ -50,7 +50,7 @@ fn show_name<W: fmt::Write>(name: &str, f: &mut fmt::Formatter<W>) -> fmt::Resul
     f.write_str(name)
 }
 
-/// A sentence. It prints as its pattern, in which the parts replace the places `{}` in turn.
+/// A sentence. It prints as its pattern, in which the parts replace the placeholders `{}` in order.
 #[derive(Clone, Copy)]
 pub struct Sentence<'a> {
     pub pattern: &'static str,
@@ -72,7 +72,7 @@ impl<'a> fmt::Display for Sentence<'a> {
     }
 }
 
-/// A sentence without places.
+/// A sentence without placeholders.
 pub fn plain(pattern: &'static str) -> Sentence<'static> {
     Sentence {
         pattern,
@@ -80,17 +80,17 @@ pub fn plain(pattern: &'static str) -> Sentence<'static> {
     }
 }
 
-/// A sentence with one place.
+/// A sentence with one placeholder.
 pub fn with_one<'a>(pattern: &'static str, part: Part<'a>) -> Sentence<'a> {
     with_four(pattern, part, Part::Nothing, Part::Nothing, Part::Nothing)
 }
 
-/// A sentence with two places.
+/// A sentence with two placeholders.
 pub fn with_two<'a>(pattern: &'static str, first: Part<'a>, second: Part<'a>) -> Sentence<'a> {
     with_four(pattern, first, second, Part::Nothing, Part::Nothing)
 }
 
-/// A sentence with three places.
+/// A sentence with three placeholders.
 pub fn with_three<'a>(
     pattern: &'static str,
     first: Part<'a>,
@@ -100,7 +100,7 @@ pub fn with_three<'a>(
     with_four(pattern, first, second, third, Part::Nothing)
 }
 
-/// A sentence with four places.
+/// A sentence with four placeholders.
 pub fn with_four<'a>(
     pattern: &'static str,
     first: Part<'a>,

@@ -4,7 +4,7 @@ use crate::fault::ServeFault;
 use crate::sentence::{Part, Sentence, plain, with_one};
 use dbm_reports::ReportFault;
 
-/// The sentence for a fault of a session. Returns `None` if the sentence for the other subcommands is right.
+/// The sentence for a fault of a session. Returns `None` if a session has the same sentence as other subcommands.
 pub fn session_sentence(fault: ServeFault) -> Option<Sentence<'static>> {
     match fault {
         ServeFault::Write => Some(plain(

@@ -1,4 +1,4 @@
-//! Invalid words of a command line.
+//! Sentences about invalid arguments of a command line.
 
 use crate::sentence::{Part, Sentence, with_three, with_two};
 use byte_text::read_signed;
@@ -29,25 +29,25 @@ const NO_AMOUNT: &str =
 
 const NO_COUNT: &str = "is not a number below 4294967296";
 
-/// For an unknown layout.
+/// The sentence for an invalid layout.
 pub fn layout_sentence(layout: Option<&str>) -> Sentence<'_> {
     let word = layout.unwrap_or("");
     word_sentence(Named { name: "--as", word }, NO_LAYOUT)
 }
 
-/// For the first word that should be bytes in hex and is not.
+/// The sentence for the first argument that should be hex and is not.
 pub fn hex_sentence<'a>(alloc: Global, words: &Words<'a>) -> Option<Sentence<'a>> {
     let wrong = first_wrong(alloc, &Notation::Hex, words)?;
     Some(word_sentence(wrong, NO_HEX))
 }
 
-/// For the first word that should be bytes as text and is not.
+/// The sentence for the first argument that should be text and is not.
 pub fn text_sentence<'a>(alloc: Global, words: &Words<'a>) -> Option<Sentence<'a>> {
     let wrong = first_wrong(alloc, &Notation::Text, words)?;
     Some(word_sentence(wrong, NO_TEXT))
 }
 
-// Finds the first word that is not valid bytes. If all except the last are valid, it is the last.
+// Finds the invalid argument. If the first of two is valid, the second must be the invalid one.
 fn first_wrong<'a>(
     alloc: Global,
     notation: &Notation<Global>,
@@ -66,12 +66,12 @@ fn is_bytes(alloc: Global, notation: &Notation<Global>, word: &str) -> bool {
     matches!(read_bytes(alloc, notation, word.as_bytes()), Ok(Some(_)))
 }
 
-/// For the first word that should be a number and is not.
+/// The sentence for the first argument that should be a number and is not.
 pub fn number_sentence<'a>(numbers: Numbers<'a>) -> Option<Sentence<'a>> {
     if let Some(wrong) = wrong_number("--timeout", numbers.timeout) {
         return Some(word_sentence(wrong, NO_NUMBER));
     }
-    // In a session this is the last word that has to be a number.
+    // A session has no further number, so this one is invalid.
     if let Some(word) = numbers.save_every {
         let name = "--save-every";
         return Some(word_sentence(Named { name, word }, NO_EVERY));
@@ -85,7 +85,7 @@ pub fn number_sentence<'a>(numbers: Numbers<'a>) -> Option<Sentence<'a>> {
     if let Some(wrong) = wrong_number("NOW", numbers.now) {
         return Some(word_sentence(wrong, NO_TIME));
     }
-    // In a batch this is the last word that has to be a number.
+    // A batch has no further number, so this one is invalid.
     if let Some(word) = numbers.workers {
         let name = "WORKERS";
         return Some(word_sentence(Named { name, word }, NO_COUNT));
@@ -109,7 +109,7 @@ pub fn number_sentence<'a>(numbers: Numbers<'a>) -> Option<Sentence<'a>> {
     Some(word_sentence(wrong, NO_NUMBER))
 }
 
-// Returns the word if it is not a number.
+// Returns the argument if it is not a number.
 fn wrong_number<'a>(name: &'static str, word: Option<&'a str>) -> Option<Named<'a>> {
     let word = word?;
     if read_number(word.as_bytes(), u64::MAX).is_some() {
@@ -118,7 +118,7 @@ fn wrong_number<'a>(name: &'static str, word: Option<&'a str>) -> Option<Named<'
     Some(Named { name, word })
 }
 
-// The error of a word. A short word is shown.
+// The sentence for an invalid argument. It shows the argument if that has at most 64 bytes.
 fn word_sentence<'a>(named: Named<'a>, wrong: &'static str) -> Sentence<'a> {
     let (name, wrong) = (Part::Text(named.name), Part::Text(wrong));
     if named.word.is_empty() {

@@ -1,4 +1,4 @@
--- The faults of a disk and of a plan, as faults of the files.
+-- The conversion of a fault of a disk or of a plan to a fault of the files.
 use Rattle.sdbm_saves.specs.declared.disk.DiskError.{DiskError}
 use Rattle.sdbm_saves.specs.declared.disk.DiskError.TheVariants as disk
 use Rattle.sdbm_saves.specs.declared.planning.SavePlanFault.{SavePlanFault}
@@ -6,12 +6,12 @@ use Rattle.sdbm_saves.specs.declared.planning.SavePlanFault.TheVariants as plann
 use Rattle.dbm_places.specs.declared.fault.FilesFault.{FilesFault}
 use Rattle.dbm_places.specs.declared.fault.FilesFault.TheVariants.{FileTooLong, WriteFile, NoMemory}
 
--- the fault of a disk
+-- an error of a disk, as a fault of the files
 abbrev pub disk_fault : DiskError → FilesFault
 disk_fault disk.Memory = NoMemory
 disk_fault disk.Failed = WriteFile
 
--- the fault of a save that cannot be planned
+-- a fault of planning a save, as a fault of the files
 abbrev pub plan_fault : SavePlanFault → FilesFault
 plan_fault planned.TooLong = FileTooLong
 plan_fault planned.NoMemory = NoMemory

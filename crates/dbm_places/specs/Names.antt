@@ -21,14 +21,14 @@ shown_source source = record {
   may_be_absent = source.may_be_absent;
 }
 
--- at most 256 MiB of directory; the maximum size of the pages depends on the run
+-- the directory has at most 256 MiB; the maximum size of the pages depends on the run
 abbrev pub dir_file : List ℕ → FileRead
 dir_file base = record { kind = Dir; name = base ++ codes ".dir"; limit = 268435456; may_be_absent = true }
 
 abbrev pub pag_file : ℕ → List ℕ → FileRead
 pag_file limit base = record { kind = Pag; name = base ++ codes ".pag"; limit = limit; may_be_absent = true }
 
--- at most 1 MiB of program
+-- a program's file has at most 1 MiB
 abbrev pub program_file : List ℕ → FileRead
 program_file name = record { kind = Program; name = name; limit = 1048576; may_be_absent = false }
 
@@ -42,7 +42,7 @@ named_files limit None None = []
 abbrev pub files_read : RunPlace → List FileRead
 files_read place = named_files place.pages_limit (option_map (λ text. text.now) place.base) (option_map (λ text. text.now) place.file)
 
--- the names of the files of a base that are written, and of its locks
+-- the names of the files that are written for a base, and of its locks
 pub record AreNames (base : List ℕ) (names : Names) : Type 0 where
   pub pages : string_bytes names.pages ≡ base ++ codes ".pag"
   pub directory : string_bytes names.directory ≡ base ++ codes ".dir"

@@ -1,4 +1,4 @@
--- The files next to a database that are accepted.
+-- The conditions under which a file next to a database is accepted.
 use Rattle.std.specs.Prelude.{◌≡◌, ◌⊎◌, ℕ, ◌/◌, ◌%◌, IsTrue, Option, Some, None}
 use Rattle.dbm_places.specs.declared.side.Standing.{Standing}
 
@@ -9,7 +9,7 @@ others_write mode = mode / 2 % 2 ≡ 1
 abbrev pub group_writes : ℕ → Type 0
 group_writes mode = mode / 16 % 2 ≡ 1
 
--- no user may write the file who may not write the pages, by their permissions
+-- by the permissions, every user who may write the file may also write the pages
 abbrev pub IsNoWiderThan : Standing → Standing → Type 0
 IsNoWiderThan side pages =
     others_write pages.mode ⊎ ((others_write side.mode → ⊥) × (group_writes side.mode → group_writes pages.mode × (side.group ≡ pages.group)))
@@ -28,7 +28,7 @@ pub record TakesRedo (side : Standing) (pages : Option Standing) (user : Option 
   pub owned : IsOwned side pages user
   pub no_wider : IsNoWider side pages
 
--- the owner may write the pages, as far as that is visible
+-- the owner of the file may write the pages, as far as owners and permissions show
 abbrev pub IsOfWriters : Standing → Standing → Option ℕ → Type 0
 IsOfWriters side pages user = IsOwned side (Some pages) user ⊎ (others_write pages.mode ⊎ (group_writes pages.mode × (side.group ≡ pages.group)))
 

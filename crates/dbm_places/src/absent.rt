@@ -6,7 +6,7 @@ use std::fs::{self, File};
 use std::io::{ErrorKind, Read};
 use std::rt::Files;
 
-/// Returns whether a name refers to a FIFO, a device or a socket. Opening a FIFO waits for its other end.
+/// Returns `true` if a name refers to a FIFO, a device or a socket. Opening a FIFO waits for its other end.
 pub fn is_special<R: Files>(rt: &R, name: &str) -> bool {
     match fs::metadata(rt, name) {
         Ok(found) => !found.is_file() && !found.is_dir(),
@@ -14,7 +14,7 @@ pub fn is_special<R: Files>(rt: &R, name: &str) -> bool {
     }
 }
 
-/// Returns whether a database has no data files and no committed redo file. Without a base the answer is `false`.
+/// Returns `true` if a database has neither data files nor a committed redo file. Returns `false` without a base, or if allocation fails.
 pub fn has_no_files<R: Files<File = File> + AllocGlobal>(rt: &R, base: Option<&str>) -> bool {
     let Some(base) = base else {
         return false;
@@ -29,7 +29,7 @@ pub fn has_no_files<R: Files<File = File> + AllocGlobal>(rt: &R, base: Option<&s
     }
 }
 
-// Returns whether the commit byte of a redo file is 1, or the file cannot be read.
+// Returns `true` if the commit byte of a redo file is 1, or if the file exists and cannot be read.
 fn may_be_marked<R: Files<File = File>>(rt: &R, names: &Names) -> bool {
     let (name, pages) = (names.redo.as_str(), names.pages.as_str());
     let mut first = [0u8];
@@ -43,7 +43,7 @@ fn may_be_marked<R: Files<File = File>>(rt: &R, names: &Names) -> bool {
     }
 }
 
-/// Returns whether no file has this name. A dangling link counts as a file.
+/// Returns `true` if no file has this name. A dangling link counts as a file.
 pub fn is_absent<R: Files<File = File>>(rt: &R, name: &str) -> bool {
     match fs::symlink_metadata(rt, name) {
         Err(error) => error.kind() == ErrorKind::NotFound,

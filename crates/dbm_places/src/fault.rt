@@ -1,4 +1,4 @@
-//! Why files could not be read, locked or written.
+//! The reasons why files could not be read, locked or written.
 ghost use Rattle.std.specs.Prelude.{◌≡◌};
 ghost use Rattle.dbm_places.specs.declared.fault.FilesFault.TheVariants.{NoMemory};
 
@@ -18,26 +18,27 @@ pub enum MovedFile {
     Directory,
 }
 
-/// Why files could not be read, locked or written. The fault does not name the file: `find_unread` and similar functions find it.
+/// The reason why files could not be read, locked or written. It does not name the file; `find_unread` and similar functions find that
+/// file.
 #[derive(Clone, Copy, Debug, PartialEq, Eq)]
 pub enum FilesFault {
     /// A file could not be read.
     ReadFile,
-    /// A file is longer than it may be, or would be after the change.
+    /// A file is longer than its limit, or would be after the change.
     FileTooLong,
     /// A file could not be written.
     WriteFile,
-    /// The commit byte of the redo file is 1, but it belongs to different data files, or no save has left it.
+    /// The commit byte of the redo file is 1, but the redo file belongs to other data files or was not written by a save.
     BadRedo,
     /// Another user could have planted the redo file or a lock.
     Unsafe,
-    /// Another run held the lock for as long as this run was to wait.
+    /// Another run held the lock for the whole wait.
     Locked,
-    /// `BASE.lock`, `.writer`, `.pag` or `.dir` is no longer the file that this run locked or read. Nothing was saved.
+    /// The name `BASE.lock`, `.writer`, `.pag` or `.dir` no longer refers to the file that this run locked or read. Nothing was saved.
     Moved(MovedFile),
     /// Another program has written `BASE.pag` or `.dir` since this run read or saved it. Nothing was saved.
     Changed,
-    /// The lines that report a save could not be written. The save itself is done.
+    /// The lines that report a save could not be written. The save itself is committed.
     Write,
     /// Out of memory.
     NoMemory,

@@ -4,8 +4,8 @@ use std::fs;
 use std::os::unix::fs::MetadataExt;
 use std::rt::Files;
 
-/// The ID of a process that holds the lock on a file, if there is one and the system reports it. The ID is 0 for a process that this one
-/// cannot see, for example in another container.
+/// Returns the ID of a process that holds a lock on a file. Returns `None` if there is no such process or the system does not report it.
+/// The ID is 0 for a process that this process cannot see, for example one in another container.
 pub fn locker_of<R: Files + AllocGlobal>(rt: &R, name: &str) -> Option<u64> {
     let number = fs::metadata(rt, name).ok()?.ino();
     let locks = fs::read_to_string(rt, "/proc/locks").ok()?;
@@ -18,9 +18,9 @@ pub fn locker_of<R: Files + AllocGlobal>(rt: &R, name: &str) -> Option<u64> {
     holder
 }
 
-// Parses a line of /proc/locks. Returns the process if it holds a lock on the file with this inode. A line has its number, the kind of
-// lock, two words about the lock, the process, and the file as the two numbers of its device and its inode. A waiting process has an arrow
-// before the kind.
+// Parses a line of /proc/locks. Returns the process if it holds a lock on the file with this inode. A line has its number, the kind of the
+// lock, two words about the lock, the process, and the file: the two numbers of its device, and its inode. If the process waits, an arrow
+// precedes the kind.
 fn holder_in(line: &str, number: u64) -> Option<u64> {
     let mut words = line.split_whitespace().skip(1);
     if words.next()? != "FLOCK" {

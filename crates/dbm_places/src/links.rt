@@ -1,4 +1,4 @@
-//! Databases whose files are named by symbolic links.
+//! Databases whose data files are reached by symbolic links.
 use crate::fault::FilesFault;
 use crate::names::names_of;
 use std::fs;
@@ -9,8 +9,8 @@ use std::rt::Files;
 /// So all runs use the same lock and the same redo file. Allocates the result.
 ///
 /// # Errors
-/// `ReadFile` if a link is dangling, if only one of the files is such a link, or if they lead to different bases. `NoMemory` if allocation
-/// fails.
+/// `ReadFile` if a link is dangling, if only one of the files is such a link, or if the links lead to different bases. `NoMemory` if
+/// allocation fails.
 pub fn resolve<R: Files + AllocGlobal>(rt: &R, base: &str) -> Result<String, FilesFault> {
     let (pages, directory) = bases_behind(rt, base)?;
     match (pages, directory) {
@@ -20,7 +20,7 @@ pub fn resolve<R: Files + AllocGlobal>(rt: &R, base: &str) -> Result<String, Fil
     }
 }
 
-// The bases that BASE.pag and BASE.dir lead to, each if it is a link.
+// Returns the bases to which BASE.pag and BASE.dir lead, each `None` if the file is not a link to a file of a base.
 fn bases_behind<R: Files + AllocGlobal>(
     rt: &R,
     base: &str,
@@ -31,7 +31,7 @@ fn bases_behind<R: Files + AllocGlobal>(
     Ok((pages, directory))
 }
 
-// The base that both files lead to.
+// Returns the base to which both links lead. Fails with `ReadFile` if they lead to different bases.
 fn same_base(pages: String, directory: &String) -> Result<String, FilesFault> {
     if pages.as_str() == directory.as_str() {
         Ok(pages)
@@ -40,8 +40,8 @@ fn same_base(pages: String, directory: &String) -> Result<String, FilesFault> {
     }
 }
 
-// The base that a link leads to, if its target ends in `end`. Returns `None` if the name is not a link, or if the target has a different
-// ending.
+// Returns the base to which a link leads, if its target ends in `end`. Returns `None` if the name is not a link, or if the target has a
+// different ending.
 fn base_behind<R: Files + AllocGlobal>(
     rt: &R,
     name: &str,

@@ -13,25 +13,25 @@ use std::time::{Clock, Duration, Instant};
 /// Longest pause between two attempts to take a lock, in milliseconds.
 const LONGEST_REST: u64 = 5;
 
-/// Maximum number of lock files that a run takes in turn, if each has lost its name to the next by then.
+/// Maximum number of attempts to take a lock, if its name refers to a different file each time.
 const MOST_LOCKS: usize = 100;
 
-/// Maximum number of times that a reading run yields to a waiting save. There is a limit because the saving process may be stopped.
+/// Maximum number of times that a reading run yields to a waiting save. The limit exists because the saving process may be suspended.
 const MOST_YIELDS: usize = 8;
 
-/// The locks of a run that may change a database. Other runs wait until they are dropped.
+/// The locks of a run that may change a database. Other runs wait until these locks are dropped.
 #[derive(Drop)]
 pub struct WriteLocks {
-    /// BASE.writer: exclusive while this run does not use the files, shared while it does. If the run is killed while it uses the files, no
-    /// reader takes the data files for complete, even if the system releases BASE.lock first.
+    /// BASE.writer, locked exclusively while this run does not use the files, and shared while it does. So if the run is killed while it
+    /// uses the files, readers never take the data files for complete, even if the system releases BASE.lock first.
     pub writer: File,
     /// BASE.lock, locked while the run uses the files.
     pub files: File,
 }
 
 impl WriteLocks {
-    /// Releases BASE.lock. The data files must contain all saves. Takes BASE.writer exclusively if that is possible at once. It is not
-    /// possible if a process was stopped while it checked BASE.writer. Then BASE.writer stays shared, and readers use the redo file.
+    /// Releases BASE.lock. The data files must contain all saves. First takes BASE.writer exclusively, if that is possible at once. It is
+    /// impossible if a process was suspended while it checked BASE.writer. Then BASE.writer stays shared, and readers use the redo file.
     pub fn leave_files(&self) {
         if self.writer.try_lock().is_err() {
             let _ = self.writer.lock_shared();
@@ -39,12 +39,14 @@ impl WriteLocks {
         let _ = self.files.unlock();
     }
 
-    /// Releases BASE.lock after a committed save that the data files may lack. BASE.writer stays shared, so readers use the redo file.
+    /// Releases BASE.lock after a committed save that may be missing from the data files. BASE.writer stays shared, so readers use the redo
+    /// file.
     pub fn leave_unfinished(&self) {
         let _ = self.files.unlock();
     }
 
-    /// Waits for BASE.lock, if it was released. BASE.writer is shared before the wait, so readers of the library see that a save waits.
+    /// Takes BASE.lock again, if it was released. Makes the lock on BASE.writer shared before a wait, so that readers see that a save
+    /// waits.
     ///
     /// # Errors
     /// `WriteFile` if a lock cannot be taken.
@@ -75,13 +77,13 @@ struct Take {
     patience: Option<Duration>,
 }
 
-/// Waits for both locks of a writing run and takes them. Missing lock files are made, so that all users who may use the pages can lock
-/// them. A run that may not write the pages makes no lock file. The wait is limited by `patience`, if it is given. If another run holds
-/// BASE.writer, this run holds no lock between two attempts, so readers do not wait for it.
+/// Waits for both locks of a writing run, at most `patience` if it is given, and takes them. Creates missing lock files, so that all users
+/// who may use the pages can lock them. A run that may not write the pages creates no lock file. While another run holds BASE.writer, this
+/// run holds no lock between two attempts, so readers do not wait for it.
 ///
 /// # Errors
-/// `Unsafe` if another user could have planted a lock, `WriteFile` if a lock cannot be made or taken, `Locked` if another run held a lock
-/// for the whole wait, and `Moved` if a name refers to a different file again and again. Interrupted calls are repeated.
+/// `Unsafe` if another user could have planted a lock, `WriteFile` if a lock cannot be created or taken, `Locked` if another run held a
+/// lock for the whole wait, and `Moved` if the name of BASE.lock refers to a different file each time. Interrupted calls are repeated.
 pub fn lock_to_write<R: Files<File = File> + Clock>(
     rt: &R,
     names: &Names,
@@ -89,7 +91,8 @@ pub fn lock_to_write<R: Files<File = File> + Clock>(
 ) -> Result<WriteLocks, FilesFault> {
     let mut patience = patience;
     for _ in 0..u64::MAX {
-        // Readers are not disturbed as long as another run has the database open. A single attempt checks only both locks.
+        // While another run has the database open, this run tries no lock, so that it does not disturb readers. With a patience of 0 it
+        // tries the locks once, without this check.
         if patience != Some(Duration::ZERO) && has_writer(rt, names) {
             patience = rest_within(rt, patience)?;
             continue;
@@ -124,7 +127,7 @@ fn rest_within<C: Clock>(
     Ok(Some(left.saturating_sub(rest)))
 }
 
-// Takes BASE.writer if no other run holds it, and returns whether it did. Returns `false` if the name refers to a different file by now.
+// Takes BASE.writer if no other run holds it. Returns `true` if it was taken and its name still refers to this file.
 fn is_locked_now<R: Files<File = File>>(
     rt: &R,
     names: &Names,
@@ -158,7 +161,7 @@ fn lock_files<R: Files<File = File> + Clock>(
     Err(FilesFault::Moved(MovedFile::Lock))
 }
 
-// Opens a lock file, or makes it if it is missing.
+// Opens a lock file, or creates it if it is missing.
 fn open_to_lock<R: Files<File = File>>(
     rt: &R,
     names: &Names,
@@ -170,13 +173,13 @@ fn open_to_lock<R: Files<File = File>>(
     }
 }
 
-/// Waits for BASE.lock and takes it shared. Returns `None` if the lock file is missing: then no run of the program has written. The wait is
-/// limited by `patience`, if it is given. If the name refers to a different file by then, the run waits for that file's lock. The system
-/// lets readers in before a waiting writer, so the run releases the lock for a while if a save waits for it.
+/// Waits for BASE.lock, at most `patience` if it is given, and takes it shared. Returns `None` if the lock file is missing, because then no
+/// run has written the database. If the name refers to a different file after the wait, waits for the lock of that file. The system prefers
+/// readers to a waiting writer, so this run releases the lock for a while if a save waits for it.
 ///
 /// # Errors
 /// `Unsafe` if another user could have planted the lock, `ReadFile` if it cannot be opened or locked, `Locked` if a writing run held it for
-/// the whole wait, and `Moved` if the name refers to a different file again and again.
+/// the whole wait, and `Moved` if the name refers to a different file each time.
 pub fn lock_to_read<R: Files<File = File> + Clock + AllocGlobal>(
     rt: &R,
     names: &Names,
@@ -199,7 +202,7 @@ pub fn lock_to_read<R: Files<File = File> + Clock + AllocGlobal>(
     }
 }
 
-// Returns whether the patience would end before the lock is taken again.
+// Returns `true` if too little patience is left to release the lock and take it again.
 fn is_short(left: Option<Duration>) -> bool {
     match left {
         Some(left) => left <= Duration::from_millis(4 * LONGEST_REST),
@@ -233,14 +236,14 @@ fn share_files<R: Files<File = File> + Clock>(
     Err(FilesFault::Moved(MovedFile::Lock))
 }
 
-// Returns whether a save waits for BASE.lock, which this run shares: a process holds BASE.writer, but not exclusively. A reader that is
-// checking BASE.writer also counts, briefly.
+// Returns `true` if a save waits for BASE.lock, which this run shares. A save waits if a process holds BASE.writer, but not exclusively. A
+// reader holds it in the same way for a moment while it checks BASE.writer, and then counts as a save.
 fn is_waited_for<R: Files<File = File> + AllocGlobal>(rt: &R, names: &Names) -> bool {
     !has_writer(rt, names) && locker_of(rt, names.writer.as_str()).is_some()
 }
 
-/// Returns whether another run has the database open for changes. If the caller holds BASE.lock, `true` means that the data files contain
-/// all saves, even if the redo file is not empty. Returns `false` if that cannot be determined.
+/// Returns `true` if another run has the database open for changes. If the caller holds BASE.lock, the data files then contain all saves,
+/// even if the redo file is not empty. Returns `false` if it cannot be determined whether there is such a run.
 pub fn has_writer<R: Files<File = File>>(rt: &R, names: &Names) -> bool {
     let (name, pages) = (names.writer.as_str(), names.pages.as_str());
     let Ok(file) = open_beside(rt, Side::Lock, name, pages, false) else {
@@ -252,7 +255,8 @@ pub fn has_writer<R: Files<File = File>>(rt: &R, names: &Names) -> bool {
     }
 }
 
-// Takes a lock and returns the remaining patience. If the lock is held by another run, the fault is `Locked`, otherwise `fault`.
+// Takes a lock and returns the remaining patience. Fails with `Locked` if another run holds the lock for the whole wait, and with `fault`
+// if the lock cannot be taken for another reason.
 fn take_named<C: Clock>(
     clock: &C,
     file: &File,
@@ -318,7 +322,8 @@ fn take_within<C: Clock>(
     Err(TryLockError::WouldBlock)
 }
 
-// Opens a lock file, or makes it if it is missing. Another run may have made it meanwhile. A file that may only be read is sufficient.
+// Opens a lock file, or creates it if it is missing. If another run has created it meanwhile, opens that one. It is enough if the file can
+// be opened for reading.
 fn open_lock<R: Files<File = File>>(rt: &R, name: &str, pages: &str) -> Result<File, SideFault> {
     match open_there(rt, name, pages) {
         Err(SideFault::Absent) => match make_lock(rt, name, pages) {

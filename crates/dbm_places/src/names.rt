@@ -14,28 +14,28 @@ pub const DIR_LIMIT: u64 = 268_435_456;
 /// Maximum size of a program's file, in bytes.
 pub const PROGRAM_LIMIT: u64 = 1_048_576;
 
-/// The files that a run of the program names.
+/// The files of a run of the program.
 #[derive(Clone, Copy)]
 pub struct RunPlace<'a> {
     /// The database, if there is one. Its files are BASE.dir and BASE.pag.
     pub base: Option<&'a str>,
     /// The program's file, if there is one.
     pub file: Option<&'a str>,
-    /// The run writes the files of the database after its commands.
+    /// The run may write the files of the database.
     pub writes: bool,
     /// Maximum size of BASE.pag, in bytes.
     pub pages_limit: u64,
-    /// The page size that is assumed while BASE.pag is read. Pages of the other size open too, at the cost of a copy.
+    /// The page size for which BASE.pag is read. A file with pages of the other size can be opened too, at the cost of a copy.
     pub page_size: PageSize,
 }
 
-/// The files of a run, as read. A missing file of a database has no bytes.
+/// The bytes of the files of a run. A missing file of a database has no bytes.
 #[derive(Drop)]
 pub struct FileBytes {
     pub directory: Vec<u8>,
     pub pages: ReadPages<Global>,
     pub program: Vec<u8>,
-    /// The data files that these bytes were read from.
+    /// The IDs of the data files that were read.
     pub seen: SeenFiles,
 }
 
@@ -57,11 +57,11 @@ pub struct Source {
     pub name: String,
     /// Maximum size, in bytes.
     pub limit: u64,
-    /// The file may be missing. It then counts as empty.
+    /// The file may be missing, and then counts as empty.
     pub may_be_absent: bool,
 }
 
-/// The names of the files of a database that are written, and of its locks.
+/// The names of the files that are written for a database, and of its locks.
 #[derive(Drop)]
 pub struct Names {
     /// BASE.pag, the pages.

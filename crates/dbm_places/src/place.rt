@@ -1,4 +1,4 @@
-//! The folder of a database, which a run holds open, and the files that the run found in it.
+//! The folder of a database, which a run holds open, and the data files in it.
 
 use crate::absent::is_special;
 use crate::fault::{FilesFault, MovedFile};
@@ -30,7 +30,7 @@ impl FileId {
     }
 }
 
-/// The data files that a run has read. `None` represents a missing file.
+/// The IDs of the data files that a run has read, each `None` if the file was missing.
 #[derive(Clone, Copy, Debug, PartialEq, Eq)]
 pub struct SeenFiles {
     pub pages: Option<FileId>,
@@ -38,7 +38,7 @@ pub struct SeenFiles {
 }
 
 impl SeenFiles {
-    /// The data files of a database without files.
+    /// Both data files are missing.
     pub fn none() -> SeenFiles {
         SeenFiles {
             pages: None,
@@ -46,7 +46,7 @@ impl SeenFiles {
         }
     }
 
-    /// The files that the names of the data files refer to now. Links are followed.
+    /// Returns the IDs of the files to which the names of the data files refer now. Links are followed.
     ///
     /// # Errors
     /// `Moved` with the first file that cannot be looked up.
@@ -60,13 +60,13 @@ impl SeenFiles {
         Ok(SeenFiles { pages, directory })
     }
 
-    /// Returns whether a data file is missing.
+    /// Returns `true` if a data file is missing.
     pub fn lacks_file(&self) -> bool {
         self.pages.is_none() || self.directory.is_none()
     }
 
-    /// Returns these files, with those that a save has made for the missing ones. A file that existed keeps its ID, even if its name now
-    /// refers to a different file.
+    /// Returns these IDs, with that of the created file for each file that was missing. A file that existed keeps its ID, even if its name
+    /// now refers to a different file.
     pub fn with_made(&self, made: &DataFiles) -> SeenFiles {
         let made = made.seen();
         SeenFiles {
@@ -75,7 +75,7 @@ impl SeenFiles {
         }
     }
 
-    /// Checks that both data files are the same.
+    /// Checks that `others` are the same data files.
     ///
     /// # Errors
     /// `Moved` with the first data file that differs.
@@ -90,7 +90,7 @@ impl SeenFiles {
     }
 }
 
-/// The data files of a database, held open. Until they are closed, no other file gets their devices and inodes.
+/// The data files of a database, which are held open, so that no other file gets the ID of one of them.
 #[derive(Drop)]
 pub struct DataFiles {
     pages: Option<File>,
@@ -98,7 +98,7 @@ pub struct DataFiles {
 }
 
 impl DataFiles {
-    /// No files.
+    /// No file is open.
     pub fn none() -> DataFiles {
         DataFiles {
             pages: None,
@@ -106,8 +106,8 @@ impl DataFiles {
         }
     }
 
-    /// Opens the data files that are not open yet, for reading. A file that is missing or cannot be opened is skipped. A FIFO is skipped
-    /// too, because opening it waits for its other end.
+    /// Opens the data files that are not open yet, for reading. Skips a file that is missing or cannot be opened. Skips a FIFO too, because
+    /// opening it waits for its other end.
     pub fn open_more<R: Files<File = File>>(&mut self, rt: &R, names: &Names) {
         if self.pages.is_none() {
             self.pages = open_plain(rt, names.pages.as_str());
@@ -126,7 +126,7 @@ impl DataFiles {
     }
 }
 
-// Opens a file to be read. `None` if it is missing, cannot be opened, or is a FIFO or a device.
+// Opens a file for reading. Returns `None` if it is missing, cannot be opened, or is a FIFO or a device.
 fn open_plain<R: Files<File = File>>(rt: &R, name: &str) -> Option<File> {
     if is_special(rt, name) {
         return None;
@@ -145,8 +145,8 @@ fn id_of_opened(file: &Option<File>) -> Option<FileId> {
     }
 }
 
-/// The files of a database, named through a folder that is held open. These names lead into that folder even if the folder's own name
-/// changes. If the system does not support this, they are the ordinary names.
+/// The files of a database, named through a folder that is held open. The names lead into that folder even if the folder is renamed. If the
+/// system does not support this, the names are the ordinary ones.
 #[derive(Drop)]
 pub struct Place {
     pub names: Names,
@@ -158,7 +158,7 @@ impl Place {
     /// Resolves a base (`resolve`) and opens its folder.
     ///
     /// # Errors
-    /// Those of `resolve`, and `NoMemory`.
+    /// The errors of `resolve`, and `NoMemory` if allocation fails.
     pub fn enter<R: Files<File = File> + AllocGlobal>(
         rt: &R,
         base: &str,
@@ -182,8 +182,7 @@ impl Place {
         })
     }
 
-    /// Opens the data files that the names now refer to, in addition to those that are already open. Files that are read afterwards must be
-    /// these (`must_be_open`).
+    /// Opens the data files that are not open yet. `must_be_open` checks later that the files that were read are the open ones.
     pub fn hold_data<R: Files<File = File>>(&mut self, rt: &R) {
         self.data.open_more(rt, &self.names);
     }
@@ -204,7 +203,7 @@ impl Place {
     /// Checks that the names of the data files have not become links to another base.
     ///
     /// # Errors
-    /// `Moved` if they have, and `NoMemory`.
+    /// `Moved` if a name has become a link to another base, or an invalid link. `NoMemory` if allocation fails.
     pub fn must_not_lead<R: Files + AllocGlobal>(&self, rt: &R) -> Result<(), FilesFault> {
         match resolve(rt, self.base()) {
             Ok(base) if base.as_str() == self.base() => Ok(()),
@@ -216,7 +215,7 @@ impl Place {
     /// Checks that the names still refer to the held locks and to the data files that were read.
     ///
     /// # Errors
-    /// `Moved` with the first name that does not.
+    /// `Moved` with the first file whose name no longer refers to it.
     pub fn must_be_held<R: Files<File = File>>(
         &self,
         rt: &R,
@@ -230,7 +229,7 @@ impl Place {
     /// Checks that the names still refer to the held locks. If not, another run may write.
     ///
     /// # Errors
-    /// `Moved` with the first name that does not.
+    /// `Moved` with the first lock whose name no longer refers to it.
     pub fn must_be_locked<R: Files<File = File>>(
         &self,
         rt: &R,
@@ -246,7 +245,7 @@ impl Place {
     }
 }
 
-// The place of a base under its ordinary names.
+// Returns the place of a base under its ordinary names.
 fn plain_place<R: Files + AllocGlobal>(rt: &R, base: &str) -> Result<Place, FilesFault> {
     Ok(Place {
         names: names_of(rt.alloc(), base)?,
@@ -255,8 +254,8 @@ fn plain_place<R: Files + AllocGlobal>(rt: &R, base: &str) -> Result<Place, File
     })
 }
 
-// Opens the folder of a base. Returns `None` if it is missing, is not a folder, or may be searched but not read. If the name refers to a
-// FIFO, the result is `None` without waiting.
+// Opens the folder of a base. Returns `None` if it is missing, is not a folder, or may be searched but not read. Does not wait if the name
+// refers to a FIFO.
 fn open_folder<R: Files<File = File> + AllocGlobal>(
     rt: &R,
     base: &str,
@@ -266,7 +265,7 @@ fn open_folder<R: Files<File = File> + AllocGlobal>(
     Ok(fs::open(rt, name.as_str()).ok())
 }
 
-// Returns whether a name refers to an open file. Links are followed.
+// Returns `true` if a name refers to this open file. Links are followed.
 fn is_there<R: Files>(rt: &R, name: &str, file: &File) -> bool {
     match (fs::metadata(rt, name), file.metadata()) {
         (Ok(named), Ok(opened)) => FileId::of(&named) == FileId::of(&opened),
@@ -274,7 +273,7 @@ fn is_there<R: Files>(rt: &R, name: &str, file: &File) -> bool {
     }
 }
 
-/// Returns whether a name refers to an open file. Links are not followed.
+/// Returns `true` if a name refers to this open file. Links are not followed.
 pub fn is_named<R: Files>(rt: &R, name: &str, file: &File) -> bool {
     match (fs::symlink_metadata(rt, name), file.metadata()) {
         (Ok(named), Ok(opened)) => FileId::of(&named) == FileId::of(&opened),
@@ -282,7 +281,7 @@ pub fn is_named<R: Files>(rt: &R, name: &str, file: &File) -> bool {
     }
 }
 
-// The ID of the file that a name refers to. `None` if the file is missing.
+// Returns the ID of the file to which a name refers, or `None` if the file is missing.
 fn id_of<R: Files>(rt: &R, name: &str) -> Result<Option<FileId>, FilesFault> {
     match fs::metadata(rt, name) {
         Ok(found) => Ok(Some(FileId::of(&found))),
@@ -299,7 +298,7 @@ fn last_of(base: &str) -> &str {
     }
 }
 
-/// The base of names: the text before `.pag`.
+/// Returns the base of these names: the text before `.pag`.
 pub fn base_of(names: &Names) -> &str {
     match names.pages.as_str().strip_suffix(".pag") {
         Some(base) => base,

@@ -1,4 +1,4 @@
-//! The redo file and the locks next to a database: which are accepted, and how they are opened and made. Links are not followed.
+//! The redo file and the locks next to a database: when they are accepted, and how they are opened and created. Links are not followed.
 ghost use Rattle.std.specs.Prelude.{◌≡◌, ◌↔◌, IsTrue};
 ghost use Rattle.dbm_places.specs.Sides.{TakesRedo, TakesLock, IsOwned, IsNoWider, others_write, group_writes};
 
@@ -9,7 +9,7 @@ use std::io::{self, ErrorKind};
 use std::os::unix::fs::{MetadataExt, OpenOptionsExt, PermissionsExt, fchown};
 use std::rt::Files;
 
-/// Maximum number of attempts to open a file whose name changes between the check and the opening.
+/// Maximum number of attempts to open a file, if its name refers to a different file after each check.
 const MOST_LOOKS: usize = 10;
 
 /// A kind of file next to a database.
@@ -24,7 +24,7 @@ pub enum Side {
 /// The owner, the group and the permissions of a file.
 #[derive(Clone, Copy)]
 pub struct Standing {
-    /// It is a regular file, not a link, a folder or the like, and has at most one name. An open file may have lost its name.
+    /// It is a regular file with at most one name. An open file may have lost its name.
     pub is_plain: bool,
     pub owner: u32,
     pub group: u32,
@@ -32,7 +32,7 @@ pub struct Standing {
     pub mode: u32,
 }
 
-/// Why a file next to a database is not opened.
+/// The reason why a file next to a database is not opened.
 #[derive(Drop)]
 pub enum SideFault {
     /// It is missing.
@@ -62,22 +62,22 @@ impl From<SideFault> for io::Error {
     }
 }
 
-// Returns whether all users may write a file.
+// Returns `true` if all users may write a file.
 fn others_write(mode: u32) -> bool
     ensures { IsTrue result ↔ others_write mode }
 {
     mode / 2 % 2 == 1
 }
 
-// Returns whether the group of a file may write it.
+// Returns `true` if the group of a file may write it.
 fn group_writes(mode: u32) -> bool
     ensures { IsTrue result ↔ group_writes mode }
 {
     mode / 16 % 2 == 1
 }
 
-// Returns whether the permissions keep out every user who may not write the pages. If there are no pages, only the owner may write the
-// file.
+// Returns `true` if, by the permissions, every user who may write the file may also write the pages. If the pages do not exist, only the
+// owner may be allowed to write the file.
 fn is_no_wider(side: Standing, pages: Option<Standing>) -> bool
     ensures { IsTrue result ↔ IsNoWider side pages }
 {
@@ -91,7 +91,7 @@ fn is_no_wider(side: Standing, pages: Option<Standing>) -> bool
         && (!group_writes(side.mode) || group_writes(pages.mode) && side.group == pages.group)
 }
 
-// Returns whether a file is owned by this user, by root, or by the owner of the pages.
+// Returns `true` if a file is owned by this user, by root, or by the owner of the pages.
 fn is_owned(side: Standing, pages: Option<Standing>, user: Option<u32>) -> bool
     ensures { IsTrue result ↔ IsOwned side pages user }
 {
@@ -104,17 +104,17 @@ fn is_owned(side: Standing, pages: Option<Standing>, user: Option<u32>) -> bool
     }
 }
 
-/// Returns whether a redo file is accepted. It must be a plain file owned by this user, by root, or by the owner of the pages, and no user
-/// may write it who may not write the pages.
+/// Returns `true` if a redo file is accepted. It must be a plain file owned by this user, by root, or by the owner of the pages. Every user
+/// who may write it must also be allowed to write the pages.
 pub fn takes_redo(side: Standing, pages: Option<Standing>, user: Option<u32>) -> bool
     ensures { IsTrue result ↔ TakesRedo side pages user }
 {
     side.is_plain && is_owned(side, pages, user) && is_no_wider(side, pages)
 }
 
-/// Returns whether a lock is accepted. It must be a plain file whose owner may write the pages, as far as that is visible, and no user may
-/// write it who may not write the pages. If there are no pages yet, it must be a plain file owned by this user or by root, or by any user
-/// if the system does not report the current user.
+/// Returns `true` if a lock is accepted. It must be a plain file whose owner may write the pages, as far as owners and permissions show.
+/// Every user who may write it must also be allowed to write the pages. If the pages do not exist yet, it must be a plain file owned by
+/// this user or by root; if the system does not report the current user, any owner is accepted.
 pub fn takes_lock(side: Standing, pages: Option<Standing>, user: Option<u32>) -> bool
     ensures { IsTrue result ↔ TakesLock side pages user }
 {
@@ -161,7 +161,7 @@ fn takes(side: Side, found: Standing, pages: Option<Standing>, user: Option<u32>
     }
 }
 
-/// The standing of a file next to a database, if it exists and is not accepted.
+/// Returns the standing of a file next to a database, if the file exists and is not accepted.
 pub fn doubt_of<R: Files>(rt: &R, side: Side, name: &str, pages: &str) -> Option<Standing> {
     let found = match fs::symlink_metadata(rt, name) {
         Ok(found) => standing_of(&found),
@@ -175,8 +175,8 @@ pub fn doubt_of<R: Files>(rt: &R, side: Side, name: &str, pages: &str) -> Option
 }
 
 /// Opens an existing file next to a database for reading, and also for writing if `writes` is true. The file is checked before it is
-/// opened, so a link is not followed and a pipe is not waited for. The open file is checked again, because it must be the same file. If the
-/// name refers to a different file by then, that file is tried.
+/// opened, so that no link is followed and no call waits for the other end of a pipe. The open file is checked again, since the name may
+/// refer to a different file by then. In that case the call tries again.
 pub fn open_beside<R: Files<File = File>>(
     rt: &R,
     side: Side,
@@ -203,9 +203,9 @@ pub fn open_beside<R: Files<File = File>>(
     Err(SideFault::Unsafe)
 }
 
-/// Makes a redo file, which must not exist. It will contain records of the database. So no other user may read it until its owner, its
-/// group and its permissions are those of the pages, as far as the system lets this user set them. If there are no pages yet, the file may
-/// be read by all users who will be able to read the pages.
+/// Creates a redo file, which must not exist. It will contain pairs of the database, so at first only this user may read it. Then it gets
+/// the owner, the group and the permissions of the pages, as far as the system lets this user set them. If the pages do not exist yet, all
+/// users who will be able to read them may read the redo file.
 pub fn make_redo<R: Files<File = File>>(rt: &R, name: &str, pages: &str) -> io::Result<File> {
     match pages_standing(rt, pages)? {
         Some(like) => {
@@ -217,7 +217,7 @@ pub fn make_redo<R: Files<File = File>>(rt: &R, name: &str, pages: &str) -> io::
     }
 }
 
-/// Returns whether a redo file has the owner, the group and the permissions of the pages. If not, other users who may write the pages may
+/// Returns `true` if a redo file has the owner, the group and the permissions of the pages. If not, other users who may write the pages may
 /// be unable to use it.
 pub fn is_like_pages<R: Files>(rt: &R, name: &str, pages: &str) -> bool {
     let Ok(found) = fs::symlink_metadata(rt, name) else {
@@ -232,8 +232,8 @@ pub fn is_like_pages<R: Files>(rt: &R, name: &str, pages: &str) -> bool {
         && found.mode % 0o1000 == like.mode % 0o1000
 }
 
-/// Makes the directory of a database, which must not exist. If there are pages, it is made like them, in the way of a redo file. Otherwise
-/// the umask decides.
+/// Creates the directory of a database, which must not exist. If the pages exist, it gets their owner, group and permissions, as far as the
+/// system lets this user set them. Otherwise the umask determines the permissions.
 pub fn make_directory<R: Files<File = File>>(rt: &R, name: &str, pages: &str) -> io::Result<File> {
     match pages_standing(rt, pages)? {
         Some(like) => {
@@ -245,13 +245,13 @@ pub fn make_directory<R: Files<File = File>>(rt: &R, name: &str, pages: &str) ->
     }
 }
 
-// Gives a file the owner, the group and the permissions of `like`, as far as the system lets this user.
+// Gives a file the owner, the group and the permissions of `like`, as far as the system lets this user set them.
 fn be_like(file: &File, like: Standing) -> io::Result<()> {
     let given = give(file, like)?;
     file.set_permissions(Permissions::from_mode(mode_like(given, like)))
 }
 
-// The permissions of `like` for a file with the standing `given`. Those of the group are dropped if the groups differ.
+// Returns the permissions of `like` for a file with the standing `given`. If the groups differ, the group gets no permissions.
 fn mode_like(given: Standing, like: Standing) -> u32 {
     let mode = like.mode % 0o1000;
     if given.group == like.group {
@@ -261,9 +261,9 @@ fn mode_like(given: Standing, like: Standing) -> u32 {
     }
 }
 
-/// Makes a lock, which must not exist. All users who may use the pages can take it: if the lock cannot be given to the owner and the group
-/// of the pages, all users may read it. It is empty, and until it is like the pages only its user may write it. A run that may not write
-/// the pages makes no lock.
+/// Creates an empty lock file, which must not exist. All users who may use the pages can take the lock: if the file cannot get the owner
+/// and the group of the pages, all users may read it. Before it is like the pages, only this user may write it. The call fails if this user
+/// may not write the pages.
 pub fn make_lock<R: Files<File = File>>(rt: &R, name: &str, pages: &str) -> io::Result<File> {
     match OpenOptions::new().read(true).write(true).open(rt, pages) {
         Err(error) if error.kind() != ErrorKind::NotFound => return Err(error),
@@ -285,7 +285,7 @@ fn with_readers(mode: u32) -> u32 {
     if mode / 4 % 2 == 1 { mode } else { mode + 4 }
 }
 
-/// Makes a new file with these permissions less the umask. If the name is a link, the call fails.
+/// Creates a new file, whose permissions are `mode` without the bits of the umask. The call fails if the name exists, even as a link.
 pub fn make<R: Files<File = File>>(rt: &R, name: &str, mode: u32) -> io::Result<File> {
     OpenOptions::new()
         .read(true)
@@ -295,7 +295,7 @@ pub fn make<R: Files<File = File>>(rt: &R, name: &str, mode: u32) -> io::Result<
         .open(rt, name)
 }
 
-// Sets the owner and the group, each as far as the system lets this user. Returns the resulting standing.
+// Sets the owner and the group, each if the system lets this user set it. Returns the resulting standing.
 fn give(file: &File, like: Standing) -> io::Result<Standing> {
     let own = standing_of(&file.metadata()?);
     if own.owner != like.owner {
@@ -307,7 +307,7 @@ fn give(file: &File, like: Standing) -> io::Result<Standing> {
     Ok(standing_of(&file.metadata()?))
 }
 
-/// Converts a fault of a file next to a database: to `Unsafe`, or to `other`.
+/// Converts a fault of a file next to a database. `Unsafe` stays `Unsafe`, and any other fault becomes `other`.
 pub fn side_fault(fault: &SideFault, other: FilesFault) -> FilesFault {
     match fault {
         SideFault::Unsafe => FilesFault::Unsafe,

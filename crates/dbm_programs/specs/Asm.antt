@@ -22,7 +22,7 @@ abbrev pub AsmAsks : List Row → Asm → Type 0
 AsmAsks rows asm =
     IsWord (codes "FILE") rows asm.file
 
--- a line with the image, in hex, of the only code that the text denotes
+-- the line has the image, in hex, of the only code that the text denotes
 pub record IsAssembled (text line : List ℕ) : Type 0 where
   pub code : List Insn
   pub denotes : Denotes text code
@@ -37,6 +37,6 @@ asm_in given = record {
   causes = text_causes given.file.items;
 }
 
--- what it needs beside its own words
+-- the file that the subcommand reads
 abbrev pub asm_head : Asm → Head
 asm_head asm = record (head_on None) { file = Some asm.file }

@@ -23,14 +23,14 @@ abbrev pub DisasmAsks : List Row → Disasm → Type 0
 DisasmAsks rows disasm =
     IsWord (codes "FILE") rows disasm.file
 
--- a text of the code in a program image
+-- the text denotes the code in the program image
 pub record IsDisassembled (image text : List ℕ) : Type 0 where
   pub code : List Insn
   pub is_image : IsImage code image
   pub denotes : Denotes text code
   pub is : text ≡ text_of code
 
--- the faults of the file of a program's image
+-- the faults of a file with the image of a program
 abbrev pub image_causes : List ℕ → Causes
 image_causes file = record no_causes { decoding = IsUndecoded file }
 
@@ -40,6 +40,6 @@ disasm_in given = record {
   causes = image_causes given.file.items;
 }
 
--- what it needs beside its own words
+-- the file that the subcommand reads
 abbrev pub disasm_head : Disasm → Head
 disasm_head disasm = record (head_on None) { file = Some disasm.file; image = true }

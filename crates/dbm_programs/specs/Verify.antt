@@ -24,6 +24,6 @@ verify_in verify given = record {
   causes = file_causes verify.image given.file.items;
 }
 
--- what it needs beside its own words
+-- the file that the subcommand reads
 abbrev pub verify_head : Verify → Head
 verify_head verify = record (head_on None) { file = Some verify.file; image = verify.image }

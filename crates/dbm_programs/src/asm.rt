@@ -1,4 +1,4 @@
-//! `asm`: prints the image of a program's text.
+//! `asm`: prints the image of a program, given its text.
 ghost use Rattle.std.specs.Prelude.{◌≡◌, IfOk, IfSome, IsNone, false};
 ghost use Rattle.clap.specs.Words.{found_of, rows_of};
 ghost use Rattle.dbm_args.specs.CommandLine.{IsSubcommand};
@@ -14,7 +14,7 @@ use dbm_script::Notation;
 use std::alloc::{AllocError, Global};
 use std::io::Read;
 
-/// The subcommand `asm`.
+/// The arguments of `asm`.
 #[derive(Clone, Copy, Debug)]
 pub struct Asm<'a> {
     pub file: &'a str,
@@ -31,7 +31,7 @@ impl<'a> Asm<'a> {
         })
     }
 
-    /// What the program prepares for the subcommand.
+    /// Returns the file that the subcommand reads.
     pub fn head(&self) -> Head<'a>
         ensures { result ≡ asm_head self.now }
     {

@@ -1,4 +1,4 @@
-//! `disasm`: prints the text of a program's image.
+//! `disasm`: prints the text of a program, given its image.
 ghost use Rattle.std.specs.Prelude.{◌≡◌, IfOk, IfSome, IsNone, false};
 ghost use Rattle.clap.specs.Words.{found_of, rows_of};
 ghost use Rattle.dbm_args.specs.CommandLine.{IsSubcommand};
@@ -16,7 +16,7 @@ use dbm_script::Notation;
 use std::alloc::{AllocError, Global};
 use std::io::Read;
 
-/// The subcommand `disasm`.
+/// The arguments of `disasm`.
 #[derive(Clone, Copy, Debug)]
 pub struct Disasm<'a> {
     pub file: &'a str,
@@ -33,7 +33,7 @@ impl<'a> Disasm<'a> {
         })
     }
 
-    /// What the program prepares for the subcommand.
+    /// Returns the file that the subcommand reads.
     pub fn head(&self) -> Head<'a>
         ensures { result ≡ disasm_head self.now }
     {

@@ -1,4 +1,4 @@
-//! The verdict on the program of a file.
+//! Finds the verdict on the program in a file.
 ghost use Rattle.std.specs.Prelude.{◌≡◌, IfOk, IfErr};
 ghost use Rattle.dbm_reports.specs.Causes.{IsCaused, file_causes};
 ghost use Rattle.dbm_programs.specs.Judging.{Judges, Verifies, accepted_line};
@@ -8,11 +8,11 @@ use itoa::Buffer;
 use prog_registry::Registry;
 use std::alloc::{AllocError, Allocator, Global};
 
-/// Reports the verdict on the program of a file: accepted, or refused with the reason. The reason reads like the answer to the first line
-/// of a script, if that line submits the image.
+/// Reports the verdict on the program in a file: accepted, or refused with the reason. A refusal has the same text as the answer to a
+/// script line that submits the image.
 ///
 /// # Errors
-/// Those of `file_image`, and `NoMemory`.
+/// The errors of `file_image`, and `NoMemory`.
 pub fn verify_file(alloc: Global, file: &[u8], is_image: bool) -> Result<Report, ReportFault>
     ensures ok { IfOk result (Verifies is_image file.now) }
     ensures fault { IfErr result (IsCaused (file_causes is_image file.now)) }

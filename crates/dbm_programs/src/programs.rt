@@ -11,7 +11,7 @@ use dbm_args::{Words, subcommand, word};
 use std::alloc::{AllocError, Global};
 use stock_names::{ProgramWord, Stock, read_word};
 
-/// The subcommand `programs`. Lists the stock programs, or describes the named one.
+/// The arguments of `programs`, which lists the stock programs or describes the named one.
 #[derive(Clone, Copy, Debug)]
 pub struct Programs<'a> {
     pub name: Option<&'a str>,
@@ -35,8 +35,8 @@ impl<'a> Programs<'a> {
         }
     }
 
-    /// The text to print: a line for each stock program, or the table of the named one, with or without `@`. Returns `None` if no stock
-    /// program has the name.
+    /// Returns the text to print: a line for each stock program, or the table of the named one. The name may begin with `@`. Returns `None`
+    /// if no stock program has the name.
     ///
     /// # Errors
     /// `AllocError` if allocation fails.
@@ -51,7 +51,7 @@ impl<'a> Programs<'a> {
     }
 }
 
-// The stock program with this name, with or without `@`.
+// Finds the stock program with this name, which may begin with `@`.
 fn stock_named(name: &str) -> Option<Stock> {
     match read_word(name.as_bytes()) {
         ProgramWord::Stock(stock) => Some(stock),

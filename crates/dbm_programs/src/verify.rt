@@ -1,4 +1,4 @@
-//! `verify`: verifies a program, and prints why it is refused.
+//! `verify`: verifies a program, and prints the verdict.
 ghost use Rattle.std.specs.Prelude.{◌≡◌, IfOk, IfSome, IsNone, false, IfErr};
 ghost use Rattle.clap.specs.Words.{found_of, rows_of};
 ghost use Rattle.dbm_args.specs.CommandLine.{IsSubcommand};
@@ -23,7 +23,7 @@ use prog_registry::RegFault;
 use std::alloc::{AllocError, Global};
 use std::io::Read;
 
-/// The subcommand `verify`. The file is the text of a program, or with `image` its image. With `explain` the verdict is explained.
+/// The arguments of `verify`. `file` has the text of a program, or with `image` its image. With `explain`, the verdict is explained.
 #[derive(Clone, Copy, Debug)]
 pub struct Verify<'a> {
     pub file: &'a str,
@@ -44,7 +44,7 @@ impl<'a> Verify<'a> {
         })
     }
 
-    /// What the program prepares for the subcommand.
+    /// Returns the file that the subcommand reads.
     pub fn head(&self) -> Head<'a>
         ensures { result ≡ verify_head self.now }
     {
@@ -92,8 +92,8 @@ pub fn verify_command<'a>(alloc: Global) -> Result<Command<'a>, AllocError>
     subcommand(alloc, "verify", about, notes, args)
 }
 
-// With `explain`, the line of `verify_file` comes after the instructions of the program, each with the facts known before it. If the image
-// cannot be decoded, only that line is printed.
+// With `explain`, the instructions of the program come first, each with the facts known before it, and then the line of `verify_file`. If
+// the image cannot be decoded, only that line is printed.
 impl Subcommand for Verify<'_> {
     ghost use Rattle.std.specs.Prelude.{false};
     ghost use Rattle.dbm_programs.specs.Verify.{verify_in};
@@ -133,7 +133,7 @@ fn explain_file(alloc: Global, file: &[u8], is_image: bool) -> Result<Report, Re
     Ok(explain_image(alloc, image.as_slice(), source)?)
 }
 
-// The text of a program's file. Returns `None` if the file is an image or not text.
+// Returns the text of a program's file, or `None` if the file is an image or not UTF-8.
 fn source_of(file: &[u8], is_image: bool) -> Option<&str> {
     if is_image {
         return None;
@@ -174,7 +174,7 @@ fn explain_code(
     }
 }
 
-// Explains why a program is accepted.
+// Explains why the verifier accepts a program.
 fn explain_examined(
     alloc: Global,
     examined: Examined<Global>,
@@ -189,7 +189,7 @@ fn explain_examined(
     behind(rows, printed(line))
 }
 
-// Explains why a program is refused.
+// Explains why the verifier refuses a program.
 fn explain_refusal(
     alloc: Global,
     program: Refused<Global>,
@@ -204,7 +204,7 @@ fn explain_refusal(
     behind(rows, last)
 }
 
-// Rows, an LF, and then the text of `last`.
+// Puts rows and an LF before the text of the report `last`.
 fn behind(rows: String, last: Report) -> Result<Report, AllocError>
     ensures { IfOk result (EndsAs last) }
 {
@@ -225,7 +225,7 @@ fn behind(rows: String, last: Report) -> Result<Report, AllocError>
     })
 }
 
-/// Why the program of a file is refused, as a sentence. Returns `None` if it is accepted, or if the file is not a program.
+/// Returns a sentence that says why the program in a file is refused, or `None` if the program is accepted or the file is not a program.
 ///
 /// # Errors
 /// `AllocError` if allocation fails.

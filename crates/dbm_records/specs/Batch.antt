@@ -8,11 +8,11 @@ use Rattle.dbm_args.specs.CommandLine.{required_word, flag, subcommand, writing_
 use Rattle.dbm_args.specs.Heads.{head_on}
 use Rattle.dbm_args.specs.declared.options.Head.{Head}
 
--- the word for one worker per core, which is also the default
+-- the argument that means one worker for each core, which is also the default
 abbrev pub each_core : Text
 each_core = codes "cores"
 
--- the number of workers, as a word
+-- the argument for the number of workers
 abbrev pub workers_in : List Row → Text
 workers_in rows = option_map_or (λ word. word) (first_of (codes "WORKERS") rows) each_core
 
@@ -23,6 +23,6 @@ abbrev pub BatchAsks : List Row → Batch → Type 0
 BatchAsks rows batch =
     IsWord (codes "BASE") rows batch.base × (IsForm rows batch.form × (IsNotation rows batch.notation × (IsWord (codes "FILE") rows batch.file × ((batch.workers.now ≡ workers_in rows) × ((batch.image ≡ is_given (codes "image") rows) × ((batch.clock ≡ is_given (codes "clock") rows) × (batch.time ≡ None)))))))
 
--- what it needs beside its own words
+-- the files of the subcommand and the notation of its arguments
 abbrev pub batch_head : Batch → Head
 batch_head batch = record (head_on (Some batch.base)) { file = Some batch.file; image = batch.image; writes = true; notation = batch.notation }

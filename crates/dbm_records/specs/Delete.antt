@@ -27,6 +27,6 @@ delete_in n delete given = record {
   causes = command_causes n delete.form given (delete_words (word_asked delete.raw_key n delete.key.now));
 }
 
--- what it needs beside its own words
+-- the files of the subcommand and the notation of its arguments
 abbrev pub delete_head : Delete → Head
 delete_head delete = record (head_on (Some delete.base)) { writes = true; notation = delete.notation }

@@ -17,7 +17,7 @@ use Rattle.dbm_reports.specs.Reports.{ReportsRefusal}
 use Rattle.dbm_reports.specs.declared.report.Report.{Report}
 use Rattle.dbm_records.specs.declared.each_run.EachWords.{EachWords}
 
--- the keys of the pairs that begin with a prefix, in their order
+-- the keys that begin with a prefix, in the order of the pairs
 abbrev pub keys_with : List ℕ → List Pair → List (List ℕ)
 keys_with prefix pairs = map_list (λ (e : Pair). e.0) (filter (λ (e : Pair). starts_with nat_eq e.0 prefix) pairs)
 
@@ -25,36 +25,37 @@ keys_with prefix pairs = map_list (λ (e : Pair). e.0) (filter (λ (e : Pair). s
 abbrev pub keys_of_each : EachWords → Database → List (List ℕ)
 keys_of_each words db = keys_with words.prefix (map.entries (map_of db))
 
--- a code runs on the record of a key, as session 0; the answer may be any
+-- the code runs on the record of a key as session 0, with any answer
 abbrev pub RunsCode : List Insn → EachWords → Database → List ℕ → Database → Type 0
 RunsCode code words before key after = (answer : Answer Global) × IsAnswerTo Global before (Run key code words.arg None words.time) answer after
 
--- a code runs once for each key, in order
+-- the code runs once for each key, in order
 abbrev pub RunsInTurn : List Insn → EachWords → Database → List (List ℕ) → Database → Type 0
 RunsInTurn code words before [] after = after ≡ before
 RunsInTurn code words before (key ∷ keys) after = (mid : Database) × (RunsCode code words before key mid × RunsInTurn code words mid keys after)
 
--- the program with a number runs on the record of a key, and on those of keys in order
+-- the program with this number runs on the record of a key
 abbrev pub RunsOne : List Accepted → ℕ → EachWords → Database → List ℕ → Database → Type 0
 RunsOne programs prog words before key after = (p : Accepted) × ((slice_get programs prog ≡ Some p) × RunsCode p.code words before key after)
 
+-- the program with this number runs once for each key, in order
 abbrev pub RunsAll : List Accepted → ℕ → EachWords → Database → List (List ℕ) → Database → Type 0
 RunsAll programs prog words before [] after = after ≡ before
 RunsAll programs prog words before (key ∷ keys) after = (mid : Database) × (RunsOne programs prog words before key mid × RunsAll programs prog words mid keys after)
 
--- the database to write; a dry run has none
+-- the database to save; a dry run has none
 abbrev pub written_by : Bool → Database → Option Database
 written_by true db = None
 written_by false db = Some db
 
--- the report of the runs of the program with a number
+-- the report after the program with this number ran once on each record
 pub record RunsNumber (programs : List Accepted) (prog : ℕ) (before : Database) (words : EachWords) (is_dry : Bool) (report : Report) : Type 0 where
   pub after : Database
   pub runs : RunsAll programs prog words before (keys_of_each words before) after
   pub status_is : report.status ≡ 0
   pub written : report.database ≡ written_by is_dry after
 
--- the accepted program of an image runs once on each record
+-- the report after the accepted program of the image ran once on each record
 pub record RunsProgram (before : Database) (words : EachWords) (image : List ℕ) (is_dry : Bool) (report : Report) : Type 0 where
   pub program : Accepted
   pub program_is : IsProgramOf image program
@@ -63,7 +64,7 @@ pub record RunsProgram (before : Database) (words : EachWords) (image : List ℕ
   pub status_is : report.status ≡ 0
   pub written : report.database ≡ written_by is_dry after
 
--- either it runs, or a registry without programs refuses the image
+-- either the program of the image runs, or a registry without programs refuses the image
 abbrev pub RunsEach : Database → EachWords → List ℕ → Bool → Report → Type 0
 RunsEach before words image is_dry report =
     RunsProgram before words image is_dry report

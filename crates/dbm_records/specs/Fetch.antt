@@ -31,7 +31,7 @@ abbrev pub bytes_or_none : Option (List ℕ) → List ℕ
 bytes_or_none None = []
 bytes_or_none (Some bytes) = bytes
 
--- prints only the bytes of the value that the command finds
+-- the report prints only the bytes of the value that the command finds
 pub record ShowsValue (before : Database) (command : Command Global) (report : Report) : Type 0 where
   pub answer : Answer Global
   pub after : Database
@@ -40,7 +40,7 @@ pub record ShowsValue (before : Database) (command : Command Global) (report : R
   pub status_is : report.status ≡ answer_status answer
   pub written : report.database ≡ None
 
--- prints the answer as a line, or only the bytes of the value
+-- the report prints the answer as a line, or only the bytes of the value
 abbrev pub FetchShows : Bool → Notation Global → Database → Command Global → Report → Type 0
 FetchShows false n before command report = Looks n before command report
 FetchShows true n before command report = ShowsValue before command report
@@ -51,6 +51,6 @@ fetch_in n fetch given = record {
   causes = command_causes n fetch.form given (fetch_words (word_asked fetch.raw_key n fetch.key.now));
 }
 
--- what it needs beside its own words
+-- the files of the subcommand and the notation of its arguments
 abbrev pub fetch_head : Fetch → Head
 fetch_head fetch = record (head_on (Some fetch.base)) { notation = fetch.notation }

@@ -1,10 +1,11 @@
--- The arguments of `incr`, its results and its errors.
-use Rattle.std.specs.Prelude.{◌≡◌, ℕ, ◌++◌, List, [], ◌∷◌, codes, cond, drop, length, min, nat_eq, Option, Some, None, true, false}
+-- The arguments of `incr`, its possible reports, and the conditions of its faults.
+use Rattle.std.specs.Prelude.{◌≡◌, ℕ, ◌++◌, List, [], ◌∷◌, codes, cond, drop, length, min, nat_eq, Option, Some, None, IsSome, true, false}
 use Rattle.std.specs.List.{starts_with}
 use Rattle.std.specs.Borrow.{Bor}
 use Rattle.std.specs.declared.alloc.Global.{Global}
 use Rattle.clap.specs.Words.{Shape, Row, Text, new_rule}
-use Rattle.byte_text.specs.Numbers.{low_bytes, number_of, signed_of}
+use Rattle.byte_text.specs.Numbers.{number_of, signed_of}
+use Rattle.dbm_script.specs.Incr.{counter_argument}
 use Rattle.sdbm_addr.specs.Database.{Database}
 use Rattle.bpf_insn.specs.Code.{IsImage}
 use Rattle.stock_programs.specs.BoundedCounter.{bounded_counter}
@@ -33,16 +34,16 @@ abbrev pub IncrAsks : List Row → Incr → Type 0
 IncrAsks rows incr =
     IsWord (codes "BASE") rows incr.base × (IsForm rows incr.form × (IsNotation rows incr.notation × (IsWord (codes "KEY") rows incr.key × (IsOptionGiven (codes "AMOUNT") rows incr.amount × (IsOptionGiven (codes "min") rows incr.min × (IsOptionGiven (codes "max") rows incr.max × (incr.raw_key ≡ is_given (codes "raw-key") rows)))))))
 
--- what it needs beside its own words
+-- the files of the subcommand and the notation of its arguments
 abbrev pub incr_head : Incr → Head
 incr_head incr = record (head_on (Some incr.base)) { writes = true; notation = incr.notation }
 
--- the amount, by default 1
+-- the amount, by default 1; None if the argument is not a number
 abbrev pub amount_in : Option (Bor Text) → Option ℕ
 amount_in None = Some 1
 amount_in (Some word) = signed_of word.now
 
--- a bound, or its default
+-- a bound, by default `least`; None if the option is not a number
 abbrev pub bound_in : ℕ → Option (Bor Text) → Option ℕ
 bound_in least None = Some least
 bound_in least (Some word) = number_of 18446744073709551615 word.now
@@ -57,24 +58,28 @@ all_numbers (Some amount) (Some min) (Some max) = Some (record { amount = amount
 abbrev pub numbers_of : Option (Bor Text) → Option (Bor Text) → Option (Bor Text) → Option IncrNumbers
 numbers_of amount min max = all_numbers (amount_in amount) (bound_in 0 min) (bound_in 18446744073709551615 max)
 
--- the argument of the stock program
-abbrev pub incr_argument : IncrNumbers → List ℕ
-incr_argument numbers = low_bytes 8 numbers.amount ++ (low_bytes 8 numbers.min ++ low_bytes 8 numbers.max)
-
--- the run of the stock program on the key's record, which begins as 8 zeros
+-- the words of the run of the stock program; the record of a missing key begins as 8 zeros
 abbrev pub incr_words : List ℕ → IncrNumbers → RunWords Global
-incr_words key numbers = record { key = key; arg = incr_argument numbers; blank = Some 8; now = 0 }
+incr_words key numbers = record { key = key; arg = counter_argument numbers.amount numbers.min numbers.max; blank = Some 8; now = 0 }
 
 -- the text without `ran CODE ` at its start, where CODE is one digit
-abbrev pub number_alone : List ℕ → List ℕ
-number_alone text = cond (starts_with nat_eq text (codes "ran ")) (drop (min (length text) 6) text) text
+abbrev pub after_code : List ℕ → List ℕ
+after_code text = cond (starts_with nat_eq text (codes "ran ")) (drop (min (length text) 6) text) text
 
--- the report of a run of `bounded_counter` that should return 1, with its reply word alone as the text
+-- the same, but code 4 says that the value is too short
+abbrev pub number_alone : List ℕ → List ℕ
+number_alone text = cond (starts_with nat_eq text (codes "ran 4 ")) (codes "too short" ++ 10 ∷ []) (after_code text)
+
+-- the bytes of the key; None if the argument is invalid
+abbrev pub key_asked : Notation Global → Incr → Option (List ℕ)
+key_asked n incr = bytes_of_word n (word_asked incr.raw_key n incr.key.now)
+
+-- the report of a run of `bounded_counter` with the expected code 1; if the program ran, the text is its reply word alone
 pub record OnIncr (n : Notation Global) (incr : Incr) (given : Given) (report : Report) : Type 0 where
   pub before : Database
   pub opened : IsOpened incr.form given before
   pub key : List ℕ
-  pub key_is : bytes_of_word n (word_asked incr.raw_key n incr.key.now) ≡ Some key
+  pub key_is : key_asked n incr ≡ Some key
   pub numbers : IncrNumbers
   pub numbers_are : numbers_of incr.amount incr.min incr.max ≡ Some numbers
   pub image : List ℕ
@@ -85,19 +90,20 @@ pub record OnIncr (n : Notation Global) (incr : Incr) (given : Given) (report : 
   pub status_is : report.status ≡ run.status
   pub written : report.database ≡ run.database
 
--- the key's word is not valid bytes
+-- the fault of an invalid key
 abbrev pub key_causes : Notation Global → List ℕ → Causes
 key_causes n word = record no_causes {
   words = (reads_hex n ≡ true) × (bytes_of_word n word ≡ None);
   texts = (reads_hex n ≡ false) × (bytes_of_word n word ≡ None);
 }
 
+-- the faults of the subcommand; the key is read first, then the numbers, and then the database is opened
 abbrev pub incr_causes : Notation Global → Incr → Given → Causes
 incr_causes n incr given = record no_causes {
-  words = (reads_hex n ≡ true) × (bytes_of_word n (word_asked incr.raw_key n incr.key.now) ≡ None);
-  texts = (reads_hex n ≡ false) × (bytes_of_word n (word_asked incr.raw_key n incr.key.now) ≡ None);
-  numbers = numbers_of incr.amount incr.min incr.max ≡ None;
-  opening = IsShut incr.form given;
+  words = (reads_hex n ≡ true) × (key_asked n incr ≡ None);
+  texts = (reads_hex n ≡ false) × (key_asked n incr ≡ None);
+  numbers = IsSome (key_asked n incr) × (numbers_of incr.amount incr.min incr.max ≡ None);
+  opening = λ reason. (IsSome (key_asked n incr) × IsSome (numbers_of incr.amount incr.min incr.max)) × IsShut incr.form given reason;
 }
 
 abbrev pub incr_in : Notation Global → Incr → Given → Known

@@ -21,31 +21,31 @@ use Rattle.dbm_records.specs.declared.run.Run.{Run}
 use Rattle.dbm_records.specs.declared.page_request.PageRequest.{PageRequest}
 use Rattle.dbm_records.specs.declared.page_request.PageRequest.TheVariants as asked
 
--- it is about a key
+-- the request is about a key
 abbrev pub IsKeyed : PageRequest → Type 0
 IsKeyed (asked.Fetch command raw) = HasKey command
 IsKeyed (asked.Change command) = HasKey command
 IsKeyed (asked.Run words program expect) = Unit {0}
 
--- the key
+-- the key of a request
 abbrev pub request_key : PageRequest → List ℕ
 request_key (asked.Fetch command raw) = key_of command
 request_key (asked.Change command) = key_of command
 request_key (asked.Run words program expect) = words.key
 
--- its result on a database
+-- the result of a request on a database
 abbrev pub AnswersRequest : Notation Global → PageRequest → Database → Report → Type 0
 AnswersRequest n (asked.Fetch command raw) db report = FetchShows raw n db command report
 AnswersRequest n (asked.Change command) db report = ChangesFiles n db command None report
 AnswersRequest n (asked.Run words program expect) db report = RunsImage n db words expect program.items report
 
--- The request matches the words: it is about a key, and its result on the database of the files is also the result of the words on these
--- files.
+-- The request means the same as the arguments of a subcommand. It is about a key, and its result on the database of the files is a result
+-- that the subcommand allows (`comes`).
 pub record IsMeant (form : Form) (file : List ℕ) (n : Notation Global) (comes : Given → Report → Type 0) (asked : PageRequest) : Type 0 where
   pub keyed : IsKeyed asked
   pub same : (given : Given) (db : Database) (report : Report) → given.file.items ≡ file → IsOpened form given db → AnswersRequest n asked db report → comes given report
 
--- the result of each subcommand, with files and without standard input
+-- the reports that each subcommand allows on the files; a store must not depend on standard input
 abbrev pub FetchComes : Notation Global → Fetch → Given → Report → Type 0
 FetchComes n fetch given report = (fetch_in n fetch given).reports report
 

@@ -40,26 +40,26 @@ abbrev pub is_stored : {A : Type 0} → Answer A → Bool
 is_stored (Replied entry) = stored_in entry.reply
 is_stored (Refused fault) = false
 
--- a command with its answer as a line, and the status of the answer
+-- the command has this answer; the text is the answer as a line, and the status is that of the answer
 pub record IsTold (n : Notation Global) (before : Database) (command : Command Global) (answer : Answer Global) (after : Database) (text : List ℕ) (status : ℕ) : Type 0 where
   pub answers : IsAnswerTo Global before command answer after
   pub text_is : text ≡ answer_text n answer ++ 10 ∷ []
   pub status_is : status ≡ answer_status answer
 
--- the pair has its new key, and the old key is deleted if it is different
+-- after the value is stored under the new key, the old key is deleted if it is different
 pub record IsRenamed (stored : Database) (key new : List ℕ) (after : Database) (text : List ℕ) (status : ℕ) : Type 0 where
   pub left : ((key ≡ new) × (after ≡ stored)) ⊎ ((key ≢ new) × ((answer : Answer Global) × IsAnswerTo Global stored (Delete key) answer after))
   pub text_is : text ≡ codes "renamed\n"
   pub status_is : status ≡ 0
 
--- stores the value under the new key, or reports why not
+-- the value is stored under the new key, or the text gives the answer that says why not
 abbrev pub StoresAnew : Notation Global → Database → List ℕ → List ℕ → List ℕ → Mode → Database → List ℕ → ℕ → Type 0
 StoresAnew n found key new value mode after text status =
     (answer : Answer Global) × ((stored : Database)
     × (((is_stored answer ≡ false) × IsTold n found (Store new value mode) answer after text status)
     ⊎ ((is_stored answer ≡ true) × (IsAnswerTo Global found (Store new value mode) answer stored × IsRenamed stored key new after text status))))
 
--- finds the value of the key and stores it again, or reports that the key is missing
+-- the value of the key is found and stored under the new key, or the text gives the answer of the fetch
 abbrev pub Renames : Notation Global → Database → List ℕ → List ℕ → Mode → Database → List ℕ → ℕ → Type 0
 Renames n before key new mode after text status =
     (answer : Answer Global) × ((found : Database)
@@ -71,7 +71,7 @@ abbrev pub is_store_command : {A : Type 0} → Command A → Bool
 is_store_command (Store key value mode) = true
 is_store_command _ = false
 
--- The keys are read like the words of a store, with the new key as its value.
+-- a rename, given as a store command whose value is the new key
 abbrev pub RenamesBy : Notation Global → Database → Command Global → Report → Type 0
 RenamesBy n before (Store key new mode) report =
     (after : Database) × (Renames n before key new mode after report.text.items report.status × (report.database ≡ Some after))
@@ -83,6 +83,6 @@ rename_in n rename given = record {
   causes = command_causes n rename.form given (store_words (word_asked rename.raw_key n rename.key.now) (word_asked rename.raw_key n rename.new_key.now) (not rename.replace));
 }
 
--- what it needs beside its own words
+-- the files of the subcommand and the notation of its arguments
 abbrev pub rename_head : Rename → Head
 rename_head rename = record (head_on (Some rename.base)) { writes = true; notation = rename.notation }

@@ -1,4 +1,4 @@
--- The arguments of `run`, its results and its errors.
+-- The arguments of `run`, its possible reports, and the conditions of its faults.
 use Rattle.std.specs.Prelude.{◌≡◌, ℕ, List, ◌∷◌, codes, Some, true}
 use Rattle.clap.specs.Words.{Shape, Row}
 use Rattle.dbm_args.specs.Given.{IsForm, IsOptionGiven, IsNotation, IsWord, is_given}
@@ -20,7 +20,7 @@ abbrev pub RunAsks : List Row → Run → Type 0
 RunAsks rows run =
     IsWord (codes "BASE") rows run.base × (IsForm rows run.form × (IsNotation rows run.notation × (IsWord (codes "KEY") rows run.key × (IsWord (codes "FILE") rows run.file × (IsWord (codes "ARG") rows run.arg × (IsWord (codes "BLANK") rows run.blank × (IsWord (codes "NOW") rows run.now × (IsOptionGiven (codes "expect") rows run.expect × ((run.image ≡ is_given (codes "image") rows) × (run.raw_key ≡ is_given (codes "raw-key") rows))))))))))
 
--- the words of a run, given the bytes of its key
+-- the words of a run, given the word of its key
 abbrev pub texts_by : List ℕ → Run → RunTexts
 texts_by key run = record { key = key; arg = run.arg.now; blank = run.blank.now; now = run.now.now; expect = run.expect }
 
@@ -33,6 +33,6 @@ run_in n run given = record {
   causes = run_causes n run.form given (texts_of n run) run.image;
 }
 
--- what it needs beside its own words
+-- the files of the subcommand and the notation of its arguments
 abbrev pub run_head : Run → Head
 run_head run = record (head_on (Some run.base)) { file = Some run.file; image = run.image; writes = true; notation = run.notation }

@@ -1,4 +1,4 @@
--- A run of a program from a file on a database, and its errors.
+-- A run of a program from a file on a database, and the conditions of its faults.
 use Rattle.std.specs.Prelude.{◌≡◌, ℕ, ◌⊎◌, Bool, true, false, List, [], Option, Some, None, IsSome, option_map}
 use Rattle.std.specs.Borrow.{Bor}
 use Rattle.std.specs.declared.alloc.Global.{Global}
@@ -20,7 +20,7 @@ use Rattle.dbm_script.specs.Numbers.{number_of}
 use Rattle.dbm_reports.specs.Reports.{ChangesFiles, IsFileImage, ReportsRefusal}
 use Rattle.dbm_reports.specs.Causes.{Causes, no_causes, file_causes}
 
--- the words of a run, and its expected code, as they were given
+-- the words of a run and its expected code, as given on the command line
 pub record RunTexts : Type 0 where
   pub key : List ℕ
   pub arg : List ℕ
@@ -28,12 +28,12 @@ pub record RunTexts : Type 0 where
   pub now : List ℕ
   pub expect : Option (Bor (List ℕ))
 
--- the expected code of a run, if any; `None` if the option is not a number
+-- the expected code of a run, if there is one; None if the option is not a number
 abbrev pub expected_code : Option (Bor (List ℕ)) → Option (Option ℕ)
 expected_code None = Some None
 expected_code (Some text) = option_map Some (number_of 18446744073709551615 text.now)
 
--- what the words of a run mean
+-- the meaning of the words of a run
 abbrev pub run_asked : Notation Global → RunTexts → Option (RunWords Global)
 run_asked notation texts = run_words_of notation texts.key texts.arg texts.blank texts.now
 
@@ -44,7 +44,7 @@ AreRunWords notation texts words expect = (run_asked notation texts ≡ Some wor
 abbrev pub MeansRun : Notation Global → RunTexts → Type 0
 MeansRun notation texts = (words : RunWords Global) × ((expect : Option ℕ) × AreRunWords notation texts words expect)
 
--- the words are valid, but the code is not a number
+-- the words are valid, but the expected code is not a number
 abbrev pub HasBadCode : Notation Global → RunTexts → Type 0
 HasBadCode notation texts = IsSome (run_asked notation texts) × (expected_code texts.expect ≡ None)
 
@@ -55,7 +55,7 @@ word_causes notation texts = record no_causes {
   numbers = HasBadNumber notation texts.key texts.arg texts.blank texts.now ⊎ HasBadCode notation texts;
 }
 
--- the database's files are opened first, then the program's file is read
+-- the faults of the files; those of the database come before that of the program
 abbrev pub program_causes : Form → Given → Bool → Causes
 program_causes form given is_image = record no_causes {
   opening = IsShut form given;
@@ -63,7 +63,7 @@ program_causes form given is_image = record no_causes {
   assembling = λ fault. CanBeOpened form given × (file_causes is_image given.file.items).assembling fault;
 }
 
--- a run checks its words before it opens files
+-- the faults of a run; those of the words come before those of the files
 abbrev pub run_causes : Notation Global → Form → Given → RunTexts → Bool → Causes
 run_causes notation form given texts is_image = record no_causes {
   words = (word_causes notation texts).words;
@@ -79,14 +79,14 @@ abbrev pub refusal_status : Option ℕ → ℕ
 refusal_status None = 1
 refusal_status (Some code) = 3
 
--- Either the accepted program of the image runs and answers a command, and the files are written; or a registry without programs
--- refuses the image, and the files are written with the database unchanged.
+-- Either the image is that of an accepted program, and the report is that of its run. Or a registry without programs refuses the image, and
+-- the report gives the reason and the unchanged database.
 abbrev pub RunsImage : Notation Global → Database → RunWords Global → Option ℕ → List ℕ → Report → Type 0
 RunsImage notation before words expect image report =
     ((p : Accepted) × (IsProgramOf image p × ChangesFiles notation before (Run words.key p.code words.arg words.blank words.now) expect report))
     ⊎ ((fault : RegFault) × (Denies [] image fault × ReportsRefusal fault (refusal_status expect) (Some before) report))
 
--- the result of a run on the database of the files, with the program of a file
+-- the report of a run on the database of the files, with the program of the program's file
 pub record OnRun (notation : Notation Global) (form : Form) (given : Given) (texts : RunTexts) (is_image : Bool) (report : Report) : Type 0 where
   pub before : Database
   pub opened : IsOpened form given before

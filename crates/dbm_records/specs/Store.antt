@@ -27,7 +27,7 @@ abbrev pub StoreAsks : List Row → Store → Type 0
 StoreAsks rows store =
     IsWord (codes "BASE") rows store.base × (IsForm rows store.form × (IsNotation rows store.notation × (IsWord (codes "KEY") rows store.key × (IsWord (codes "VALUE") rows store.value × ((store.insert ≡ is_given (codes "insert") rows) × ((store.raw_key ≡ is_given (codes "raw-key") rows) × (store.raw_value ≡ is_given (codes "raw-value") rows)))))))
 
--- the value is all of standard input
+-- the value is standard input
 abbrev pub takes_input : Store → Bool
 takes_input store = store.raw_value && bytes_eq store.value.now (codes "-")
 
@@ -40,11 +40,11 @@ with_store_value value command = command
 abbrev pub words_by : Notation Global → Store → List ℕ → List (List ℕ)
 words_by n store value = store_words (word_asked store.raw_key n store.key.now) value store.insert
 
--- the words are a store, and the files can be opened
+-- the key is valid and the files can be opened, so standard input may be read
 abbrev pub MayRead : Notation Global → Store → Given → Type 0
 MayRead n store given = (command_of_words n (words_by n store (codes ".")) ≢ None) × CanBeOpened store.form given
 
--- standard input is read after checking the words and opening the files
+-- the faults of a store of standard input, which is read after the words are checked and the files are opened
 abbrev pub input_store_causes : Notation Global → Store → Given → Option (List ℕ) → Causes
 input_store_causes n store given input = record (command_causes n store.form given (words_by n store (codes "."))) {
   reading = MayRead n store given;
@@ -65,6 +65,6 @@ store_by true n store given input = record {
 abbrev pub store_in : Notation Global → Store → Given → Option (List ℕ) → Known
 store_in n store given input = store_by (takes_input store) n store given input
 
--- what it needs beside its own words
+-- the files of the subcommand and the notation of its arguments
 abbrev pub store_head : Store → Head
 store_head store = record (head_on (Some store.base)) { writes = true; notation = store.notation }

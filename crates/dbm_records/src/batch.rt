@@ -1,4 +1,4 @@
-//! The words of `batch`: workers run a program on the records of many keys in parallel.
+//! The arguments of `batch`, in which workers run a program on the records of many keys in parallel.
 ghost use Rattle.std.specs.Prelude.{◌≡◌, IfOk, IfSome, IsNone, codes, false};
 ghost use Rattle.clap.specs.Words.{found_of, new_rule, rows_of, rule_of};
 ghost use Rattle.dbm_args.specs.CommandLine.{IsSubcommand};
@@ -16,10 +16,10 @@ use dbm_args::{
 use dbm_script::TimeOfDay;
 use std::alloc::{AllocError, Global};
 
-/// The word for one worker per core.
+/// The value of `WORKERS` that means one worker for each core.
 pub const EACH_CORE: &str = "cores";
 
-/// Runs a program on the records of many keys, one run for each line of standard input, with `workers` workers. The file is the text of the
+/// The arguments of `batch`, which runs a program once for each line of standard input, with `workers` workers. `file` has the text of the
 /// program, or with `image` its program image.
 #[derive(Clone, Copy, Debug)]
 pub struct Batch<'a> {
@@ -29,9 +29,9 @@ pub struct Batch<'a> {
     pub file: &'a str,
     pub workers: &'a str,
     pub image: bool,
-    /// Its lines may request the time of day.
+    /// Lines may use the time of day.
     pub clock: bool,
-    /// The time for its lines, once the clock was read.
+    /// The time of day for the lines, after the clock was read.
     pub time: Option<TimeOfDay>,
 }
 
@@ -53,7 +53,7 @@ impl<'a> Batch<'a> {
         })
     }
 
-    /// What the program prepares for the subcommand.
+    /// Returns the files of the subcommand and the notation of its arguments.
     pub fn head(&self) -> Head<'a>
         ensures { result ≡ batch_head self.now }
     {
@@ -66,7 +66,7 @@ impl<'a> Batch<'a> {
         }
     }
 
-    /// Its words as messages show them.
+    /// The arguments that messages may show.
     pub fn words(&self) -> Words<'a> {
         Words {
             file: Some(self.file),
@@ -80,7 +80,7 @@ impl<'a> Batch<'a> {
     }
 }
 
-// The number of workers as a word. The default is one per core.
+// The argument for the number of workers. The default is one for each core.
 fn workers_in<'a>(matches: &ArgMatches<'a>) -> &'a str
     ensures { result.now ≡ spec.workers_in (rows_of (found_of matches.now)) }
 {
@@ -90,7 +90,7 @@ fn workers_in<'a>(matches: &ArgMatches<'a>) -> &'a str
     }
 }
 
-// The optional word for the number of workers.
+// Declares the optional argument for the number of workers.
 fn workers_word<'a>(alloc: Global) -> Arg<'a>
     ensures rule { rule_of result ≡ new_rule (codes "WORKERS") }
     ensures local { result.global ≡ false }

@@ -1,4 +1,4 @@
-//! One command on the database of the files.
+//! Reads one command and opens the database that it is for.
 ghost use Rattle.std.specs.Prelude.{◌≡◌, ◌∷◌, map, IfOk, IfErr, None, Some};
 ghost use Rattle.dbm_script.specs.Commands.{command_of_words};
 ghost use Rattle.dbm_args.specs.declared.options.Form.{Form};
@@ -15,10 +15,10 @@ use sdbm_files::Image;
 use std::alloc::Global;
 use store_cmd::{Command, Entry, Reply};
 
-/// Reads the command in the words, and then opens the database of the files.
+/// Reads the command that a name and its arguments describe, then opens the database of the files.
 ///
 /// # Errors
-/// `BadHex` (or in a text notation `BadText`) if a word is invalid, and those of `open`.
+/// `BadHex` (or in a text notation `BadText`) if a word is invalid, and the errors of `open`.
 pub fn command_on(
     alloc: Global,
     notation: &Notation<Global>,
@@ -35,7 +35,7 @@ pub fn command_on(
     Ok((image, command))
 }
 
-/// Reads the command in the words.
+/// Reads the command that a name and its arguments describe.
 ///
 /// # Errors
 /// `BadHex` (or in a text notation `BadText`) if a word is invalid, and `NoMemory`.
@@ -54,7 +54,7 @@ pub fn command_in(
     Ok(command)
 }
 
-/// The value in an answer. Returns the answer as the error if it has no value.
+/// Returns the value in an answer, or the answer itself as the error if it has no value.
 pub fn value_of(answer: Answer<Global>) -> Result<Bytes<Global>, Answer<Global>>
     ensures ok { IfOk result (λ value. value_in answer ≡ Some value) }
     ensures err { IfErr result (λ other. (other ≡ answer) × (value_in answer ≡ None)) }
@@ -77,7 +77,7 @@ pub fn value_of(answer: Answer<Global>) -> Result<Bytes<Global>, Answer<Global>>
     }
 }
 
-/// The word of a key, if messages may show it. A raw word is always valid, so no message shows it.
+/// The argument of a key, if messages may show it. A raw key is always valid, so no message shows it.
 pub fn named_key<'a>(word: &'a str, raw: bool) -> Option<Named<'a>> {
     if raw {
         return None;

@@ -19,14 +19,14 @@ use dbm_script::Notation;
 use std::alloc::{AllocError, Global};
 use std::io::Read;
 
-/// The subcommand `delete`.
+/// The arguments of `delete`.
 #[derive(Clone, Copy, Debug)]
 pub struct Delete<'a> {
     pub base: &'a str,
     pub form: Form,
     pub notation: NotationOptions<'a>,
     pub key: &'a str,
-    /// The key is not decoded: its bytes are those of the word.
+    /// The bytes of the argument are the key, without decoding.
     pub raw_key: bool,
 }
 
@@ -45,7 +45,7 @@ impl<'a> Delete<'a> {
         })
     }
 
-    /// What the program prepares for the subcommand.
+    /// Returns the files of the subcommand and the notation of its arguments.
     pub fn head(&self) -> Head<'a>
         ensures { result ≡ delete_head self.now }
     {

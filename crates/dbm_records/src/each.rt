@@ -18,13 +18,13 @@ use dbm_args::arguments::{
 use dbm_args::{
     Form, Head, Named, NotationOptions, Numbers, Words, form, has_flag, notation, subcommand, word,
 };
-use dbm_reports::{Given, Report, ReportFault, Subcommand, bad_words};
+use dbm_reports::{Given, Report, ReportFault, Subcommand, bad_words, read_prefix};
 use dbm_script::{Notation, read_bytes, read_number};
-use sdbm_addr::Bytes;
 use std::alloc::{AllocError, Global};
 use std::io::Read;
 
-/// Runs one program once on each record, or on those whose keys begin with a prefix. A dry run writes nothing.
+/// The arguments of `each`, which runs a program once on each record, or with `prefix` on each record whose key begins with the prefix. A
+/// dry run writes nothing.
 #[derive(Clone, Copy, Debug)]
 pub struct Each<'a> {
     pub base: &'a str,
@@ -57,7 +57,7 @@ impl<'a> Each<'a> {
         })
     }
 
-    /// What the program prepares for the subcommand.
+    /// Returns the files of the subcommand and the notation of its arguments.
     pub fn head(&self) -> Head<'a>
         ensures { result ≡ each_head self.entry.now }
     {
@@ -184,7 +184,7 @@ fn each_words(
     let Some(arg) = read_bytes(alloc, notation, each.arg.as_bytes())? else {
         return Err(bad_words(notation));
     };
-    let Some(prefix) = prefix_in(alloc, notation, each.prefix)? else {
+    let Some(prefix) = read_prefix(alloc, notation, each.prefix)? else {
         return Err(bad_words(notation));
     };
     let Some(now) = read_number(each.now.as_bytes(), u64::MAX) else {
@@ -195,18 +195,4 @@ fn each_words(
         arg,
         time: now,
     })
-}
-
-// The bytes of the prefix; without the option it is empty.
-fn prefix_in(
-    alloc: Global,
-    notation: &Notation<Global>,
-    prefix: Option<&str>,
-) -> Result<Option<Bytes<Global>>, AllocError>
-    ensures { IfOk result (λ bytes. bytes ≡ spec.prefix_in notation.now prefix.entry) }
-{
-    match prefix {
-        None => Ok(Some(Bytes::new(Vec::new(alloc)))),
-        Some(word) => read_bytes(alloc, notation, word.as_bytes()),
-    }
 }

@@ -13,7 +13,7 @@ use sdbm_addr::Bytes;
 use sdbm_files::Image;
 use std::alloc::{AllocError, Global};
 
-/// What the words of `each` mean, except the program.
+/// The meaning of the arguments of `each`, except the program.
 #[derive(Drop)]
 pub struct EachWords {
     pub prefix: Bytes<Global>,
@@ -22,7 +22,8 @@ pub struct EachWords {
     pub time: u64,
 }
 
-/// Runs the program of an image on each record whose key begins with the prefix, if it is accepted. The report of a dry run has no database.
+/// If the program of an image is accepted, runs it on each record whose key begins with the prefix. The report of a dry run has no
+/// database.
 ///
 /// # Errors
 /// `AllocError` if allocation fails.
@@ -42,7 +43,7 @@ pub fn run_each(
     }
 }
 
-// The database to write, if any.
+// The database to save. A dry run has none.
 fn written(database: Image<Global>, is_dry: bool) -> Option<Image<Global>>
     ensures { result ≡ written_by is_dry database }
 {
@@ -52,7 +53,7 @@ fn written(database: Image<Global>, is_dry: bool) -> Option<Image<Global>>
     Some(database)
 }
 
-// Runs the program with a number on the records.
+// Runs the program with this number on the records.
 fn run_program(
     alloc: Global,
     database: Image<Global>,

@@ -22,7 +22,7 @@ use std::alloc::{AllocError, Global};
 use std::io::Read;
 use store_cmd::Command as StoreCommand;
 
-/// The subcommand `fetch`.
+/// The arguments of `fetch`.
 #[derive(Clone, Copy, Debug)]
 pub struct Fetch<'a> {
     pub base: &'a str,
@@ -31,7 +31,7 @@ pub struct Fetch<'a> {
     pub key: &'a str,
     /// Prints only the bytes of the value.
     pub raw: bool,
-    /// The key is not decoded: its bytes are those of the word.
+    /// The bytes of the argument are the key, without decoding.
     pub raw_key: bool,
 }
 
@@ -51,7 +51,7 @@ impl<'a> Fetch<'a> {
         })
     }
 
-    /// What the program prepares for the subcommand.
+    /// Returns the files of the subcommand and the notation of its arguments.
     pub fn head(&self) -> Head<'a>
         ensures { result ≡ fetch_head self.now }
     {
@@ -133,7 +133,7 @@ impl Subcommand for Fetch<'_> {
     }
 }
 
-/// The report of a fetch: the answer as a line, or with `raw` only the bytes of the value.
+/// Makes the report of a fetch: the answer as a line, or with `raw` only the bytes of the value.
 ///
 /// # Errors
 /// `AllocError` if allocation fails.
@@ -152,7 +152,7 @@ pub fn look_as(
     look(alloc, notation, image, command)
 }
 
-// The report with only the bytes of the value that a command finds.
+// Makes a report whose text is only the bytes of the value that the command finds.
 fn look_raw(
     alloc: Global,
     image: Image<Global>,

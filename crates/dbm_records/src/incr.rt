@@ -9,7 +9,7 @@ ghost use Rattle.dbm_reports.specs.Causes.{IsCaused};
 ghost use Rattle.dbm_script.specs.Notation.{bytes_of_word};
 
 use crate::running::run_image;
-use byte_text::{put_number, read_number, read_signed};
+use byte_text::{read_number, read_signed};
 use clap::{Arg, ArgMatches, Command};
 use dbm_args::arguments::{
     base, insist, key, layout, must_exist, raw_key, text, timeout, unsigned, valued_option,
@@ -19,14 +19,11 @@ use dbm_args::{
     Form, Head, Named, NotationOptions, Numbers, Words, form, has_flag, notation, subcommand, word,
 };
 use dbm_reports::{Given, Report, ReportFault, Subcommand, bad_words, open, word_asked};
-use dbm_script::{Notation, RunWords, read_bytes};
+use dbm_script::{NUMBER_LEN, Notation, RunWords, counter_argument, read_bytes};
 use sdbm_addr::Bytes;
 use std::alloc::{AllocError, Global};
 use std::io::Read;
 use stock_names::Stock;
-
-/// The length of a number in bytes.
-const NUMBER: usize = 8;
 
 /// The length of `ran CODE ` with a code of one digit.
 const AFTER_CODE: usize = 6;
@@ -34,7 +31,11 @@ const AFTER_CODE: usize = 6;
 /// The code of a run that added.
 const ADDED: u64 = 1;
 
-/// Adds an amount to the number of a key. A missing key counts as 0. The number stays from `min` to `max`.
+/// The answer if the value has too few bytes for a number.
+const TOO_SHORT: &[u8] = b"too short\n";
+
+/// The arguments of `incr`, which adds an amount to the number of a key. A missing key counts as 0. If the sum is below `min` or above
+/// `max`, nothing changes.
 #[derive(Clone, Copy, Debug)]
 pub struct Incr<'a> {
     pub base: &'a str,
@@ -44,7 +45,7 @@ pub struct Incr<'a> {
     pub amount: Option<&'a str>,
     pub min: Option<&'a str>,
     pub max: Option<&'a str>,
-    /// Takes the bytes of the key's word unchanged.
+    /// The bytes of the argument are the key, without decoding.
     pub raw_key: bool,
 }
 
@@ -66,7 +67,7 @@ impl<'a> Incr<'a> {
         })
     }
 
-    /// What the program prepares for the subcommand.
+    /// Returns the files of the subcommand and the notation of its arguments.
     pub fn head(&self) -> Head<'a>
         ensures { result ≡ incr_head self.entry.now }
     {
@@ -77,7 +78,7 @@ impl<'a> Incr<'a> {
         }
     }
 
-    /// The arguments that messages may show. A raw key is always valid bytes.
+    /// The arguments that messages may show. A raw key is always valid, so no message shows it.
     pub fn words(&self) -> Words<'a> {
         Words {
             first: if self.raw_key {
@@ -99,7 +100,7 @@ impl<'a> Incr<'a> {
     }
 }
 
-// The optional word for the amount.
+// Declares the optional argument for the amount.
 fn amount_word<'a>(alloc: Global) -> Arg<'a>
     ensures rule { rule_of result ≡ new_rule (codes "AMOUNT") }
     ensures local { result.global ≡ false }
@@ -140,7 +141,8 @@ pub fn incr_command<'a>(alloc: Global) -> Result<Command<'a>, AllocError>
     let about = "Add to the number of a key";
     let notes =
         "Prints the new number. If it would be below --min or above --max nothing changes: then the number is printed as it is,\n\
-         with status 1. A missing key counts as 0. The value has 8 bytes, the lowest first, as for @counter.\n\n\
+         with status 1. A missing key counts as 0. The value has 8 bytes, the lowest first, as for @counter. If it has fewer, it is\n\
+         unchanged too, and the answer is \"too short\".\n\n\
          Example: dbm incr users hits 5 --text";
     subcommand(alloc, "incr", about, notes, args)
 }
@@ -175,8 +177,8 @@ impl Subcommand for Incr<'_> {
         let database = open(alloc, given, self.form)?;
         let words = RunWords {
             key,
-            arg: argument(alloc, numbers)?,
-            blank: Some(NUMBER),
+            arg: counter_argument(alloc, numbers.amount, numbers.min, numbers.max)?,
+            blank: Some(NUMBER_LEN),
             now: 0,
         };
         let image = Stock::BoundedCounter.image(alloc)?;
@@ -200,7 +202,7 @@ struct IncrNumbers {
     max: u64,
 }
 
-// Reads the amount and the bounds. Returns `None` if one is not a number.
+// Reads the amount and the bounds. Returns `None` if one of them is not a number.
 fn numbers_of(amount: Option<&str>, min: Option<&str>, max: Option<&str>) -> Option<IncrNumbers>
     ensures { result ≡ spec.numbers_of amount.entry min.entry max.entry }
 {
@@ -216,7 +218,7 @@ fn numbers_of(amount: Option<&str>, min: Option<&str>, max: Option<&str>) -> Opt
     Some(IncrNumbers { amount, min, max })
 }
 
-// The amount, by default 1, in two's complement.
+// Reads the amount, by default 1, and returns its two's complement.
 fn amount_in(word: Option<&str>) -> Option<u64>
     ensures { result ≡ spec.amount_in word.entry }
 {
@@ -226,7 +228,7 @@ fn amount_in(word: Option<&str>) -> Option<u64>
     }
 }
 
-// A bound, or its default.
+// Reads a bound. `least` is its default.
 fn bound_in(word: Option<&str>, least: u64) -> Option<u64>
     ensures { result ≡ spec.bound_in least word.entry }
 {
@@ -236,18 +238,7 @@ fn bound_in(word: Option<&str>, least: u64) -> Option<u64>
     }
 }
 
-// The argument of `bounded_counter`: the amount, the floor and the ceiling.
-fn argument(alloc: Global, numbers: IncrNumbers) -> Result<Bytes<Global>, AllocError>
-    ensures { IfOk result (λ arg. arg ≡ spec.incr_argument numbers) }
-{
-    let mut bytes = Vec::new(alloc);
-    put_number(numbers.amount, NUMBER, &mut bytes)?;
-    put_number(numbers.min, NUMBER, &mut bytes)?;
-    put_number(numbers.max, NUMBER, &mut bytes)?;
-    Ok(Bytes::new(bytes))
-}
-
-// The bytes of a key's word.
+// Reads the bytes of a key from its word.
 fn key_in(
     alloc: Global,
     notation: &Notation<Global>,
@@ -262,14 +253,15 @@ fn key_in(
     }
 }
 
-// The report of a run, with the reply word alone as its text if the program ran.
+// Makes the report of an `incr` from that of the run: if the program ran, its text is the reply word alone, or says that the value is too
+// short.
 fn with_number_alone(alloc: Global, report: Report) -> Result<Report, AllocError>
     ensures text { IfOk result (λ made. made.text.items ≡ number_alone report.text.items) }
     ensures status { IfOk result (λ made. made.status ≡ report.status) }
     ensures database { IfOk result (λ made. made.database ≡ report.database) }
 {
     let mut text = Vec::new(alloc);
-    text.extend_from_slice(after_code(report.text.as_slice()))?;
+    text.extend_from_slice(shown_number(report.text.as_slice()))?;
     Ok(Report {
         text,
         status: report.status,
@@ -278,10 +270,13 @@ fn with_number_alone(alloc: Global, report: Report) -> Result<Report, AllocError
     })
 }
 
-// The text without `ran CODE ` at its start, where CODE is one digit.
-fn after_code(text: &[u8]) -> &[u8]
+// The text without `ran CODE ` at its start; CODE is one digit. Code 4 says that the value is too short.
+fn shown_number(text: &[u8]) -> &[u8]
     ensures { result.now ≡ number_alone text.now }
 {
+    if text.starts_with(b"ran 4 ") {
+        return TOO_SHORT;
+    }
     if text.starts_with(b"ran ") {
         return &text[text.len().min(AFTER_CODE)..];
     }

@@ -1,5 +1,5 @@
-//! The subcommands of one record: `fetch`, `store`, `delete`, `rename`, `run` and `incr`, and the words of `batch`. `answer_on_page` serves them from
-//! the page of their key, so that the rest of the files stays unread.
+//! The subcommands of records: `fetch`, `store`, `delete`, `rename`, `run`, `incr` and `each`, and the arguments of `batch`.
+//! `answer_on_page` serves a fetch, a store, a delete or a run from the page of its key, without the whole `.pag`.
 #![tactic(auto)]
 
 mod batch;

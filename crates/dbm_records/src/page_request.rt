@@ -25,7 +25,7 @@ pub enum PageRequest {
     Change {
         command: Command<Global>,
     },
-    /// A run of the program of an image, with an optional expected code.
+    /// A run of the program with this image, with an optional expected code.
     Run {
         words: RunWords<Global>,
         program: Vec<u8>,
@@ -45,7 +45,7 @@ impl PageRequest {
         }
     }
 
-    /// Answers it on a database.
+    /// Answers the request on a database.
     ///
     /// # Errors
     /// `AllocError` if allocation fails.
@@ -82,10 +82,10 @@ fn has_key(command: &Command<Global>) -> bool
     }
 }
 
-/// Reads a fetch. Never returns `None`: its words name a key, but no clause says so.
+/// Reads a fetch. Never returns `None`, because a fetch has a key; no clause says so.
 ///
 /// # Errors
-/// `BadHex`, or as text `BadText`, if the key is not valid bytes; `NoMemory` if allocation fails.
+/// `BadHex` (in a text notation `BadText`) if the key is invalid, and `NoMemory`.
 pub fn fetch_request(
     alloc: Global,
     notation: &Notation<Global>,
@@ -104,10 +104,10 @@ pub fn fetch_request(
     }))
 }
 
-/// Reads a store. Returns `None` if its value is all of standard input.
+/// Reads a store. Returns `None` if the value is standard input.
 ///
 /// # Errors
-/// `BadHex`, or as text `BadText`, if the key or the value is not valid bytes; `NoMemory` if allocation fails.
+/// `BadHex` (in a text notation `BadText`) if the key or the value is invalid, and `NoMemory`.
 pub fn store_request(
     alloc: Global,
     notation: &Notation<Global>,
@@ -128,10 +128,10 @@ pub fn store_request(
     Ok(Some(PageRequest::Change { command }))
 }
 
-/// Reads a delete. Never returns `None`: its words name a key, but no clause says so.
+/// Reads a delete. Never returns `None`, because a delete has a key; no clause says so.
 ///
 /// # Errors
-/// `BadHex`, or as text `BadText`, if the key is not valid bytes; `NoMemory` if allocation fails.
+/// `BadHex` (in a text notation `BadText`) if the key is invalid, and `NoMemory`.
 pub fn delete_request(
     alloc: Global,
     notation: &Notation<Global>,
@@ -147,10 +147,10 @@ pub fn delete_request(
     Ok(Some(PageRequest::Change { command }))
 }
 
-/// Reads a run, with the bytes of its program's file.
+/// Reads a run. `file` has the bytes of the program's file.
 ///
 /// # Errors
-/// Those of `run_words`, and then those of `file_image`.
+/// The errors of `run_words`, then the errors of `file_image`.
 pub fn run_request(
     alloc: Global,
     notation: &Notation<Global>,

@@ -1,4 +1,4 @@
-//! The result of a command on the page of its key, and the plan that saves it.
+//! The result of a command on the page of its key, and the plan that saves the change.
 ghost use Rattle.std.specs.Prelude.{◌≡◌, ◌%◌, ℕ, List, length, IfSome};
 ghost use Rattle.sdbm_addr.specs.Pairs.{page_bytes};
 ghost use Rattle.sdbm_saves.specs.Redo.{IsPlan, Knows};
@@ -21,17 +21,21 @@ pub struct PageResult {
     pub text: Vec<u8>,
     /// The exit status.
     pub status: u8,
-    /// What notes say of it.
+    /// The notes for standard error.
     pub notes: Notes,
-    /// The numbers of the pages that the plan may write. In the file, all of them except the page that was read have to be zeros.
+    /// The numbers of the pages that the plan may write. Each of these pages, except the one that was read, has to be zeros in the file.
     pub numbers: Vec<u32>,
-    /// The plan that saves it, if the files have to change.
+    /// The plan of the save, if the files have to change.
     pub plan: Option<Vec<u8>>,
 }
 
-/// Serves a command from the page of its key and plans its save. Returns `None` if that page is not enough: the caller then has to read the
-/// whole files. This happens if the directory or the page is invalid or not as a save leaves it, if the key leads to another page, if the
-/// last page of the file would become empty, if `.pag` would exceed `PAG_LIMIT`, or if allocation fails.
+/// Serves a command from the page of its key and plans the save. Returns `None` if that page is not enough; the caller then has to read the
+/// whole files. The cases are:
+/// - the directory or the page is invalid, or is not as a save leaves it;
+/// - the key leads to another page;
+/// - the last page of the file would become empty;
+/// - `.pag` would exceed `PAG_LIMIT`;
+/// - allocation fails.
 pub fn answer_on_page(
     alloc: Global,
     notation: &Notation<Global>,

@@ -21,7 +21,7 @@ use dbm_script::Notation;
 use std::alloc::{AllocError, Global};
 use std::io::Read;
 
-/// The subcommand `rename`. With `replace`, the pair that already has the new key is replaced.
+/// The arguments of `rename`. With `replace`, a pair that already has the new key is replaced.
 #[derive(Clone, Copy, Debug)]
 pub struct Rename<'a> {
     pub base: &'a str,
@@ -30,7 +30,7 @@ pub struct Rename<'a> {
     pub key: &'a str,
     pub new_key: &'a str,
     pub replace: bool,
-    /// The keys are not decoded: their bytes are those of the words.
+    /// The bytes of the arguments are the keys, without decoding.
     pub raw_key: bool,
 }
 
@@ -51,7 +51,7 @@ impl<'a> Rename<'a> {
         })
     }
 
-    /// What the program prepares for the subcommand.
+    /// Returns the files of the subcommand and the notation of its arguments.
     pub fn head(&self) -> Head<'a>
         ensures { result ≡ rename_head self.now }
     {
@@ -72,7 +72,7 @@ impl<'a> Rename<'a> {
         }
     }
 
-    // The word of the new key, if messages may show it.
+    // The argument of the new key, if messages may show it.
     fn named_new_key(&self) -> Option<Named<'a>> {
         if self.raw_key {
             return None;

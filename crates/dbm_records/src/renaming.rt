@@ -10,7 +10,7 @@ use sdbm_files::Image;
 use std::alloc::{AllocError, Global};
 use store_cmd::{Command, Reply};
 
-/// Changes the key of a pair. `keys` is a store command with the new key instead of the value.
+/// Changes the key of a pair. `keys` is a store command whose value is the new key.
 ///
 /// # Errors
 /// `AllocError` if allocation fails.

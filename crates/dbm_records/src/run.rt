@@ -23,8 +23,8 @@ use dbm_script::{Notation, RunWords, read_number, read_run_words};
 use std::alloc::{AllocError, Global};
 use std::io::Read;
 
-/// Runs a program on the record of a key. The file is the text of the program, or with `image` its program image. `expect` is the code that
-/// the run has to return.
+/// The arguments of `run`, which runs a program on the record of a key. `file` has the text of the program, or with `image` its program
+/// image. `expect` is the code that the run has to return.
 #[derive(Clone, Copy, Debug)]
 pub struct Run<'a> {
     pub base: &'a str,
@@ -37,7 +37,7 @@ pub struct Run<'a> {
     pub now: &'a str,
     pub expect: Option<&'a str>,
     pub image: bool,
-    /// Takes the bytes of the key's word unchanged.
+    /// The bytes of the argument are the key, without decoding.
     pub raw_key: bool,
 }
 
@@ -62,7 +62,7 @@ impl<'a> Run<'a> {
         })
     }
 
-    /// What the program prepares for the subcommand.
+    /// Returns the files of the subcommand and the notation of its arguments.
     pub fn head(&self) -> Head<'a>
         ensures { result ≡ run_head self.entry.now }
     {
@@ -75,7 +75,7 @@ impl<'a> Run<'a> {
         }
     }
 
-    /// Its words as messages show them.
+    /// The arguments that messages may show.
     pub fn words(&self) -> Words<'a> {
         Words {
             file: Some(self.file),
@@ -96,7 +96,7 @@ impl<'a> Run<'a> {
         }
     }
 
-    // The word for its key as messages show it; a raw key is always valid bytes.
+    // The argument of the key, if messages may show it. A raw key is always valid, so no message shows it.
     fn named_key(&self) -> Option<Named<'a>> {
         if self.raw_key {
             return None;
@@ -164,8 +164,7 @@ pub fn run_command<'a>(alloc: Global) -> Result<Command<'a>, AllocError>
     subcommand(alloc, "run", about, notes, args)
 }
 
-// The database is written after the run. If the program gets no number, the report says why, like the line of a script that submits the
-// program image first.
+// The database is saved after the run. If the program is refused, the text of the report is that of a script line that submits its image.
 impl Subcommand for Run<'_> {
     ghost use Rattle.std.specs.Prelude.{false, true};
     ghost use Rattle.dbm_records.specs.Run.{run_in};
@@ -195,10 +194,11 @@ impl Subcommand for Run<'_> {
     }
 }
 
-/// Reads the words from left to right, and then the expected code. `key` has the bytes of the key.
+/// Reads the arguments from left to right, and then the expected code. `key` is the word of the key.
 ///
 /// # Errors
-/// `BadHex`, or as text `BadText`, if a word is not valid bytes; `BadNumber` if one is not a number; `NoMemory` if allocation fails.
+/// `BadHex` (in a text notation `BadText`) if the key or the argument of the program is invalid, `BadNumber` if the blank, the time or the
+/// expected code is, and `NoMemory`.
 pub fn run_words(
     alloc: Global,
     notation: &Notation<Global>,
@@ -217,7 +217,7 @@ pub fn run_words(
     }
 }
 
-// The expected code of a run, if any. Returns `None` if the option is not a number.
+// Reads the expected code of a run, if there is one. Returns `None` if the option is not a number.
 fn expected_code(expect: Option<&str>) -> Option<Option<u64>>
     ensures { result ≡ expected_code expect.entry }
 {

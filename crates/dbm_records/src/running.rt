@@ -14,10 +14,10 @@ use prog_registry::Registry;
 use sdbm_files::Image;
 use std::alloc::{AllocError, Global};
 
-/// Opens the database of the files, then reads the image of the program's file.
+/// Opens the database of the files, then reads the program image from the program's file.
 ///
 /// # Errors
-/// Those of `open`, and then those of `file_image`.
+/// The errors of `open`, then the errors of `file_image`.
 pub fn database_and_image(
     alloc: Global,
     given: &Given,
@@ -32,7 +32,7 @@ pub fn database_and_image(
     Ok((database, image))
 }
 
-/// Runs the program of an image on a database if it is accepted.
+/// If the program of an image is accepted, runs it on a database. Otherwise the report gives the reason.
 ///
 /// # Errors
 /// `AllocError` if allocation fails.
@@ -62,7 +62,7 @@ pub fn run_image(
     }
 }
 
-// The status if a program is refused, with or without an expected code.
+// The status if a program is refused; it depends on whether a code is expected.
 fn refusal_status(expect: Option<u64>) -> u8
     ensures { result ≡ refusal_status expect }
 {

@@ -1,4 +1,4 @@
-//! `store`: stores a pair. With `--insert` it keeps an existing pair.
+//! `store`: stores a pair. With `--insert`, an existing pair is kept.
 ghost use Rattle.std.specs.Prelude.{◌≡◌, IfErr, IfOk, IfSome, IsNone, None, false, is_some, true};
 ghost use Rattle.clap.specs.Words.{found_of, rows_of};
 ghost use Rattle.dbm_args.specs.CommandLine.{IsSubcommand};
@@ -24,7 +24,7 @@ use std::alloc::{AllocError, Global};
 use std::io::Read;
 use store_cmd::Command as StoreCommand;
 
-/// The subcommand `store`. With `insert` it keeps an existing pair.
+/// The arguments of `store`. With `insert`, an existing pair is kept.
 #[derive(Clone, Copy, Debug)]
 pub struct Store<'a> {
     pub base: &'a str,
@@ -33,9 +33,9 @@ pub struct Store<'a> {
     pub key: &'a str,
     pub value: &'a str,
     pub insert: bool,
-    /// The key is not decoded: its bytes are those of the word.
+    /// The bytes of the argument are the key, without decoding.
     pub raw_key: bool,
-    /// The value is not decoded: its bytes are those of the word.
+    /// The bytes of the argument are the value, without decoding; `-` is standard input.
     pub raw_value: bool,
 }
 
@@ -57,7 +57,7 @@ impl<'a> Store<'a> {
         })
     }
 
-    /// What the program prepares for the subcommand.
+    /// Returns the files of the subcommand and the notation of its arguments.
     pub fn head(&self) -> Head<'a>
         ensures { result ≡ store_head self.now }
     {
@@ -78,7 +78,7 @@ impl<'a> Store<'a> {
         }
     }
 
-    // The word of the value, if messages may show it.
+    // The argument of the value, if messages may show it.
     fn named_value(&self) -> Option<Named<'a>> {
         if self.raw_value {
             return None;
@@ -166,14 +166,14 @@ impl Subcommand for Store<'_> {
     }
 }
 
-/// The first word of the script line that does the same: `insert` or `replace`.
+/// The first word of the equivalent script line: `insert` or `replace`.
 pub fn store_name(insert: bool) -> &'static [u8]
     ensures { result.now ≡ store_command_name insert }
 {
     if insert { b"insert" } else { b"replace" }
 }
 
-// Stores the value from its word.
+// Stores the value that the argument gives.
 fn store_word(
     alloc: Global,
     notation: &Notation<Global>,
@@ -191,7 +191,7 @@ fn store_word(
     Ok(change(alloc, notation, image, command, None)?)
 }
 
-// Stores all of standard input, which is read after checking the words and opening the files.
+// Stores all of standard input as the value. Reads standard input only after the arguments are checked and the files are opened.
 fn store_input<R: Read>(
     alloc: Global,
     notation: &Notation<Global>,

@@ -1,10 +1,10 @@
-//! Counts of the answers to runs, by their code.
+//! Counts the answers to runs by their code.
 
 use dbm_script::Answer;
 use std::alloc::{AllocError, Global};
 use store_cmd::Reply;
 
-/// The number of runs, and how many of them ended with each code. `others` have no code.
+/// The number of runs, the number that ended with each code, and the number without a code (`others`).
 #[derive(Drop)]
 pub struct Tally {
     codes: Vec<CodeCount>,
@@ -12,7 +12,7 @@ pub struct Tally {
     others: u64,
 }
 
-// How many runs ended with a code.
+// The number of runs that ended with a code.
 #[derive(Clone, Copy)]
 struct CodeCount {
     code: u64,
@@ -32,7 +32,7 @@ impl Tally {
     /// Counts one answer.
     ///
     /// # Errors
-    /// `AllocError` if allocation fails; then the answer is not counted among its code.
+    /// `AllocError` if allocation fails. The answer is then counted as a run, but not for its code.
     pub fn add(&mut self, answer: &Answer<Global>) -> Result<(), AllocError> {
         self.runs = self.runs.saturating_add(1);
         let Some(code) = code_in(answer) else {
@@ -49,7 +49,7 @@ impl Tally {
         Ok(())
     }
 
-    /// A line with the number of runs, and a line for each code, in the order in which they first came.
+    /// Returns a line with the number of runs, a line for each code in the order of first occurrence, and a line for runs without a code.
     ///
     /// # Errors
     /// `AllocError` if allocation fails.
@@ -66,7 +66,7 @@ impl Tally {
     }
 }
 
-// The code of a run, if it has one.
+// The code in the answer to a run, if it has one.
 fn code_in(answer: &Answer<Global>) -> Option<u64> {
     match answer {
         Answer::Replied(entry) => match entry.reply {

@@ -18,16 +18,16 @@ use Rattle.dbm_reports.specs.declared.fault.ReportFault.{ReportFault}
 use Rattle.dbm_reports.specs.declared.fault.ReportFault.TheVariants.{BadHex, BadText, BadLayout, BadNumber, Open, NotText, Assemble, Decode, Read, TooLong, OutputTooLong, NoMemory}
 use Rattle.dbm_reports.specs.Databases.{IsShut}
 
--- the conditions under which a subcommand may fail
+-- the conditions under which a subcommand may fail with each fault
 pub record Causes : Type 1 where
-  -- a word is not valid hex, text or layout, or not a number
+  -- a word is not valid hex, valid text, a valid layout or a number
   pub words : Type 0
   pub texts : Type 0
   pub layouts : Type 0
   pub numbers : Type 0
   -- the files are not a database
   pub opening : OpenFault → Type 0
-  -- the file is not text, its text is not a program, or its image is not a program
+  -- the program's file is not text, the text is not a program, or the image is not a program
   pub no_text : Type 0
   pub assembling : AsmFault → Type 0
   pub decoding : DecodeFault → Type 0
@@ -67,46 +67,46 @@ IsCaused causes TooLong = causes.long
 IsCaused causes OutputTooLong = causes.overlong
 IsCaused causes NoMemory = ⊤
 
--- the files cannot be opened
+-- the faults of opening the files
 abbrev pub opening_causes : Form → Given → Causes
 opening_causes form given = record no_causes { opening = IsShut form given }
 
--- a script of more than 16,777,216 bytes
+-- standard input, if it is known, has more than 16,777,216 bytes
 abbrev pub IsLongScript : Option (List ℕ) → Type 0
 IsLongScript input = IfSome input (λ bytes. 16777216 < length bytes)
 
 abbrev pub input_causes : Option (List ℕ) → Causes
 input_causes input = record no_causes { reading = ⊤; long = IsLongScript input }
 
--- a text that is not a program; the fault has a line, and is not `NoMemory`
+-- the text is not a program; the fault has a line and is not `NoMemory`
 abbrev pub IsUnassembled : List ℕ → AsmFault → Type 0
 IsUnassembled file fault = IsUtf8 file × (DenotesNone file × (IsLineOf fault.kind fault.line × (fault.kind ≢ kinds.NoMemory)))
 
--- the file of a program's text
+-- the faults of a file with the text of a program
 abbrev pub text_causes : List ℕ → Causes
 text_causes file = record no_causes {
   no_text = IsUtf8 file → ⊥;
   assembling = λ fault. IsUnassembled file fault;
 }
 
--- the file of a program; an image may have any bytes
+-- the faults of the file of a program; an image may have any bytes
 abbrev pub file_causes : Bool → List ℕ → Causes
 file_causes true file = no_causes
 file_causes false file = text_causes file
 
--- the fault for files that cannot be opened
+-- the fault of the subcommand if the files cannot be opened
 abbrev pub open_fault : OpenFault → ReportFault
 open_fault opening.NoMemory = NoMemory
 open_fault reason = Open reason
 
--- the fault for words
+-- the fault of the subcommand if the words of a run are invalid
 abbrev pub word_fault : WordFault → ReportFault
 word_fault meant.BadHex = BadHex
 word_fault meant.BadText = BadText
 word_fault meant.BadNumber = BadNumber
 word_fault meant.NoMemory = NoMemory
 
--- the fault for lines
+-- the fault of the subcommand if running the lines of a script fails
 abbrev pub lines_fault : LinesFault → ReportFault
 lines_fault lines.OutputTooLong = OutputTooLong
 lines_fault lines.NoMemory = NoMemory

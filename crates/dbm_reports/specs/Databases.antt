@@ -13,14 +13,15 @@ use Rattle.sdbm_files.specs.declared.opening.OpenFault.TheVariants as opening
 use Rattle.dbm_args.specs.declared.options.Form.{Form}
 use Rattle.dbm_reports.specs.declared.databases.Given.{Given}
 
--- the hash of keys and the page size, from the options
+-- the hash of keys that the options select
 abbrev pub key_bytes_of : Bool → KeyBytes
 key_bytes_of unsigned = cond unsigned Unsigned Signed
 
+-- the page size that the options select
 abbrev pub page_size_of : Bool → PageSize
 page_size_of wide = cond wide Wide Small
 
--- in this format, the files represent this database and no other
+-- with this hash and page size, the files spell this database and no other
 pub record IsOpened (form : Form) (given : Given) (db : Database) : Type 0 where
   pub spells : SpellsDatabase db given.dir.items given.pag.bytes
   pub kind : db.kind ≡ key_bytes_of form.unsigned
@@ -32,20 +33,20 @@ pub record IsOpened (form : Form) (given : Given) (db : Database) : Type 0 where
 abbrev pub CanBeOpened : Form → Given → Type 0
 CanBeOpened form given = (db : Database) × IsOpened form given db
 
--- Why the files cannot be opened. Out of memory is a separate fault.
+-- the reason why the files cannot be opened; it is never that memory ran out
 abbrev pub IsShut : Form → Given → OpenFault → Type 0
 IsShut form given opening.NoMemory = ⊥
 IsShut form given reason = IsOpenFault (key_bytes_of form.unsigned) (page_size_of form.wide) given.dir.items given.pag.bytes reason
 
--- the `.pag` of the database is longer than the program writes
+-- the `.pag` of the database would be longer than the limit of the program
 abbrev pub IsPagTooLong : Database → Type 0
 IsPagTooLong db = (pag : List ℕ) → ArePagBytes db pag → pag_limit < length pag
 
--- the `.pag` of the database is within the limit that the program writes
+-- the `.pag` of the database would be within the limit of the program
 abbrev pub IsPagShort : Database → Type 0
 IsPagShort db = (pag : List ℕ) → ArePagBytes db pag → length pag ≤ pag_limit
 
--- the database to write, if any, is within the limit
+-- if there is a database to save, its `.pag` is within the limit
 abbrev pub MayBeWritten : Option Database → Type 0
 MayBeWritten None = ⊤
 MayBeWritten (Some db) = IsPagShort db

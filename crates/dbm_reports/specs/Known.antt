@@ -11,7 +11,7 @@ pub record Known : Type 1 where
   -- the conditions of faults
   pub causes : Causes
 
--- an invalid layout
+-- the fault of an invalid layout
 abbrev pub layout_causes : Option (Notation Global) → Causes
 layout_causes None = record no_causes { layouts = ⊤ }
 layout_causes (Some notation) = no_causes

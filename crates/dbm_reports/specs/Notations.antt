@@ -6,7 +6,7 @@ use Rattle.byte_text.specs.Layouts.{layout_of}
 use Rattle.dbm_script.specs.declared.notations.Notation.{Notation}
 use Rattle.dbm_script.specs.declared.notations.Notation.TheVariants.{Hex, Text, Layout}
 
--- the notation from `--text` and `--as`, if the layout is valid
+-- the notation that `--text` and `--as` select, or None if the layout is invalid
 abbrev pub notation_by : Bool → Option (Bor (List ℕ)) → Option (Notation Global)
 notation_by text (Some layout) = option_map Layout (layout_of layout.now)
 notation_by true None = Some Text

@@ -1,4 +1,4 @@
--- The report of a subcommand: the text to print, its status, and the database to write.
+-- The report of a subcommand: the text to print, the status, and the database to save.
 use Rattle.std.specs.Prelude.{◌≡◌, ◌==◌, ℕ, ◌++◌, Bool, true, false, cond, List, [], ◌∷◌, codes, decimal, Option, Some, None}
 use Rattle.std.specs.declared.alloc.Global.{Global}
 use Rattle.sdbm_addr.specs.Database.{Database}
@@ -19,19 +19,19 @@ use Rattle.dbm_reports.specs.declared.report.Report.{Report}
 use Rattle.dbm_reports.specs.declared.databases.Given.{Given}
 use Rattle.dbm_reports.specs.Databases.{IsOpened}
 
--- only prints a text
+-- the report only prints this text
 pub record Prints (text : List ℕ) (report : Report) : Type 0 where
   pub text_is : report.text.items ≡ text
   pub status_is : report.status ≡ 0
   pub written : report.database ≡ None
 
--- only prints a text that is related by R to the file
+-- the report only prints a text, and R relates the file to this text
 abbrev pub PrintsOf : (List ℕ → List ℕ → Type 0) → List ℕ → Report → Type 0
 PrintsOf R file report = R file report.text.items × Prints report.text.items report
 
 -- ---- one command
 
--- the status is 1 if nothing was found, or if a requested change was not made
+-- the status is 1 if the key is missing or the requested change was not made
 abbrev pub reply_status : {A : Type 0} → Reply A → ℕ
 reply_status (Found value) = 0
 reply_status Missing = 1
@@ -60,7 +60,7 @@ abbrev pub status_of : {A : Type 0} → Option ℕ → Answer A → ℕ
 status_of None answer = answer_status answer
 status_of (Some code) answer = code_status code answer
 
--- reports a command: prints its answer as a line, with the status of the answer
+-- the report of a command: its answer as a line, and the status of the answer
 pub record IsCommandReport (notation : Notation Global) (before : Database) (command : Command Global) (expect : Option ℕ) (after : Database) (report : Report) : Type 0 where
   pub answer : Answer Global
   pub answers : IsAnswerTo Global before command answer after
@@ -69,11 +69,11 @@ pub record IsCommandReport (notation : Notation Global) (before : Database) (com
   pub text_is : report.text.items ≡ answer_text notation answer ++ 10 ∷ []
   pub status_is : report.status ≡ status_of expect answer
 
--- a command after which no file is written
+-- the report of a command, without a database to save
 abbrev pub Looks : Notation Global → Database → Command Global → Report → Type 0
 Looks notation before command report = (after : Database) × (IsCommandReport notation before command None after report × (report.database ≡ None))
 
--- a command after which the files are written
+-- the report of a command, with the database after it to save
 abbrev pub ChangesFiles : Notation Global → Database → Command Global → Option ℕ → Report → Type 0
 ChangesFiles notation before command expect report = (after : Database) × (IsCommandReport notation before command expect after report × (report.database ≡ Some after))
 
@@ -89,19 +89,19 @@ OnDatabase form given P = (db : Database) × (IsOpened form given db × P db)
 
 -- ---- programs
 
--- an image of the only code that the text denotes
+-- the image of the only code that the text denotes
 pub record IsTextImage (text image : List ℕ) : Type 0 where
   pub code : List Insn
   pub denotes : Denotes text code
   pub only : IsOnlyCode text code
   pub is_image : IsImage code image
 
--- the image from a program's file: the file itself, or the image of its text
+-- the image in a program's file: the bytes of the file, or the image of its text
 abbrev pub IsFileImage : Bool → List ℕ → List ℕ → Type 0
 IsFileImage true file image = image ≡ file
 IsFileImage false file image = IsTextImage file image
 
--- prints the reason for refusing a program image, with a status
+-- the report prints the reason for refusing a program image
 pub record ReportsRefusal (fault : RegFault) (status : ℕ) (database : Option Database) (report : Report) : Type 0 where
   pub text_is : report.text.items ≡ (codes "refused " ++ fault_text fault) ++ 10 ∷ []
   pub status_is : report.status ≡ status

@@ -1,4 +1,4 @@
--- The output and the database to write after serving a subcommand.
+-- The output, the status and the database to save after a subcommand was served.
 use Rattle.std.specs.Prelude.{◌≡◌, ℕ, List, Option, Some}
 use Rattle.std.specs.Io.KnownBytes.{Appends, Keeps}
 use Rattle.sdbm_addr.specs.Database.{Database, IsDatabase}
@@ -17,13 +17,13 @@ pub record IsPrinted (reports : Report → Type 0) (old new : Option (List ℕ))
   pub database_is : database ≡ report.database
   pub short : MayBeWritten database
 
--- a prefix of the text was written
+-- a prefix of the text was written, but not all
 pub record WasCutShort (reports : Report → Type 0) (old new : Option (List ℕ)) : Type 0 where
   pub report : Report
   pub comes : reports report
   pub part : WritesPart old new report.text.items
 
--- the whole text was written, but the database to write is too long
+-- the whole text was written, but the `.pag` of the database to save would be too long
 pub record WasTooLong (reports : Report → Type 0) (old new : Option (List ℕ)) : Type 0 where
   pub report : Report
   pub comes : reports report
@@ -33,7 +33,8 @@ pub record WasTooLong (reports : Report → Type 0) (old new : Option (List ℕ)
   pub sound : IsDatabase database
   pub long : IsPagTooLong database
 
--- A fault before writing satisfies its condition, and nothing was written. `Write` leaves a part of the text, and `TooLong` all of it.
+-- A fault of the report satisfies its condition, and nothing was written. After `Write`, only a prefix of the text was written; after
+-- `TooLong`, the whole text.
 abbrev pub IsUnserved : {F : Type 0} → (Report → Type 0) → (F → Type 0) → Option (List ℕ) → Option (List ℕ) → Unserved F → Type 0
 IsUnserved reports causes old new (Unreported fault) = causes fault × Keeps old new
 IsUnserved reports causes old new Write = WasCutShort reports old new

@@ -11,7 +11,8 @@ use std::alloc::{AllocError, AllocFailed, Global};
 use std::error::Error;
 use std::fmt;
 
-/// Why a subcommand failed before it printed anything. It prints as its name, or as the fault within it, which is never its `NoMemory`.
+/// The reason why a subcommand failed before it printed anything. It prints as its name, or as the fault that it contains. A contained
+/// fault is never `NoMemory`.
 #[derive(Clone, Copy, Debug)]
 pub enum ReportFault {
     /// A key, a value or an argument is neither hex nor a dot.

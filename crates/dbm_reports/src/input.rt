@@ -1,4 +1,4 @@
-//! Standard input.
+//! Reads standard input.
 ghost use Rattle.std.specs.Prelude.{◌≡◌, ◌≤◌, length, IfOk, IfErr, IfSome};
 ghost use Rattle.dbm_reports.specs.Causes.{IsCaused, input_causes};
 

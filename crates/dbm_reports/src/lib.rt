@@ -1,5 +1,5 @@
-//! The trait of subcommands, and how they are served. Also their shared parts: opening the database, answering a command, standard input,
-//! and the file of a program.
+//! The trait of subcommands, and `serve`, which serves any of them. The shared parts of subcommands are also here: opening the database,
+//! answering a command, reading standard input, and reading the file of a program.
 #![tactic(auto)]
 
 mod databases;
@@ -24,4 +24,4 @@ pub use report::{
 };
 pub use serving::{Outcome, Unserved, serve, write_report};
 pub use subcommand::Subcommand;
-pub use words::word_asked;
+pub use words::{read_prefix, word_asked};

@@ -10,7 +10,7 @@ use dbm_args::NotationOptions;
 use dbm_script::Notation;
 use std::alloc::Global;
 
-/// The notation from `--text` and `--as`, or hex without them.
+/// The notation that `--text` and `--as` select, or hex without these options.
 ///
 /// # Errors
 /// `BadLayout` if the layout is invalid, and `NoMemory`.

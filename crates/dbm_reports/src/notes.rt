@@ -3,17 +3,17 @@ ghost use Rattle.std.specs.Prelude.{◌≡◌, false};
 
 use dbm_script::BadLines;
 
-/// The notes of a report, for standard error. They are not part of its text. No clause depends on them.
+/// The notes of a report, for standard error. They are not part of the text of the report. No clause depends on them.
 #[derive(Clone, Copy, Debug, PartialEq, Eq)]
 pub struct Notes {
-    /// The lines of a script that are not commands.
+    /// The count of the lines of a script that are not commands.
     pub bad_lines: BadLines,
     /// The verifier refuses the program that was to run.
     pub refuses_program: bool,
 }
 
 impl Notes {
-    /// Nothing to note.
+    /// No notes.
     pub fn none() -> Notes
         ensures { result ≡ record { bad_lines = record { first = 0; count = 0 }; refuses_program = false } }
     {
@@ -23,7 +23,7 @@ impl Notes {
         }
     }
 
-    /// Only bad lines.
+    /// A note about bad lines alone.
     pub fn of_lines(bad_lines: BadLines) -> Notes
         ensures { result ≡ record { bad_lines = bad_lines; refuses_program = false } }
     {

@@ -1,4 +1,4 @@
-//! The file of a program.
+//! Reads the file of a program.
 ghost use Rattle.std.specs.Prelude.{◌≢◌, IfOk, IfErr};
 ghost use Rattle.prog_registry.specs.declared.fault.RegFault.TheVariants.{NoMemory};
 ghost use Rattle.dbm_reports.specs.Reports.{IsTextImage, IsFileImage, ReportsRefusal};
@@ -14,10 +14,10 @@ use prog_registry::RegFault;
 use sdbm_files::Image;
 use std::alloc::{AllocError, Global};
 
-/// The image of the program whose text is in a file.
+/// Returns the image of the program whose text is in a file.
 ///
 /// # Errors
-/// Those of `file_image` for a text.
+/// The errors of `file_image` for a text.
 pub fn text_image(alloc: Global, file: &[u8]) -> Result<Vec<u8>, ReportFault>
     ensures ok { IfOk result (λ image. IsTextImage file.now image.items) }
     ensures fault { IfErr result (IsCaused (text_causes file.now)) }
@@ -33,11 +33,10 @@ pub fn text_image(alloc: Global, file: &[u8]) -> Result<Vec<u8>, ReportFault>
     Ok(encode(alloc, &code)?)
 }
 
-/// The image of a program's file: the file itself if it is an image, and otherwise the image of its text.
+/// Returns the image in a program's file: the bytes of the file if it is an image, otherwise the image of its text.
 ///
 /// # Errors
-/// `NoMemory`. For a text also `NotText` if it is not UTF-8, and `Assemble` if it is not a program, with the line and the fault from
-/// `assemble`.
+/// `NoMemory`. For a text also `NotText` if it is not UTF-8, and `Assemble` with the fault and the line if it is not a program.
 pub fn file_image(alloc: Global, file: &[u8], is_image: bool) -> Result<Vec<u8>, ReportFault>
     ensures ok { IfOk result (λ image. IsFileImage is_image file.now image.items) }
     ensures fault { IfErr result (IsCaused (file_causes is_image file.now)) }
@@ -48,7 +47,7 @@ pub fn file_image(alloc: Global, file: &[u8], is_image: bool) -> Result<Vec<u8>,
     text_image(alloc, file)
 }
 
-/// The report that a program image is refused: a line with the reason, a status, and the database to write. `NoMemory` has no such line.
+/// Makes the report that a program image is refused. It has a line with the reason, a status, and the database to save.
 ///
 /// # Errors
 /// `AllocError` if allocation fails, or if `fault` is `NoMemory`.

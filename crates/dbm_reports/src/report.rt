@@ -13,7 +13,7 @@ use store_cmd::{Command, Reply};
 /// The status if a run with an expected code did not run.
 pub const NOT_RUN: u8 = 3;
 
-/// The result of a subcommand: the text to print, its status, the database to write, if any, and what notes say of it.
+/// The result of a subcommand: the text to print, the status, the database to save, if any, and the notes.
 #[derive(Drop)]
 pub struct Report {
     pub text: Vec<u8>,
@@ -22,7 +22,7 @@ pub struct Report {
     pub notes: Notes,
 }
 
-/// The report of a command after which no file is written.
+/// Runs a command and makes its report, without a database to save.
 ///
 /// # Errors
 /// `AllocError` if allocation fails.
@@ -39,7 +39,7 @@ pub fn look(
     Ok(report)
 }
 
-/// The report of a command after which the files are written. `expect` is the expected code of a run, if any.
+/// Runs a command and makes its report, with the changed database to save. `expect` is the expected code of a run, if any.
 ///
 /// # Errors
 /// `AllocError` if allocation fails.
@@ -62,7 +62,7 @@ pub fn change(
     })
 }
 
-// Answers a command, and reports the answer. The report has no database.
+// Runs a command and makes its report, without a database.
 fn command_report(
     alloc: Global,
     notation: &Notation<Global>,
@@ -110,7 +110,7 @@ fn status_of(answer: &Answer<Global>, expect: Option<u64>) -> u8
     }
 }
 
-/// The status of an answer without an expected code: 1 if nothing was found, or if a requested change was not made.
+/// The status of an answer without an expected code: 1 if the key is missing or the requested change was not made.
 pub fn answer_status(answer: &Answer<Global>) -> u8
     ensures { result ≡ answer_status answer.now }
 {
@@ -133,7 +133,7 @@ fn code_status(answer: &Answer<Global>, code: u64) -> u8
     }
 }
 
-// The same for the reply to a run.
+// The status of the reply to a run with an expected code.
 fn run_status(reply: &Reply<Global>, code: u64) -> u8
     ensures { result ≡ run_status code reply.now }
 {

@@ -1,4 +1,4 @@
-//! Serves a subcommand: makes its report, and then prints it.
+//! Serves a subcommand: makes its report, then writes the text of the report.
 ghost use Rattle.std.specs.Prelude.{◌≡◌, false, IfOk, IfErr, OnOk, IsErrAnd, OnErr, Some, is_some};
 ghost use Rattle.sdbm_addr.specs.Database.{Database, IsDatabase};
 ghost use Rattle.dbm_reports.specs.Databases.{IsPagTooLong, MayBeWritten};
@@ -14,7 +14,7 @@ use sdbm_files::Image;
 use std::alloc::Global;
 use std::io::{Read, Write};
 
-/// The outcome of a subcommand once its text is written: its status, the database if its files are to be written, and what notes say of it.
+/// The outcome of a subcommand after its text was written: the status, the database to save, if any, and the notes.
 #[derive(Drop)]
 pub struct Outcome {
     pub status: u8,
@@ -22,22 +22,22 @@ pub struct Outcome {
     pub notes: Notes,
 }
 
-/// Why serving a subcommand failed.
+/// The reason why serving a subcommand failed.
 #[derive(Drop)]
 pub enum Unserved<F: Drop> {
     /// The report failed, and nothing was written.
     Unreported(F),
-    /// Writing its lines failed.
+    /// Writing the text failed.
     Write,
-    /// All its lines were written, but `.pag` would be longer than `PAG_LIMIT`.
+    /// The whole text was written, but `.pag` would be longer than `PAG_LIMIT`.
     TooLong,
 }
 
-/// Serves a subcommand: makes its report, and then writes its lines.
+/// Serves a subcommand: makes its report, then writes the text of the report.
 ///
 /// # Errors
-/// `Unreported` with the fault of `report` if nothing was written, `Write` if only a part of its lines was written, and `TooLong` if all of
-/// them were.
+/// `Unreported` with the fault of `report`, before anything is written; `Write` if only a prefix of the text was written; and `TooLong`,
+/// after the whole text was written, if `.pag` would be longer than `PAG_LIMIT`.
 pub fn serve<S: Subcommand, R: Read, W: Write>(
     alloc: Global,
     notation: &Notation<Global>,
@@ -57,10 +57,11 @@ pub fn serve<S: Subcommand, R: Read, W: Write>(
     }
 }
 
-/// Writes the lines of a report.
+/// Writes the text of a report.
 ///
 /// # Errors
-/// `Write` if only a part of its lines was written, and `TooLong` if all of them were.
+/// `Write` if only a prefix of the text was written; and `TooLong`, after the whole text was written, if `.pag` would be longer than
+/// `PAG_LIMIT`.
 pub fn write_report<F: Drop, W: Write>(
     report: Report,
     writer: &mut W,
@@ -83,7 +84,7 @@ pub fn write_report<F: Drop, W: Write>(
     })
 }
 
-// Returns an error if the database to write is too large.
+// Returns an error if the database to save is too large.
 fn check_length(database: &Option<Image<Global>>) -> Result<(), ()>
     ensures ok { OnOk result (MayBeWritten database.now) }
     ensures long { OnErr result ((db : Database) × ((database.now ≡ Some db) × (IsDatabase db × IsPagTooLong db))) }

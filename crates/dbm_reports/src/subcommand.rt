@@ -11,24 +11,24 @@ use dbm_script::Notation;
 use std::alloc::Global;
 use std::io::Read;
 
-/// A subcommand with its arguments and options. `serve` is proved once for all of them.
+/// A subcommand with its arguments and options. `serve` is proved once for all subcommands.
 pub trait Subcommand {
     /// The error of the subcommand.
     type Fault: Drop;
 
-    // The possible reports, from the notation, the bytes of the files and standard input.
+    // The possible reports, given the notation, the bytes of the files and standard input.
     ghost reports: { Self → Notation Global → Given → Option (List ℕ) → Report → Type 0 };
 
     // The condition of each fault.
     ghost causes: { Self → Notation Global → Given → Option (List ℕ) → Self.Fault → Type 0 };
 
-    // True if the files of its database are written after it.
+    // True if the database is saved after the subcommand.
     ghost writes: { Self → Bool };
 
-    // True if it reads standard input.
+    // True if the subcommand reads standard input.
     ghost reads: { Self → Bool };
 
-    /// Makes its report, before a line is written.
+    /// Makes the report of the subcommand. Nothing is written before.
     ///
     /// # Errors
     /// The first fault: arguments are checked before files, and files before standard input.

@@ -1,11 +1,13 @@
-//! Raw words.
+//! Raw words and prefixes.
 ghost use Rattle.std.specs.Prelude.{◌≡◌, IfOk};
-ghost use Rattle.dbm_reports.specs.Words.{word_asked};
+ghost use Rattle.dbm_reports.specs.Words.{prefix_asked, word_asked};
 
-use dbm_script::{Notation, show_bytes};
+use dbm_script::{Notation, read_bytes, show_bytes};
+use sdbm_addr::Bytes;
 use std::alloc::{AllocError, Global};
 
-/// Returns the given word. A raw word is not decoded: its own bytes are returned in the notation.
+/// Returns a word that means the bytes of an argument. That is the argument itself, or if `raw` is true the text of its bytes in the
+/// notation.
 ///
 /// # Errors
 /// `AllocError` if allocation fails.
@@ -23,4 +25,21 @@ pub fn word_asked(
     let mut text = Vec::new(alloc);
     show_bytes(notation, word.as_bytes(), &mut text)?;
     Ok(text)
+}
+
+/// Reads a prefix. Without the option, the prefix is empty. Returns `None` if the word is invalid in the notation.
+///
+/// # Errors
+/// `AllocError` if allocation fails.
+pub fn read_prefix(
+    alloc: Global,
+    notation: &Notation<Global>,
+    prefix: Option<&str>,
+) -> Result<Option<Bytes<Global>>, AllocError>
+    ensures { IfOk result (λ begin. begin ≡ prefix_asked notation.now prefix.entry) }
+{
+    match prefix {
+        None => Ok(Some(Bytes::new(Vec::new(alloc)))),
+        Some(word) => read_bytes(alloc, notation, word.as_bytes()),
+    }
 }

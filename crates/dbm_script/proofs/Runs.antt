@@ -15,12 +15,13 @@ use Rattle.store_cmd.specs.declared.Entry.{Entry}
 use Rattle.store_moves.proofs.Acting.{Acts-unique}
 use Rattle.dbm_script.specs.Lines.{ask_of}
 use Rattle.dbm_script.specs.Images.{ImageVerdict}
+use Rattle.dbm_script.specs.Incr.{counter_argument, counter_image}
 use Rattle.dbm_script.specs.Answers.{IsAnswerTo, answer_text}
 use Rattle.dbm_script.specs.declared.notations.Notation.{Notation}
 use Rattle.dbm_script.specs.declared.answers.Answer.{Answer}
 use Rattle.dbm_script.specs.declared.answers.Answer.TheVariants.{Replied, Refused}
 use Rattle.dbm_script.specs.declared.lines.Ask.{Ask}
-use Rattle.dbm_script.specs.declared.lines.Ask.TheVariants.{Plain, Program, Run}
+use Rattle.dbm_script.specs.declared.lines.Ask.TheVariants.{Plain, Program, Run, Incr}
 use Rattle.dbm_script.specs.Script.{RunsLines, RunsScript, IsScriptRun, AnswersCommand, AnswersRun, AnswersLine, run_command, AddsBytes, Stage, stage}
 use Rattle.dbm_script.proofs.Numbered.{Numbers-unique}
 
@@ -120,6 +121,13 @@ AnswersLine-unique A n s (Some (Plain command)) told t u a b x y =
 AnswersLine-unique A n s (Some (Run run)) told t u a b x y =
     let same = AnswersRun-unique A n s.db (run_command s.programs run.key run.prog run.arg run.blank run.now) t u a.db b.db x.1.1 y.1.1 in
     (same.0, same_stage a b same.1 (x.1.0 ∙ sym y.1.0))
+AnswersLine-unique A n s (Some (Incr incr)) None t u a b x y = absurd x
+AnswersLine-unique A n s (Some (Incr incr)) (Some (Ok p)) t u a b x y =
+    let numbers = Numbers-unique s.programs counter_image p x.0 y.0 a.programs b.programs x.1.0 y.1.0 in
+    let same = AnswersCommand-unique A n s.db (commands.Run incr.key p.code (counter_argument incr.amount 0 18446744073709551615) (Some 8) 0) t u a.db b.db x.1.1 y.1.1 in
+    (same.0, same_stage a b same.1 numbers.1)
+AnswersLine-unique A n s (Some (Incr incr)) (Some (Err fault)) t u a b x y =
+    (x.1.1.1.1 ∙ sym y.1.1.1.1, same_stage a b (x.0 ∙ sym y.0) (x.1.1.1.0 ∙ sym y.1.1.1.0))
 AnswersLine-unique A n s (Some (Program image)) None t u a b x y = absurd x
 AnswersLine-unique A n s (Some (Program image)) (Some (Ok p)) t u a b x y =
     let same = Numbers-unique s.programs image p x.1.0 y.1.0 a.programs b.programs x.1.1.0 y.1.1.0 in

@@ -21,7 +21,7 @@ store_of None value mode = None
 store_of (Some key) None mode = None
 store_of (Some key) (Some value) mode = Some (Store key value mode)
 
--- the command that words describe: a name and its arguments
+-- the command that the words describe: the first word is its name
 abbrev pub command_of_words : {A : Type 0} → Notation A → List (List ℕ) → Option (Command A)
 command_of_words notation [] = None
 command_of_words notation (word ∷ []) = cond (bytes_eq word (codes "count")) (Some Count) None

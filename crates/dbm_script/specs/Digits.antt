@@ -2,7 +2,7 @@
 use Rattle.std.specs.Prelude.{ℕ, ◌+◌, ◌*◌, ◌%◌, ◌==◌, ◌&&◌, nat_le, nat_lt, bit_or, cond, Bool, true, false, List, [], ◌∷◌, Option, Some, None}
 use Rattle.hex.specs.Hex.{hex_digit_value}
 
--- the digit value of a byte of the table; above 15 it has no value
+-- the digit value that a table entry represents; an entry above 15 represents none
 abbrev pub value_read : ℕ → Option ℕ
 value_read v = cond (nat_le v 15) (Some v) None
 
@@ -12,21 +12,22 @@ is_same None (Some w) = false
 is_same (Some v) None = false
 is_same (Some v) (Some w) = v == w
 
--- the table has the value of each digit from c on
+-- the table has the values of the bytes from c on as digits
 abbrev pub are_values : List ℕ → ℕ → Bool
 are_values [] c = true
 are_values (v ∷ vs) c = is_same (value_read v) (hex_digit_value c) && are_values vs (c + 1)
 
--- ---- sixteen at once
+-- ---- sixteen digits at once
 
 -- the result of a vector comparison in one lane
 abbrev pub lane_passes : Bool → Bool
 lane_passes test = nat_le 128 (cond test 255 0)
 
--- the distance of a byte from `0`, and of a letter from `a`, modulo 256
+-- the distance of a byte from `0`, modulo 256
 abbrev pub behind_zero : ℕ → ℕ
 behind_zero c = (c + 208) % 256
 
+-- the distance of a letter from `a`, in either case, modulo 256
 abbrev pub behind_a : ℕ → ℕ
 behind_a c = (bit_or c 32 + 159) % 256
 

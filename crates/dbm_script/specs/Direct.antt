@@ -14,12 +14,12 @@ abbrev pub store_name : Mode → List ℕ
 store_name Insert = codes "insert"
 store_name Replace = codes "replace"
 
--- the answer to a line is appended, or nothing changes
+-- if true, the line was run and its answer appended; if false, nothing changed
 abbrev pub IfDone : (A : Type 0) → Notation A → List Accepted → List (List ℕ) → Bool → Database → List ℕ → Database → List ℕ → Type 0
 IfDone A notation programs words true db old db' new = AddsBytes old new (λ added. AnswersLine A notation (stage db programs) (ask_of notation words) None added (stage db' programs))
 IfDone A notation programs words false db old db' new = (db' ≡ db) × (new ≡ old)
 
--- the answer to a command is appended, or nothing changes
+-- if true, the command was run and its answer appended; if false, nothing changed
 abbrev pub IfAnswered : (A : Type 0) → Notation A → Command A → Bool → Database → List ℕ → Database → List ℕ → Type 0
 IfAnswered A notation command true db old db' new = AddsBytes old new (λ added. AnswersCommand A notation db command added db')
 IfAnswered A notation command false db old db' new = (db' ≡ db) × (new ≡ old)

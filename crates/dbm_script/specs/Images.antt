@@ -12,7 +12,7 @@ use Rattle.prog_registry.specs.declared.fault.RegFault.TheVariants.{NoMemory, De
 abbrev pub ImageVerdict : Type 0
 ImageVerdict = Result Accepted RegFault
 
--- The program is already in the list, at exactly one place, and its number is that place. Nothing changes.
+-- The program is already in the list, at one index alone, which is its number. Nothing changes.
 pub record IsThere (programs : List Accepted) (image : List ℕ) (p : Accepted) (id : ℕ) (programs' : List Accepted) : Type 0 where
   pub stands : slice_get programs id ≡ Some p
   pub spelled : image_in p ≡ image
@@ -37,7 +37,7 @@ Denies programs image (Decode fault) = IsUndecoded image fault
 Denies programs image (Verify fault) = IsJudged image fault
 Denies programs image Full = IsAccepted image × (length programs ≡ program_limit)
 
--- The answer to a line that submits an image, by the verdict on the image, and the list of programs after it.
+-- The answer to a line that submits an image, and the list of programs after it, given the verdict on the image.
 abbrev pub AnswersImage : List Accepted → List ℕ → ImageVerdict → List ℕ → List Accepted → Type 0
 AnswersImage programs image (Ok p) text programs' =
     (id : ℕ) × (Numbers programs image p id programs' × (text ≡ codes "program " ++ decimal id))

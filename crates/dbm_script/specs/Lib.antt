@@ -4,6 +4,7 @@ pub mod Notation
 pub mod Commands
 pub mod Numbers
 pub mod Lines
+pub mod Incr
 pub mod Answers
 pub mod Tasks
 pub mod Images

@@ -13,7 +13,7 @@ pub record Unread : Type 0 where
 abbrev pub lines_left : Unread → Option (List ℕ) → Option (List (List ℕ))
 lines_left unread known = cond unread.ended (Some []) (option_map (λ more. pieces_of 10 (unread.rest ++ more)) known)
 
--- returns the next line, if any is left
+-- the result of reading a line: the next line, or false if no line is left
 abbrev pub GivesNextLine : Option (List (List ℕ)) → Bool → List ℕ → Option (List (List ℕ)) → Type 0
 GivesNextLine None found line new = ⊤
 GivesNextLine (Some []) true line new = ⊥
@@ -21,7 +21,7 @@ GivesNextLine (Some []) false line new = new ≡ Some []
 GivesNextLine (Some (l ∷ ls)) true line new = (line ≡ l) × (new ≡ Some ls)
 GivesNextLine (Some (l ∷ ls)) false line new = ⊥
 
--- returns the next line that ends with LF, or else the bytes after the last LF
+-- the result of reading a line that ends with LF: the next one, or false and the bytes after the last LF
 abbrev pub GivesEnded : Option (List (List ℕ)) → Bool → List ℕ → Option (List (List ℕ)) → Type 0
 GivesEnded None is_ended line new = ⊤
 GivesEnded (Some []) is_ended line new = (is_ended ≡ false) × (new ≡ Some [])
@@ -32,12 +32,12 @@ GivesEnded (Some (l ∷ other ∷ others)) is_ended line new = (is_ended ≡ tru
 abbrev pub IsPiece : List ℕ → Type 0
 IsPiece text = All (λ b. (b == 10) ≡ false) text
 
--- moves the buffered bytes up to the first LF to the end of the line; without an LF, all of them
+-- the buffered bytes before the first LF move to the end of the line; if there is no LF, all buffered bytes do
 abbrev pub TakesPiece : Bool → List ℕ → List ℕ → List ℕ → List ℕ → Type 0
 TakesPiece true rest old new rest' = (piece : List ℕ) × (IsPiece piece × ((rest ≡ piece ++ 10 ∷ rest') × (new ≡ old ++ piece)))
 TakesPiece false rest old new rest' = IsPiece rest × ((rest' ≡ []) × (new ≡ old ++ rest))
 
--- the buffer has new bytes, or the reader is at its end
+-- if true, the buffer has new bytes; if false, the reader is at its end
 abbrev pub Refills : Bool → List ℕ → Option (List ℕ) → Type 0
 Refills true rest known = 0 < length rest
 Refills false rest known = (rest ≡ []) × IsAtEnd known

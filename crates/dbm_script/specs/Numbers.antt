@@ -1,4 +1,4 @@
--- Numbers in words.
+-- The blank of a run, as a word.
 use Rattle.std.specs.Prelude.{ℕ, List, cond, codes, Option, Some, None, option_map}
 use Rattle.std.specs.Str.{bytes_eq}
 pub use Rattle.byte_text.specs.Numbers.{number_of}

@@ -1,5 +1,5 @@
 -- Scripts: the effect of the lines of a text, and the text of the answers.
-use Rattle.std.specs.Prelude.{◌≡◌, ℕ, ◌<◌, List, [], ◌∷◌, ◌++◌, codes, length, slice_get, option_map, Option, Some, None}
+use Rattle.std.specs.Prelude.{◌≡◌, ℕ, ◌<◌, List, [], ◌∷◌, ◌++◌, codes, length, slice_get, option_map, Option, Some, None, Ok, Err}
 use Rattle.bpf_verify.specs.Verified.{Accepted}
 use Rattle.sdbm_addr.specs.Database.{Database}
 use Rattle.store_cmd.specs.declared.Command.{Command}
@@ -7,11 +7,12 @@ use Rattle.store_cmd.specs.declared.Command.TheVariants as commands
 use Rattle.dbm_script.specs.Pieces.{pieces_of}
 use Rattle.dbm_script.specs.Lines.{ask_of}
 use Rattle.dbm_script.specs.declared.notations.Notation.{Notation}
-use Rattle.dbm_script.specs.Images.{ImageVerdict, AnswersImage}
+use Rattle.dbm_script.specs.Images.{ImageVerdict, Numbers, AnswersImage}
+use Rattle.dbm_script.specs.Incr.{counter_argument, counter_image}
 use Rattle.dbm_script.specs.Answers.{IsAnswerTo, answer_text}
 use Rattle.dbm_script.specs.declared.answers.Answer.{Answer}
 use Rattle.dbm_script.specs.declared.lines.Ask.{Ask}
-use Rattle.dbm_script.specs.declared.lines.Ask.TheVariants.{Plain, Program, Run}
+use Rattle.dbm_script.specs.declared.lines.Ask.TheVariants.{Plain, Program, Run, Incr}
 use Rattle.dbm_script.specs.declared.fault.ScriptFault.{ScriptFault}
 use Rattle.dbm_script.specs.declared.fault.ScriptFault.TheVariants.{Read, TooLong, Write, NoMemory}
 
@@ -36,20 +37,30 @@ abbrev pub AnswersRun : (A : Type 0) → Notation A → Database → Option (Com
 AnswersRun A notation db None text db' = (text ≡ codes "refused NoProgram") × (db' ≡ db)
 AnswersRun A notation db (Some command) text db' = AnswersCommand A notation db command text db'
 
--- The effect of one line, and the text of its answer. They follow from the request in the line and from the verdict on the program image,
--- if the line submits one. A bad line changes nothing.
+-- The effect of an `incr`, and the text of its answer. `bounded_counter` is submitted and run on the record of the key; the record of a
+-- missing key begins as 8 zeros. If the program is refused, the database is unchanged, and the text says why.
+abbrev pub AnswersIncr : (A : Type 0) → Notation A → Stage → List ℕ → ℕ → ImageVerdict → List ℕ → Stage → Type 0
+AnswersIncr A notation s key amount (Ok p) text s' =
+    (id : ℕ) × (Numbers s.programs counter_image p id s'.programs
+    × AnswersCommand A notation s.db (commands.Run key p.code (counter_argument amount 0 18446744073709551615) (Some 8) 0) text s'.db)
+AnswersIncr A notation s key amount (Err fault) text s' = (s'.db ≡ s.db) × AnswersImage s.programs counter_image (Err fault) text s'.programs
+
+-- The effect of one line, and the text of its answer, given the request in the line. If the request submits a program image, as an `incr`
+-- does too, both also depend on the verdict on the image. A bad line changes nothing.
 abbrev pub AnswersLine : (A : Type 0) → Notation A → Stage → Option (Ask A) → Option ImageVerdict → List ℕ → Stage → Type 0
 AnswersLine A notation s None told text s' = (told ≡ None) × ((text ≡ codes "bad line") × (s' ≡ s))
 AnswersLine A notation s (Some (Plain command)) told text s' =
     (told ≡ None) × ((s'.programs ≡ s.programs) × AnswersCommand A notation s.db command text s'.db)
 AnswersLine A notation s (Some (Run run)) told text s' =
     (told ≡ None) × ((s'.programs ≡ s.programs) × AnswersRun A notation s.db (run_command s.programs run.key run.prog run.arg run.blank run.now) text s'.db)
+AnswersLine A notation s (Some (Incr incr)) None text s' = ⊥
+AnswersLine A notation s (Some (Incr incr)) (Some verdict) text s' = AnswersIncr A notation s incr.key incr.amount verdict text s'
 AnswersLine A notation s (Some (Program image)) None text s' = ⊥
 AnswersLine A notation s (Some (Program image)) (Some verdict) text s' =
     (s'.db ≡ s.db) × AnswersImage s.programs image verdict text s'.programs
 
--- The effect of lines in order, and the text of their answers, with a verdict for each line that is not empty. An empty line has no answer;
--- the answer to any other line ends with LF.
+-- The effect of lines in order, and the text of their answers. The list `told` has an optional verdict for each line that is not empty. An
+-- empty line has no answer; the answer to any other line ends with LF.
 abbrev pub RunsLines : (A : Type 0) → Notation A → Stage → List (List ℕ) → List (Option ImageVerdict) → List ℕ → Stage → Type 0
 RunsLines A notation s [] [] text s' = (text ≡ []) × (s' ≡ s)
 RunsLines A notation s [] (verdict ∷ told) text s' = ⊥
@@ -58,13 +69,13 @@ RunsLines A notation s ((c ∷ cs) ∷ lines) [] text s' = ⊥
 RunsLines A notation s ((c ∷ cs) ∷ lines) (verdict ∷ told) text s' =
     (first : List ℕ) × ((rest : List ℕ) × ((mid : Stage) × (AnswersLine A notation s (ask_of notation (pieces_of 32 (c ∷ cs))) verdict first mid × (RunsLines A notation mid lines told rest s' × (text ≡ first ++ 10 ∷ rest)))))
 
--- a script on a database, starting without programs; its lines end with LF, which the last line may lack
+-- a script that runs on a database and starts without programs; its last line may lack the LF
 abbrev pub RunsScript : (A : Type 0) → Notation A → Database → List ℕ → List (Option ImageVerdict) → List ℕ → Database → Type 0
 RunsScript A notation db input told text db' =
     (programs : List Accepted) × RunsLines A notation (stage db []) (pieces_of 10 input) told text (stage db' programs)
 
--- A script writes this text and leads to this database, page by page. Given the verdicts on the program images in its lines, the text and
--- the database are unique.
+-- The script writes this text and leads to this database, page by page. Given the verdicts on its program images, no other text or database
+-- is possible.
 pub record IsScriptRun (A : Type 0) (notation : Notation A) (db : Database) (input text : List ℕ) (db' : Database) : Type 0 where
   pub told : List (Option ImageVerdict)
   pub runs : RunsScript A notation db input told text db'

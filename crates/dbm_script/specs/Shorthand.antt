@@ -6,22 +6,22 @@ use Rattle.dbm_script.specs.declared.shorthand.LineKind.{LineKind}
 use Rattle.dbm_script.specs.declared.shorthand.LineKind.TheVariants.{OfScript, OfBatch}
 use Rattle.dbm_script.specs.declared.shorthand.TimeOfDay.{TimeOfDay}
 
--- a line with the full name of its command instead of a short name
+-- the line with the full name of its command instead of the short name
 abbrev pub fully_named : List ℕ → List ℕ
 fully_named line =
     cond (starts_with nat_eq line (codes "get ")) (codes "fetch " ++ drop 4 line)
     (cond (starts_with nat_eq line (codes "put ")) (codes "replace " ++ drop 4 line)
     (cond (starts_with nat_eq line (codes "del ")) (codes "delete " ++ drop 4 line) line))
 
--- a line with the time of day in decimal instead of the last word `now` or `now-ms`; unchanged if there is no time
+-- the line with the time of day in decimal instead of a last word `now` or `now-ms`; if there is no time, the line is unchanged
 abbrev pub timed : Option TimeOfDay → List ℕ → List ℕ
 timed None line = line
 timed (Some time) line =
     cond (ends_with nat_eq line (codes " now")) (take (length line - 3) line ++ decimal time.seconds)
     (cond (ends_with nat_eq line (codes " now-ms")) (take (length line - 6) line ++ decimal time.millis) line)
 
--- A line that is not a comment and does not end in CR. Each line of a batch ends in a time, and so does a line of a script that runs a
--- program. The first word of a line of a batch is a key, not a command.
+-- The expansion of a line that is not a comment and does not end in CR. Each line of a batch ends in a time, and so does a script line that
+-- runs a program. The first word of a batch line is a key, not a command.
 abbrev pub in_full : LineKind → Option TimeOfDay → List ℕ → List ℕ
 in_full OfScript time line = cond (starts_with nat_eq line (codes "run ")) (timed time line) (fully_named line)
 in_full OfBatch time line = timed time line
@@ -31,7 +31,7 @@ abbrev pub is_comment : LineKind → List ℕ → Bool
 is_comment OfScript line = starts_with nat_eq line (codes "#")
 is_comment OfBatch line = false
 
--- A line with its shorthand expanded. A comment becomes an empty line. A line that ends in CR becomes a single CR, which is a bad line.
+-- The line with its shorthand expanded. A comment becomes an empty line. Any other line that ends in CR becomes a single CR, a bad line.
 abbrev pub spelled_line : LineKind → Option TimeOfDay → List ℕ → List ℕ
 spelled_line lines time line =
     cond (is_comment lines line) []

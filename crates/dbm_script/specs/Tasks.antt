@@ -17,7 +17,7 @@ all_words (Some key) (Some arg) None now = None
 all_words (Some key) (Some arg) (Some blank) None = None
 all_words (Some key) (Some arg) (Some blank) (Some now) = Some (record { key = key; arg = arg; blank = blank; now = now })
 
--- the meaning of the words of a run: bytes of a key and an argument, a blank and a time
+-- the meaning of the four words of a run: a key, an argument, a blank and a time
 abbrev pub run_words_of : {A : Type 0} → Notation A → List ℕ → List ℕ → List ℕ → List ℕ → Option (RunWords A)
 run_words_of notation key arg blank now = all_words (bytes_of_word notation key) (bytes_of_word notation arg) (blank_of blank) (number_of 18446744073709551615 now)
 
@@ -34,7 +34,7 @@ HasBadNumber notation key arg blank now =
 abbrev pub bad_bytes : {A : Type 0} → Notation A → WordFault
 bad_bytes notation = cond (reads_hex notation) words.BadHex words.BadText
 
--- why the words are not those of a run
+-- the fault is a reason why the four words are not the words of a run
 abbrev pub IsWordFault : {A : Type 0} → Notation A → List ℕ → List ℕ → List ℕ → List ℕ → WordFault → Type 0
 IsWordFault notation key arg blank now words.BadHex = (reads_hex notation ≡ true) × HasBadBytes notation key arg
 IsWordFault notation key arg blank now words.BadText = (reads_hex notation ≡ false) × HasBadBytes notation key arg
@@ -50,7 +50,7 @@ task_of notation (key ∷ arg ∷ blank ∷ []) = None
 task_of notation (key ∷ arg ∷ blank ∷ now ∷ []) = run_words_of notation key arg blank now
 task_of notation (key ∷ arg ∷ blank ∷ now ∷ other ∷ others) = None
 
--- the tasks of lines, in order; an empty line has no task, and any other line has one
+-- the lines have these tasks, in order; an empty line has no task, and any other line has one
 abbrev pub AskTasks : (A : Type 0) → Notation A → List (List ℕ) → List (RunWords A) → Type 0
 AskTasks A notation [] [] = ⊤
 AskTasks A notation [] (task ∷ tasks) = ⊥
@@ -58,7 +58,7 @@ AskTasks A notation ([] ∷ lines) tasks = AskTasks A notation lines tasks
 AskTasks A notation ((c ∷ cs) ∷ lines) [] = ⊥
 AskTasks A notation ((c ∷ cs) ∷ lines) (task ∷ tasks) = (task_of notation (pieces_of 32 (c ∷ cs)) ≡ Some task) × AskTasks A notation lines tasks
 
--- the tasks of a text; its lines end with LF, which the last line may lack
+-- the text has these tasks; its last line may lack the LF
 abbrev pub AreTasksOf : (A : Type 0) → Notation A → List ℕ → List (RunWords A) → Type 0
 AreTasksOf A notation input tasks = AskTasks A notation (pieces_of 10 input) tasks
 
@@ -67,12 +67,12 @@ abbrev pub IsBadLine : (A : Type 0) → Notation A → List ℕ → Type 0
 IsBadLine A notation [] = ⊥
 IsBadLine A notation (c ∷ cs) = task_of notation (pieces_of 32 (c ∷ cs)) ≡ None
 
--- Appends the task of a line, if it is valid. An empty line has no task.
+-- If true, the task of the line was appended; an empty line has no task. If false, the line is bad.
 abbrev pub AddsTask : (A : Type 0) → Notation A → List ℕ → Bool → List (RunWords A) → List (RunWords A) → Type 0
 AddsTask A notation line true old new = (added : List (RunWords A)) × (AskTasks A notation (line ∷ []) added × (new ≡ old ++ added))
 AddsTask A notation line false old new = IsBadLine A notation line
 
--- the first bad line of a text, by its number from 1 on; empty lines count too
+-- the number, from 1 on, of the first bad line of a text; empty lines are numbered too
 pub record IsFirstBad (A : Type 0) (notation : Notation A) (input : List ℕ) (number : ℕ) : Type 0 where
   pub before : List (List ℕ)
   pub line : List ℕ

@@ -10,7 +10,7 @@ use std::alloc::{AllocError, Allocator};
 use store_cmd::{Command, check_sizes};
 use store_moves::act;
 
-/// The session of all commands in a script.
+/// The session number of all commands in a script.
 const SCRIPT_SESSION: u64 = 0;
 
 // Runs a command and appends the answer to `text`.
@@ -28,7 +28,7 @@ pub(crate) fn answer_one<A: Allocator + Copy>(
     show_answer(alloc, notation, &answer, text)
 }
 
-/// Runs a command on a database as session 0. Keeps no trail.
+/// Runs a command on a database as session 0, without a trail.
 ///
 /// # Errors
 /// `AllocError` if allocation fails. The database is then unchanged.

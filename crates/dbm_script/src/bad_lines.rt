@@ -1,10 +1,10 @@
 //! Counts the lines of a script that are not commands.
 ghost use Rattle.std.specs.Prelude.{◌≡◌, ◌+◌, ◌<◌, false, true};
 
-/// The lines of a script that are not commands, such as a misspelled one. They are answered by `bad line`.
+/// The count of the lines of a script that are not commands, such as a misspelled one. Each is answered `bad line`.
 #[derive(Clone, Copy, Debug, PartialEq, Eq)]
 pub struct BadLines {
-    /// The number of the first, from 1 on, or 0 if there is none.
+    /// The line number, from 1 on, of the first bad line, or 0 if there is none.
     pub first: u64,
     pub count: u64,
 }
@@ -18,7 +18,7 @@ impl BadLines {
     }
 }
 
-/// The position in a script, and the bad lines before it.
+/// The number of lines of a script so far, and the bad ones among them.
 #[derive(Clone, Copy, Debug)]
 pub struct LineCount {
     lines: u64,
@@ -26,7 +26,7 @@ pub struct LineCount {
 }
 
 impl LineCount {
-    /// The beginning of a script.
+    /// No lines so far.
     pub fn new() -> LineCount
         ensures { result.bad ≡ record { first = 0; count = 0 } }
     {
@@ -36,7 +36,7 @@ impl LineCount {
         }
     }
 
-    /// Counts the next line, which is a command or not.
+    /// Counts the next line, which is bad if `is_command` is false.
     pub fn add(&mut self, is_command: bool)
         ensures command { is_command ≡ true → self.new.bad ≡ self.old.bad }
         ensures bad { is_command ≡ false → self.old.bad.count < 18446744073709551615 → self.new.bad.count ≡ self.old.bad.count + 1 }
@@ -51,7 +51,7 @@ impl LineCount {
         self.bad.count = self.bad.count.saturating_add(1);
     }
 
-    /// The bad lines so far.
+    /// Returns the count of the bad lines so far.
     pub fn bad_lines(&self) -> BadLines
         ensures { result ≡ self.now.bad }
     {

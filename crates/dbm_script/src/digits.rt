@@ -1,4 +1,4 @@
-//! Decodes hex sixteen digits at once or by a table, and encodes it by tables.
+//! Decodes hex, sixteen digits at once or one by one from a table, and encodes bytes in hex.
 ghost use Rattle.std.specs.Prelude.{◌≡◌, ◌+◌, ◌*◌, ◌≤◌, ◌++◌, IfOk, OnOk, true, false, Ok, None, length, map, ℕ, Vec, vec_len, vec_capacity};
 ghost use Rattle.std.specs.Option.{option_map};
 ghost use Rattle.dbm_script.specs.Digits.{are_values, joined_digits, lane_value, value_read};
@@ -20,8 +20,8 @@ const VALUES: [u8; 256] =
     \xff\xff\xff\xff\xff\xff\xff\xff\xff\xff\xff\xff\xff\xff\xff\xff\xff\xff\xff\xff\xff\xff\xff\xff\xff\xff\xff\xff\xff\xff\xff\xff\
     \xff\xff\xff\xff\xff\xff\xff\xff\xff\xff\xff\xff\xff\xff\xff\xff\xff\xff\xff\xff\xff\xff\xff\xff\xff\xff\xff\xff\xff\xff\xff\xff";
 
-/// Decodes hex of either case, with the result of `hex::decode`. Returns `None` if the text is not hex. The code has no branch per kind of
-/// digit: the digits of a key are random, so such branches are mispredicted.
+/// Decodes hex of either case, as `hex::decode` does. Returns `None` if the text is not hex. No branch depends on the kind of a digit: the
+/// digits of a key are random, so the processor would mispredict it.
 ///
 /// # Errors
 /// `AllocError` if allocation fails.
@@ -52,7 +52,7 @@ pub(crate) fn decode_into(text: &[u8], out: &mut [u8]) -> bool
     decode_eight(first, bytes) && decode_into(others, rest)
 }
 
-// Like `decode_into`, for eight bytes.
+// Like `decode_into`, for sixteen digits.
 #[inline(always)]
 fn decode_eight(text: &[u8], out: &mut [u8]) -> bool
     requires text { length text.now ≡ 16 }
@@ -81,7 +81,7 @@ fn values(text: u8x16) -> u8x16
     decimal.simd_lt(u8x16::splat(10)).select(decimal, behind)
 }
 
-// Joins the values of sixteen digits to eight bytes.
+// Joins the values of sixteen digits in pairs to eight bytes.
 #[inline(always)]
 fn pairs(digits: u8x16) -> u8x8
     ensures { result ≡ joined_digits digits }
@@ -115,7 +115,7 @@ fn value(digit: u8) -> u8
     look_up(&VALUES, digit)
 }
 
-// The entry of a table for a digit.
+// Returns the entry of a table for a byte.
 fn look_up(table: &[u8; 256], digit: u8) -> u8
     requires { are_values table.now 0 ≡ true }
     ensures { value_read result ≡ hex_digit_value digit }

@@ -25,8 +25,8 @@ use store_moves::{RunInput, act_run, act_store, ran};
 /// The longest word, in bytes after decoding, that is read without allocation.
 const SHORT: usize = 64;
 
-/// Answers a line in hex as session 0 and appends the answer to `text`, if that needs no memory except for `text`. This is so for a fetch,
-/// a store on a page that has room, and a run on an existing record, each with short words. Otherwise returns `false` and changes nothing.
+/// Answers a line in hex as session 0 and appends the answer to `text`, if only `text` needs memory. The words must be short, and the line
+/// must be a fetch, a store that `act_store` executes, or a run that `act_run` executes. Otherwise returns `false` and changes nothing.
 ///
 /// # Errors
 /// `AllocError` if allocation fails. On error, discard `text`: it may be partial. A store or a run may have taken effect.
@@ -81,7 +81,7 @@ fn read_short(word: &[u8], room: &mut [u8; SHORT]) -> Option<usize>
     Some(count)
 }
 
-// Answers a fetch from the words after its name.
+// Answers a fetch, given the word after its name.
 fn fetch_directly<A: Allocator + Copy>(
     alloc: A,
     notation: &Notation<A>,
@@ -121,7 +121,7 @@ fn answer_fetch<A: Allocator + Copy>(
     }
 }
 
-// Answers a store from the words after its name.
+// Answers a store, given the words after its name.
 fn store_directly<A: Allocator + Copy>(
     notation: &Notation<A>,
     image: &mut Image<A>,
@@ -154,7 +154,7 @@ fn store_directly<A: Allocator + Copy>(
     )
 }
 
-// Answers a store, if its page has room.
+// Answers a store, if `act_store` can execute it.
 fn answer_store<A: Allocator + Copy>(
     image: &mut Image<A>,
     key: &[u8],
@@ -175,7 +175,7 @@ fn answer_store<A: Allocator + Copy>(
     Ok(true)
 }
 
-// Answers a run from the words after its name.
+// Answers a run, given the words after its name.
 fn run_directly<A: Allocator + Copy>(
     alloc: A,
     notation: &Notation<A>,
@@ -213,7 +213,7 @@ fn run_directly<A: Allocator + Copy>(
     }
 }
 
-// Answers a run from its five words.
+// Answers a run, given its five words.
 fn run_words<A: Allocator + Copy>(
     alloc: A,
     notation: &Notation<A>,
@@ -261,7 +261,7 @@ fn run_words<A: Allocator + Copy>(
     answer_run_input(alloc, notation, image, &input, text)
 }
 
-// Answers a run, if its record exists.
+// Answers a run, if `act_run` can execute it.
 fn answer_run_input<A: Allocator + Copy>(
     alloc: A,
     notation: &Notation<A>,

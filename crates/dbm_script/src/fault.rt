@@ -7,7 +7,7 @@ use std::alloc::AllocError;
 use std::error::Error;
 use std::fmt;
 
-/// Why a script did not complete. It prints as its name.
+/// The reason why a script did not complete. It prints as its name.
 #[derive(Clone, Copy, Debug, PartialEq, Eq)]
 pub enum ScriptFault {
     /// The reader failed.
@@ -48,7 +48,7 @@ impl From<CutShort> for ScriptFault {
     }
 }
 
-/// Why the lines of a script did not all run.
+/// The reason why running the lines of a script failed.
 #[derive(Clone, Copy, Debug, PartialEq, Eq)]
 pub enum LinesFault {
     /// The answers are longer than the limit.

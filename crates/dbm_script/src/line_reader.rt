@@ -9,7 +9,7 @@ use std::alloc::{AllocError, Global};
 use std::io::Read;
 use std::marker::Model;
 
-/// Why the next line could not be read.
+/// The reason why the next line could not be read.
 #[derive(Clone, Copy, Debug, PartialEq, Eq)]
 pub enum LineFault {
     /// The reader failed.
@@ -28,7 +28,7 @@ impl From<AllocError> for LineFault {
     }
 }
 
-/// A buffer of bytes that were read but not yet returned. It also records whether the input has ended.
+/// A buffer of bytes that were read but not yet returned. A flag in it says that the input has ended.
 #[derive(Drop)]
 pub struct LineReader {
     buffer: Vec<u8>,
@@ -47,7 +47,7 @@ impl Model for LineReader {
 }
 
 impl LineReader {
-    /// An empty buffer, for a reader at its beginning.
+    /// Makes an empty buffer, for a reader from which nothing was read.
     pub fn new(alloc: Global) -> Self
         ensures rest { result.rest ≡ [] }
         ensures open { result.ended ≡ false }
@@ -67,7 +67,7 @@ impl LineReader {
     }
 
     /// Replaces `line` by the next line, without its LF. Returns `false` if no lines are left. The bytes after the last LF are one more
-    /// line, which may be empty. Reads no more than the line needs.
+    /// line, which may be empty. Calls the reader only while the line is incomplete.
     ///
     /// # Errors
     /// `Read` if the reader fails or is interrupted, `TooLong` if the line has more than `most` bytes, and `NoMemory`. On error, the bytes
@@ -100,11 +100,11 @@ impl LineReader {
         }
     }
 
-    /// Like `next`, for a reader whose lines all end with LF. Returns `false` when `line` has the bytes after the last LF: none, or an
-    /// incomplete line.
+    /// Like `next`, but accepts only lines that end with LF. At the end of the input, returns `false`, and `line` has the bytes after the
+    /// last LF: none, or an incomplete line.
     ///
     /// # Errors
-    /// Those of `next`.
+    /// The errors of `next`.
     pub fn next_ended<R: Read>(
         &mut self,
         reader: &mut R,

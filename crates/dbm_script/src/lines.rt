@@ -4,14 +4,15 @@ ghost use Rattle.dbm_script.specs.Pieces.{pieces_of};
 ghost use Rattle.dbm_script.specs.Commands.{command_of_words};
 ghost use Rattle.dbm_script.specs.Notation.{bytes_of_word, hex_bytes};
 ghost use Rattle.dbm_script.specs.Numbers.{number_of, blank_of};
-ghost use Rattle.dbm_script.specs.Lines.{plain, program_of, ask_of_run, ask_of};
+ghost use Rattle.dbm_script.specs.Lines.{plain, program_of, ask_of_run, ask_of, incr_of};
 
 use crate::commands::read_command;
-use crate::notations::{Notation, read_hex};
+use crate::incr::IncrAsk;
+use crate::notations::{Notation, read_bytes, read_hex};
 use crate::pieces::first_piece;
 use crate::run_words::words_asked;
 use crate::running::RunAsk;
-use byte_text::read_number;
+use byte_text::{read_number, read_signed};
 use sdbm_addr::Bytes;
 use std::alloc::{AllocError, Allocator};
 use store_cmd::Command;
@@ -25,10 +26,12 @@ pub enum Ask<A: Allocator> {
     Program(Bytes<A>),
     /// Run the program with this number on the record of a key, or on a blank if the key is missing.
     Run(RunAsk<A>),
+    /// Add to the number of a key.
+    Incr(IncrAsk<A>),
 }
 
-/// Reads the request in a line. Returns `None` if the line is not a request. One space separates two words. Reads no more words than it
-/// needs to decide. A program image is in hex in each notation.
+/// Reads the request in a line. Returns `None` if the line is not a request. One space separates two words. A program image is in hex in
+/// each notation.
 ///
 /// # Errors
 /// `AllocError` if allocation fails.
@@ -49,12 +52,12 @@ pub fn read_line<A: Allocator + Copy>(
     };
     let (second, rest) = first_piece(b' ', rest);
     let Some(rest) = rest else {
-        return read_plain(alloc, notation, name, &[first, second]);
+        return read_three(alloc, notation, name, first, second);
     };
     read_long(alloc, notation, name, first, second, rest)
 }
 
-// The request of a name and two words, and the words after them.
+// Reads the request in a name, two words, and the rest of the line.
 fn read_long<A: Allocator + Copy>(
     alloc: A,
     notation: &Notation<A>,
@@ -80,7 +83,7 @@ fn read_long<A: Allocator + Copy>(
     }
 }
 
-// The request of a name and five words.
+// Reads the request in a name and five words.
 fn read_six<A: Allocator + Copy>(
     alloc: A,
     notation: &Notation<A>,
@@ -125,7 +128,7 @@ fn read_run<A: Allocator + Copy>(
     })))
 }
 
-// The number of a program.
+// Reads the number of a program.
 fn read_prog(text: &[u8]) -> Option<u32>
     ensures { result ≡ number_of 4294967295 text.now }
 {
@@ -135,7 +138,7 @@ fn read_prog(text: &[u8]) -> Option<u32>
     }
 }
 
-// The request of a name and one word.
+// Reads the request in a name and one word.
 fn read_two<A: Allocator + Copy>(
     alloc: A,
     notation: &Notation<A>,
@@ -147,7 +150,44 @@ fn read_two<A: Allocator + Copy>(
     if name == b"program".as_slice() {
         return read_program(alloc, word);
     }
+    if name == b"incr".as_slice() {
+        return read_incr(alloc, notation, word, Some(1));
+    }
     read_plain(alloc, notation, name, &[word])
+}
+
+// Reads the request in a name and two words.
+fn read_three<A: Allocator + Copy>(
+    alloc: A,
+    notation: &Notation<A>,
+    name: &[u8],
+    first: &[u8],
+    second: &[u8],
+) -> Result<Option<Ask<A>>, AllocError>
+    ensures { IfOk result (λ ask. ask ≡ ask_of notation.now (name.now ∷ (first.now ∷ (second.now ∷ [])))) }
+{
+    if name == b"incr".as_slice() {
+        return read_incr(alloc, notation, first, read_signed(second));
+    }
+    read_plain(alloc, notation, name, &[first, second])
+}
+
+// Reads an addition to the number of a key. Returns `None` if there is no amount or the key is invalid.
+fn read_incr<A: Allocator + Copy>(
+    alloc: A,
+    notation: &Notation<A>,
+    key: &[u8],
+    amount: Option<u64>,
+) -> Result<Option<Ask<A>>, AllocError>
+    ensures { IfOk result (λ ask. ask ≡ incr_of (bytes_of_word notation.now key.now) amount) }
+{
+    let Some(amount) = amount else {
+        return Ok(None);
+    };
+    match read_bytes(alloc, notation, key)? {
+        Some(key) => Ok(Some(Ask::Incr(IncrAsk { key, amount }))),
+        None => Ok(None),
+    }
 }
 
 fn read_program<A: Allocator + Copy>(alloc: A, image: &[u8]) -> Result<Option<Ask<A>>, AllocError>
@@ -159,7 +199,7 @@ fn read_program<A: Allocator + Copy>(alloc: A, image: &[u8]) -> Result<Option<As
     }
 }
 
-// A command on the database, if the words are a command.
+// Reads a command on the database. Returns `None` if the words are not a command.
 fn read_plain<A: Allocator + Copy>(
     alloc: A,
     notation: &Notation<A>,

@@ -14,7 +14,7 @@ pub enum Notation<A: Allocator> {
     Hex,
     /// As text.
     Text,
-    /// As text, except that answers show values by a layout if they fit it.
+    /// As text, except that answers show a value by the layout if the value fits it.
     Layout(Layout<A>),
 }
 
@@ -30,7 +30,7 @@ impl<A: Allocator> Notation<A> {
     }
 }
 
-/// The bytes of a word, in hex of either case or as text. A dot means no bytes. Returns `None` if the word is empty or invalid.
+/// Reads the bytes of a word, in hex of either case or as text. A dot means no bytes. Returns `None` if the word is empty or invalid.
 ///
 /// # Errors
 /// `AllocError` if allocation fails.
@@ -89,7 +89,7 @@ pub fn show_bytes<A: Allocator>(
     }
 }
 
-/// Appends the bytes of a value to `text`: by the layout if the notation has one, and otherwise like `show_bytes`.
+/// Appends the bytes of a value to `text`: by the layout if the notation has one that the value fits, otherwise like `show_bytes`.
 ///
 /// # Errors
 /// `AllocError` if allocation fails. On error, discard `text`: it may be partial.

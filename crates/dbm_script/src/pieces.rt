@@ -25,7 +25,7 @@ pub(crate) fn first_short_piece(end: u8, text: &[u8]) -> (&[u8], Option<&[u8]>)
     }
 }
 
-// The index of the first such byte in a text.
+// Returns the index of the first `byte` in a text.
 #[inline(always)]
 fn place_of(byte: u8, text: &[u8]) -> Option<usize>
     ensures place { result ≡ position (λ b. b == byte) text.now }

@@ -19,14 +19,14 @@ pub struct RunWords<A: Allocator> {
     pub now: u64,
 }
 
-/// Why four words are not those of a run.
+/// The reason why four words are not the words of a run.
 #[derive(Clone, Copy, Debug, PartialEq, Eq)]
 pub enum WordFault {
     /// The key or the argument is not valid hex.
     BadHex,
     /// The key or the argument is not valid text.
     BadText,
-    /// The key and the argument are valid, but the blank or the time is not a number.
+    /// The key and the argument are valid, but the blank or the time is not.
     BadNumber,
     /// Allocation failed.
     NoMemory,
@@ -43,8 +43,8 @@ impl From<AllocError> for WordFault {
 /// Reads four words: a key, an argument, a blank and a time.
 ///
 /// # Errors
-/// The first of: `BadHex` (or in a text notation `BadText`) if the key or the argument is invalid, `BadNumber` if the blank or the time is
-/// not a number; and `NoMemory`.
+/// `BadHex` (in a text notation `BadText`) if the key or the argument is invalid; otherwise `BadNumber` if the blank or the time is
+/// invalid; and `NoMemory`.
 pub fn read_run_words<A: Allocator + Copy>(
     alloc: A,
     notation: &Notation<A>,
@@ -86,7 +86,7 @@ fn bad_bytes<A: Allocator>(notation: &Notation<A>) -> WordFault
     WordFault::BadText
 }
 
-/// Like `read_run_words`, but returns `None` if the words are not those of a run.
+/// Like `read_run_words`, but returns `None` if the words are not the words of a run.
 ///
 /// # Errors
 /// `AllocError` if allocation fails.

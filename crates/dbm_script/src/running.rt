@@ -11,7 +11,7 @@ use std::alloc::{AllocError, Allocator};
 use std::sync::Arc;
 use store_cmd::{Command, Program};
 
-/// The run that a line requests: of a program given by its number, on the record of a key, or on a blank if the key is missing.
+/// The run that a line requests. The program, given by its number, runs on the record of the key, or on a blank if the key is missing.
 #[derive(Drop)]
 pub struct RunAsk<A: Allocator> {
     pub key: Bytes<A>,
@@ -44,7 +44,7 @@ pub fn answer_run<A: Allocator + Copy>(
     }
 }
 
-/// The command of a run. Returns `None` if no program has its number.
+/// Makes the command of a run. Returns `None` if no program has the number that the run names.
 ///
 /// # Errors
 /// `AllocError` if the reference count of the program is at its maximum.

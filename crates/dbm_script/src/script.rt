@@ -14,6 +14,7 @@ use crate::bad_lines::{BadLines, LineCount};
 use crate::direct::answer_directly;
 use crate::fault::{LinesFault, ScriptFault};
 use crate::images::answer_image;
+use crate::incr::answer_incr;
 use crate::lines::{Ask, read_line};
 use crate::notations::Notation;
 use crate::pieces::first_piece;
@@ -26,18 +27,18 @@ use sdbm_files::Image;
 use std::alloc::{AllocError, Allocator};
 use std::io::{Read, Write};
 
-/// A script that was run.
+/// The result of running a script.
 #[derive(Drop)]
 pub struct ScriptRun<A: Allocator> {
-    /// The database after its lines.
+    /// The database after the script.
     pub image: Image<A>,
     /// The text of the answers.
     pub text: Vec<u8, A>,
-    /// Its lines that are not commands. No clause says which: notes show them.
+    /// The count of the lines that are not commands, for a note. No clause constrains it.
     pub bad_lines: BadLines,
 }
 
-/// Reads a script, runs all its lines on a database as session 0, writes the answers, and returns the database after them.
+/// Reads a script, runs all its lines on a database as session 0, and writes the answers. Returns the resulting database.
 ///
 /// # Errors
 /// `Read` if the reader fails, `TooLong` if the script has more than 16,777,216 bytes, `Write` if the writer fails or accepts no byte, and
@@ -66,8 +67,8 @@ pub fn run_script<A: Allocator + Copy, R: Read, W: Write>(
     Ok(after)
 }
 
-/// Runs the lines of a script on a database as session 0. Returns the database after them, and the text of the answers. The programs that
-/// lines submit are dropped at the end.
+/// Runs the lines of a script on a database as session 0. Returns the resulting database and the text of the answers. Submitted programs
+/// are dropped at the end.
 ///
 /// # Errors
 /// `OutputTooLong` at the first line whose answer makes the text longer than the limit, and `NoMemory`. On error, the database is dropped.
@@ -146,8 +147,8 @@ pub fn run_spelled<A: Allocator + Copy>(
     })
 }
 
-/// Answers one line on a database as session 0, and appends the answer with its LF to `text`. An empty line has no answer. Programs that
-/// the line submits go into the registry. Returns `false` if the line is a bad one, for a note; no clause says so.
+/// Answers one line on a database as session 0. Appends the answer and an LF to `text`; an empty line has no answer. A program that the
+/// line submits is added to the registry. Returns `false` if the line is bad; no clause says so.
 ///
 /// # Errors
 /// `AllocError` if allocation fails.
@@ -171,7 +172,7 @@ pub fn answer_line<A: Allocator + Copy>(
     Ok(is_command)
 }
 
-// Answers the words of a line: a request by its answer, anything else by `bad line`. Returns whether it is a request.
+// Appends the answer to a line without its LF: `bad line` if the line is not a request. Returns `true` if it is a request.
 fn answer_words<A: Allocator + Copy>(
     alloc: A,
     notation: &Notation<A>,
@@ -216,5 +217,6 @@ fn answer_ask<A: Allocator + Copy>(
         Ask::Plain(command) => answer_one(alloc, notation, image, command, text),
         Ask::Program(bytes) => answer_image(alloc, registry, bytes.as_slice(), text),
         Ask::Run(run) => answer_run(alloc, notation, image, registry, run, text),
+        Ask::Incr(incr) => answer_incr(alloc, notation, image, registry, incr, text),
     }
 }

@@ -24,8 +24,9 @@ pub struct TimeOfDay {
 }
 
 /// Expands the shorthand of a text line by line. In a script, a line that begins with `#` becomes empty, and `get`, `put` and `del` become
-/// `fetch`, `replace` and `delete`. A line that ends in CR becomes a single CR, which is a bad line. If there is a time, a last word `now`
-/// or `now-ms` of a line that runs a program becomes the seconds or the milliseconds of it. Each line keeps its number.
+/// `fetch`, `replace` and `delete`. Any other line that ends in CR becomes a single CR, which is a bad line. If there is a time and a line
+/// runs a program, a last word `now` of the line becomes the seconds of the time, and `now-ms` its milliseconds. Each line keeps its
+/// number.
 ///
 /// # Errors
 /// `AllocError` if allocation fails.
@@ -51,7 +52,7 @@ pub fn spell_out<A: Allocator + Copy>(
     Ok(text)
 }
 
-/// Appends a line with its shorthand expanded to `text`, as `spell_out` does for each line.
+/// Expands the shorthand of one line as `spell_out` does, and appends the result to `text`.
 ///
 /// # Errors
 /// `AllocError` if allocation fails.
@@ -82,7 +83,7 @@ fn is_comment(lines: LineKind, line: &[u8]) -> bool
     }
 }
 
-// Appends a line with its command and its time expanded to `text`.
+// Appends a line to `text`, with the name of its command and its time expanded.
 fn spell_words<A: Allocator>(
     lines: LineKind,
     time: Option<TimeOfDay>,
@@ -102,7 +103,7 @@ fn spell_words<A: Allocator>(
     }
 }
 
-// Appends a line with the full name of its command to `text`.
+// Appends a line to `text`, with the full name of its command.
 fn spell_name<A: Allocator>(line: &[u8], text: &mut Vec<u8, A>) -> Result<(), AllocError>
     ensures { OnOk result (text.new.items ≡ text.old.items ++ fully_named line.now) }
 {
@@ -118,7 +119,7 @@ fn spell_name<A: Allocator>(line: &[u8], text: &mut Vec<u8, A>) -> Result<(), Al
     text.extend_from_slice(line)
 }
 
-// Appends a line with its time in decimal to `text`.
+// Appends a line to `text`, with its time in decimal.
 fn spell_time<A: Allocator>(
     time: Option<TimeOfDay>,
     line: &[u8],

@@ -8,7 +8,7 @@ use std::io::Read;
 /// The largest script, in bytes.
 pub const SCRIPT_LIMIT: usize = 16_777_216;
 
-/// Reads all bytes that a reader has left, at most `SCRIPT_LIMIT`. An interrupted read is an error like any other.
+/// Reads all remaining bytes of a reader. More than `SCRIPT_LIMIT` bytes are an error, and so is an interrupted read.
 pub fn read_all<A: Allocator + Copy, R: Read>(
     alloc: A,
     reader: &mut R,

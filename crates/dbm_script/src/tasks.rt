@@ -9,10 +9,10 @@ use crate::pieces::first_piece;
 use crate::run_words::{RunWords, words_asked};
 use std::alloc::{AllocError, Allocator};
 
-/// Why a text is not a list of tasks.
+/// The reason why a text is not a list of tasks.
 #[derive(Clone, Copy, Debug, PartialEq, Eq)]
 pub enum TasksFault {
-    /// The first line that is not empty and not a task, by its number from 1 on.
+    /// The number, from 1 on, of the first line that is neither empty nor a task.
     BadLine(usize),
     /// Allocation failed.
     NoMemory,
@@ -26,10 +26,10 @@ impl From<AllocError> for TasksFault {
     }
 }
 
-/// Reads the tasks of a text, one in each line: KEY ARG BLANK NOW, as in a line that runs a program. Empty lines are skipped.
+/// Reads the tasks of a text. Each line is empty or has the four words of a task, `KEY ARG BLANK NOW`.
 ///
 /// # Errors
-/// `BadLine` with the first line that is neither empty nor a task, and `NoMemory`.
+/// `BadLine` with the number of the first line that is neither empty nor a task, and `NoMemory`.
 pub fn read_tasks<A: Allocator + Copy>(
     alloc: A,
     notation: &Notation<A>,
@@ -52,7 +52,7 @@ pub fn read_tasks<A: Allocator + Copy>(
     Ok(tasks)
 }
 
-// Appends the task of a line to `tasks`; an empty line has none. Returns `false` if the line is bad.
+// Appends the task of a line to `tasks`; an empty line has no task. Returns `false` if the line is bad.
 fn add_task<A: Allocator + Copy>(
     alloc: A,
     notation: &Notation<A>,
@@ -71,7 +71,7 @@ fn add_task<A: Allocator + Copy>(
     Ok(true)
 }
 
-// The task of a line. Returns `None` if the line is not a task.
+// Reads the task of a line. Returns `None` if the line is not a task.
 fn read_task<A: Allocator + Copy>(
     alloc: A,
     notation: &Notation<A>,

@@ -3,7 +3,7 @@ use Rattle.std.specs.Prelude.{◌≡◌, List, [], ◌∷◌, ◌++◌, Option, 
 use Rattle.sdbm_addr.specs.Database.{Database}
 use Rattle.dbm_script.specs.declared.shorthand.TimeOfDay.{TimeOfDay}
 
--- saved a database, or returned the time of day if it is available
+-- a call that saved a database, or a call that returned the time of day, or None if there was no time
 pub data HostCall : Type 0 where
   DidSave : Database → HostCall
   GaveTime : Option TimeOfDay → HostCall
@@ -20,7 +20,7 @@ times_in [] = []
 times_in (DidSave db ∷ calls) = times_in calls
 times_in (GaveTime time ∷ calls) = time ∷ times_in calls
 
--- the new log is the old log and these calls, if the logs are known
+-- the new log is the old log followed by these calls, if the old log is known
 abbrev pub Logs : Option (List HostCall) → Option (List HostCall) → List HostCall → Type 0
 Logs None new more = ⊤
 Logs (Some old) None more = ⊥

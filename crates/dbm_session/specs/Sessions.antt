@@ -22,7 +22,7 @@ abbrev pub before_last : List ℕ → List (List ℕ) → List (List ℕ)
 before_last piece [] = []
 before_last piece (other ∷ others) = piece ∷ before_last other others
 
--- The lines of a text, from its pieces: each ends with LF, so the last piece, after the last LF, is not a line.
+-- The lines of a text, from its pieces between LFs. Each line ends with LF, so the piece after the last LF is not a line.
 abbrev pub ended_lines : List (List ℕ) → List (List ℕ)
 ended_lines [] = []
 ended_lines (piece ∷ pieces) = before_last piece pieces
@@ -31,7 +31,7 @@ abbrev pub last_after : List ℕ → List (List ℕ) → List ℕ
 last_after piece [] = piece
 last_after piece (other ∷ others) = last_after other others
 
--- the bytes after the last LF of a text, from its pieces
+-- the bytes after the last LF of a text, from its pieces between LFs
 abbrev pub last_piece : List (List ℕ) → List ℕ
 last_piece [] = []
 last_piece (piece ∷ pieces) = last_after piece pieces
@@ -56,34 +56,34 @@ is_own line = bytes_eq line (codes "help") || starts_with nat_eq line (codes "."
 
 abbrev pub begins_change : List ℕ → Bool
 begins_change line = starts_with nat_eq line (codes "replace ") || starts_with nat_eq line (codes "put ") || starts_with nat_eq line (codes "insert ")
-    || starts_with nat_eq line (codes "delete ") || starts_with nat_eq line (codes "del ") || starts_with nat_eq line (codes "run ")
+    || starts_with nat_eq line (codes "delete ") || starts_with nat_eq line (codes "del ") || starts_with nat_eq line (codes "run ") || starts_with nat_eq line (codes "incr ")
 
 -- the answer to a line that is not a request
 abbrev pub bad_line : List ℕ
 bad_line = codes "bad line" ++ 10 ∷ []
 
--- The line requests a change: a store, a delete or a run, even if the answer is a refusal. A bad line requests nothing.
+-- The line requests a change: a store, a delete, a run or an addition, even if it is refused. A bad line requests nothing.
 abbrev pub asks_change : List ℕ → List ℕ → Bool
 asks_change line answer = begins_change line && not (bytes_eq answer bad_line)
 
--- The effect of a line as a script line at this time, and the text of its answer.
+-- The effect of a script line at this time, and the text of its answer.
 pub record AnswersScripted (n : Notation Global) (s : Stage) (time : Option TimeOfDay) (line text : List ℕ) (s' : Stage) : Type 0 where
   pub told : List (Option ImageVerdict)
   pub runs : RunsLines Global n s (spelled_line OfScript time line ∷ []) told text s'
 
--- The same at the time that the host returned. That is the only call to the host.
+-- The effect and the answer of a script line at the time that the host returned. The host was called only for this time.
 pub record AnswersTimed (n : Notation Global) (s : Stage) (line text : List ℕ) (calls : List HostCall) (s' : Stage) : Type 0 where
   pub time : Option TimeOfDay
   pub calls_are : calls ≡ GaveTime time ∷ []
   pub answers : AnswersScripted n s time line text s'
 
--- a script line that submits a program
+-- the effect and the answer of a script line that submits a program
 pub record SubmitsProgram (n : Notation Global) (s : Stage) (text : List ℕ) (calls : List HostCall) (s' : Stage) : Type 0 where
   pub line : List ℕ
   pub is_program : starts_with nat_eq line (codes "program ") ≡ true
   pub answers : AnswersTimed n s line text calls s'
 
--- A line of the host prints something and changes nothing, or is replaced by a script line that submits a program.
+-- The effect and the answer of a line of the host: it changes nothing, or a script line that submits a program runs instead.
 abbrev pub AnswersOwn : Notation Global → Stage → List ℕ → List HostCall → Stage → Type 0
 AnswersOwn n s text calls s' = ((calls ≡ []) × (s' ≡ s)) ⊎ SubmitsProgram n s text calls s'
 
@@ -98,13 +98,13 @@ MaySave [] db = ⊤
 MaySave (call ∷ []) db = call ≡ DidSave db
 MaySave (call ∷ other ∷ others) db = ⊥
 
--- the log gains a save of this database, or nothing
+-- the log gains no call, or one save of this database
 pub record SavesMaybe (log log' : Option (List HostCall)) (db : Database) : Type 0 where
   pub calls : List HostCall
   pub may : MaySave calls db
   pub kept : Logs log log' calls
 
--- the log gains at most one save
+-- the log gains calls with at most one save among them
 pub record SavesAtMostOne (log log' : Option (List HostCall)) : Type 0 where
   pub calls : List HostCall
   pub few : length (saves_in calls) ≤ 1
@@ -127,7 +127,7 @@ AnswersAs false false n s line text calls s' = AnswersThenSaves n s line text ca
 abbrev pub AnswersSessionLine : Notation Global → Stage → List ℕ → List ℕ → List HostCall → Stage → Type 0
 AnswersSessionLine n s line text calls s' = AnswersAs (is_save line) (is_own line) n s line text calls s'
 
--- a line was answered, and the log gained its calls to the host
+-- a line was answered, and the log gained the calls to the host for this line
 pub record Answered (n : Notation Global) (s : Stage) (line text : List ℕ) (log log' : Option (List HostCall)) (s' : Stage) : Type 0 where
   pub calls : List HostCall
   pub answers : AnswersSessionLine n s line text calls s'
@@ -139,7 +139,7 @@ pub record AnsweredTimed (n : Notation Global) (s : Stage) (line text : List ℕ
   pub answers : AnswersTimed n s line text calls s'
   pub kept : Logs log log' calls
 
--- a line of the host was answered, and the log gained its calls
+-- a line of the host was answered, and the log gained the calls for this line
 pub record AnsweredOwn (n : Notation Global) (s : Stage) (text : List ℕ) (log log' : Option (List HostCall)) (s' : Stage) : Type 0 where
   pub calls : List HostCall
   pub answers : AnswersOwn n s text calls s'
@@ -147,7 +147,7 @@ pub record AnsweredOwn (n : Notation Global) (s : Stage) (text : List ℕ) (log 
 
 -- ---- many lines
 
--- the first of some lines, and Rest for the lines after it
+-- the first of several lines is answered, and Rest holds of the lines after it
 pub record OneThen (n : Notation Global) (s : Stage) (line text : List ℕ) (calls : List HostCall) (Rest : Stage → List ℕ → List HostCall → Type 0) : Type 0 where
   pub first : List ℕ
   pub rest : List ℕ
@@ -164,8 +164,8 @@ abbrev pub RunsSession : Notation Global → Stage → List (List ℕ) → List 
 RunsSession n s [] text calls s' = (text ≡ []) × ((calls ≡ []) × (s' ≡ s))
 RunsSession n s (line ∷ lines) text calls s' = OneThen n s line text calls (λ mid rest later. RunsSession n mid lines rest later s')
 
--- All lines were answered. The writer gained their answers, and the log gained their calls to the host. The last call saves the final
--- database.
+-- All lines were answered. The writer gained the answers, and the log gained the calls to the host for these lines. After them, the final
+-- database was saved.
 pub record SessionEnds (n : Notation Global) (db : Database) (lines : List (List ℕ)) (old new : Option (List ℕ)) (log log' : Option (List HostCall)) (after : Database) : Type 0 where
   pub text : List ℕ
   pub calls : List HostCall
@@ -174,8 +174,8 @@ pub record SessionEnds (n : Notation Global) (db : Database) (lines : List (List
   pub written : Appends old new text
   pub kept : Logs log log' (calls ++ DidSave after ∷ [])
 
--- Only the first lines were answered. The writer has a prefix of their answers, or all of them. The log has their calls, followed by
--- further calls with at most one save. That save may have failed.
+-- The first lines were answered, perhaps all. The writer gained a prefix of the answers, perhaps all. The log gained the calls for these
+-- lines, followed by further calls with at most one save, which may have failed.
 pub record SessionStops (n : Notation Global) (db : Database) (lines : List (List ℕ)) (old new : Option (List ℕ)) (log log' : Option (List HostCall)) : Type 0 where
   pub done : List (List ℕ)
   pub behind : List (List ℕ)
@@ -192,11 +192,11 @@ pub record SessionStops (n : Notation Global) (db : Database) (lines : List (Lis
 
 -- ---- sessions with only script lines
 
--- a script line
+-- a line that the script language has
 abbrev pub IsOfScript : List ℕ → Type 0
 IsOfScript line = (is_save line ≡ false) × (is_own line ≡ false)
 
--- the expanded lines, each with its own time
+-- the lines with their shorthand expanded, each at its own time
 abbrev pub AreLinesSpelled : List (List ℕ) → List (List ℕ) → List (Option TimeOfDay) → Type 0
 AreLinesSpelled [] [] times = times ≡ []
 AreLinesSpelled [] (full ∷ fulls) times = ⊥
@@ -217,7 +217,7 @@ pub record RunsAsScript (n : Notation Global) (db : Database) (lines : List (Lis
   pub runs : RunsLines Global n (stage db []) fulls told text (stage after programs)
   pub written : Appends old new text
 
--- a prefix of the text was written, or all of it
+-- a prefix of the text was written, perhaps all
 pub record WritesSome (old new : Option (List ℕ)) (text : List ℕ) : Type 0 where
   pub count : ℕ
   pub written : Appends old new (take count text)

@@ -1,20 +1,20 @@
-//! When a session saves by itself.
+//! The rule for the automatic saves of a session (`--save-every`).
 
 use dbm_script::read_number;
 
-/// When a session saves by itself.
+/// The rule for the automatic saves of a session. Any session also saves at its end and at each line `save`.
 #[derive(Clone, Copy, Debug, PartialEq, Eq)]
 pub enum Every {
-    /// Only at its end.
+    /// No automatic saves.
     Never,
-    /// After the line that brings the number of changing lines since the last save to this count.
+    /// A save once this many lines have requested changes since the last save.
     Changes(u64),
-    /// After the first line answered at least this many seconds after the last save, if lines have requested changes since.
+    /// A save after a line, if at least this many seconds have passed since the last save and a line has requested a change since then.
     Seconds(u64),
 }
 
-/// Reads when to save: `N` lines, or `Ns` seconds. `N` is a decimal number from 1, without leading zeros. Returns `None` if the word is
-/// invalid.
+/// Reads the value of `--save-every`: `N` for a number of lines, or `Ns` for seconds. `N` is a decimal number from 1, without leading
+/// zeros. Returns `None` if the value is invalid.
 pub fn read_every(word: Option<&str>) -> Option<Every> {
     let Some(word) = word else {
         return Some(Every::Never);
@@ -34,7 +34,8 @@ fn read_count(word: &str) -> Option<u64> {
 }
 
 impl Every {
-    /// Returns `true` if a save is due, given the number of lines that requested changes since the last save and the seconds since then.
+    /// Returns `true` if a save is due. `changes` is the number of lines that requested changes since the last save, and `seconds` is the
+    /// time since that save.
     pub fn is_due(self, changes: u64, seconds: u64) -> bool {
         match self {
             Every::Never => false,

@@ -3,7 +3,7 @@
 use dbm_script::LineFault;
 use std::alloc::AllocError;
 
-/// Why a session stopped before the end of its input.
+/// The reason why a session failed.
 #[derive(Drop)]
 pub enum SessionFault<F: Drop> {
     /// The reader failed.

@@ -21,23 +21,23 @@ pub trait Host {
     /// The error of a save.
     type Fault: Drop;
 
-    // A log of the saves and of the times that the clock returned, in order. None if the host does not record them.
+    // The log of the saves and of the times that the clock returned, in order. None if the host keeps no log.
     ghost log: { Self → Option (List HostCall) } = { λ _. None };
 
-    /// Prompts for a line before it is read. If `is_over` is true, the input has ended.
+    /// Prompts for the next line. If `is_over` is true, the input has ended, and no line follows.
     fn ask(&mut self, is_over: bool)
         ensures { log self.new ≡ log self.old };
 
-    /// The time of day for a line. `None` if lines may not use it, or the system does not report it.
+    /// Returns the time of day for a line, or `None` if lines may not use it or the system reports none.
     fn time(&mut self) -> Option<TimeOfDay>
         ensures { Logs (log self.old) (log self.new) (GaveTime result ∷ []) };
 
-    /// Returns `true` to save the database after a line. `asks_change` says whether that line requested a change.
+    /// Returns `true` if the database must be saved after a line. `asks_change` is true if that line requested a change.
     fn is_due(&mut self, asks_change: bool) -> bool
         ensures { log self.new ≡ log self.old };
 
-    /// Answers a line that is not part of the script language: appends an answer to `text`, or returns a script line that submits a
-    /// program.
+    /// Answers a line that is not part of the script language. Either appends an answer to `text`, or returns a script line that submits
+    /// a program.
     ///
     /// # Errors
     /// `AllocError` if allocation fails.
@@ -53,7 +53,7 @@ pub trait Host {
     /// Saves a database. Returns `Ok` once the save is committed.
     ///
     /// # Errors
-    /// The host's own. The save may or may not have taken effect.
+    /// An error of the host. The save may still have taken effect.
     fn save(&mut self, image: &Image<Global>) -> Result<(), Self::Fault>
         ensures kept { OnOk result (Logs (log self.old) (log self.new) (DidSave image.now ∷ [])) }
         ensures lost { OnErr result (SavesMaybe (log self.old) (log self.new) image.now) };

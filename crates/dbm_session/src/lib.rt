@@ -1,5 +1,5 @@
-//! Sessions: scripts that stay open. Each line is answered before the next is read, and the database is saved between lines. Also the words of
-//! the subcommand `session`, when it saves by itself, and the lines that scripts do not have.
+//! Sessions: scripts that stay open. Each line is answered before the next is read, and the database is saved between lines. This crate
+//! also has the arguments of the subcommand `session`, the rule for its automatic saves, and the lines that scripts do not have.
 #![tactic(auto)]
 
 mod every;

@@ -19,8 +19,8 @@ pub fn is_own(line: &[u8]) -> bool
     line == b"help".as_slice() || line.starts_with(b".")
 }
 
-/// Returns `true` if a script line with this answer requests a change: a store, a delete or a run, even if the answer is a refusal. A bad
-/// line requests nothing.
+/// Returns `true` if a script line with this answer requests a change: a store, a delete, a run or an addition, even if it is refused.
+/// A bad line requests nothing.
 pub fn asks_change(line: &[u8], answer: &[u8]) -> bool
     ensures { result ≡ asks_change line.now answer.now }
 {
@@ -36,4 +36,5 @@ fn begins_change(line: &[u8]) -> bool
         || line.starts_with(b"delete ")
         || line.starts_with(b"del ")
         || line.starts_with(b"run ")
+        || line.starts_with(b"incr ")
 }

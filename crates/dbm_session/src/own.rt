@@ -11,27 +11,27 @@ use std::alloc::{AllocError, Global};
 
 const HELP: &[u8] = b"\
 get KEY              put KEY VALUE       del KEY
-insert KEY VALUE     count               save
+insert KEY VALUE     incr KEY [AMOUNT]   count
 program IMAGE        run KEY PROG ARG BLANK NOW
 .list [PREFIX]       .keys [PREFIX]      .stats
-.program FILE        .program @NAME       .help
+.program FILE        .program @NAME      save
 The end of the input saves and ends the session: at a terminal Ctrl-D, quit or exit.
 ";
 
 /// A line that scripts do not have.
 #[derive(Clone, Copy)]
 pub enum OwnLine<'a> {
-    /// Requests a text about the database.
+    /// Requests the pairs, the keys or the statistics of the database.
     Shows(ListingRequest<'a>),
-    /// Requests the list of lines.
+    /// Requests the help, which lists the lines of a session.
     Help,
-    /// Requests a number for the program in the file of this name.
+    /// Submits the program with this name: the name of its file, or `@` and the name of a stock program.
     Program(&'a [u8]),
     /// An invalid line.
     Bad,
 }
 
-/// Reads such a line. A prefix is the word after its name.
+/// Reads a line that scripts do not have. A prefix may follow `.list` and `.keys`.
 pub fn read_own(line: &[u8]) -> OwnLine<'_> {
     if line == b"help".as_slice() || line == b".help".as_slice() {
         return OwnLine::Help;
@@ -57,7 +57,7 @@ pub fn read_own(line: &[u8]) -> OwnLine<'_> {
     }
 }
 
-/// Appends the answer to such a line to `text`. An invalid line is answered `bad line`, as in a script.
+/// Appends the answer to a line that scripts do not have to `text`. `OwnLine::Bad` and `OwnLine::Program` are answered `bad line`.
 ///
 /// # Errors
 /// `AllocError` if allocation fails.
@@ -82,8 +82,8 @@ pub fn show_own(
     Ok(())
 }
 
-/// The line of a script that submits the program in `file`. Returns `None` if the text is not a program; a line appended to `text` then
-/// names the fault. A text without instructions is an empty program, which the verifier refuses.
+/// Returns the script line that submits the program whose text is `file`. If `file` is not the text of a program, appends a line that names
+/// the fault to `text` and returns `None`. A text without instructions is an empty program, which the verifier refuses.
 ///
 /// # Errors
 /// `AllocError` if allocation fails.
@@ -113,7 +113,7 @@ pub fn program_line(
     Ok(Some(line))
 }
 
-// Appends the line that says why a program's text is refused.
+// Appends the line that says why the text of a program is refused.
 fn show_fault(alloc: Global, fault: ReportFault, text: &mut Vec<u8>) -> Result<(), AllocError> {
     let line = format!(in alloc; "refused {fault}\n")?;
     text.extend_from_slice(line.as_bytes())

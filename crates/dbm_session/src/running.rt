@@ -17,7 +17,7 @@ use sdbm_files::Image;
 use std::alloc::{AllocError, Global};
 use std::io::{Read, Write};
 
-/// The result of a session: the saved database after its lines.
+/// The result of a session: the database after its lines, which was saved.
 #[derive(Drop)]
 pub struct SessionEnd {
     pub image: Image<Global>,
@@ -32,12 +32,12 @@ struct Session {
     registry: Registry<Global>,
 }
 
-/// Answers the lines of a reader until it ends, and saves the database after them. The answer to each line is written and flushed before
-/// the next line is read.
+/// Answers the lines of a reader until its end, then saves the database. The answer to each line is written and flushed before the next
+/// line is read.
 ///
 /// The line `save` saves the database; its answer `saved` is written once the save is committed. The host answers `help` and lines that
-/// begin with `.`. Any other line is answered as in a script, at the time that the host returns for it. Submitted programs stay until the
-/// end. If `Host::is_due` returns `true`, the database is saved after the line and before its answer is written.
+/// begin with `.`. Any other line is answered as in a script, at the time that the host returns for it. Submitted programs can be run until
+/// the session ends. If `Host::is_due` returns `true` after a script line, the database is saved before the answer to the line is written.
 ///
 /// Each line ends with LF. If the input ends within a line, that line is not run, and its number is returned.
 ///
@@ -74,7 +74,7 @@ pub fn run_session<R: Read, W: Write, H: Host>(
     Err(SessionFault::TooLong)
 }
 
-// The number of an incomplete last line after `count` lines. `None` if nothing of it was read.
+// The number of an incomplete last line after `count` complete lines. `None` if `line` is empty, because then no line is incomplete.
 fn half_after(count: u64, line: &Vec<u8>) -> Option<u64>
     requires { count < 18446744073709551615 }
     ensures { result ≡ half_after count line.now.items }

@@ -15,14 +15,15 @@ use dbm_args::{
 };
 use std::alloc::{AllocError, Global};
 
-/// Answers the lines of standard input one by one. The database is saved at the end, and in between as `save_every` says.
+/// The arguments of `session`, which answers the lines of standard input one by one. It saves the database at the end, and in between as
+/// `save_every` says.
 #[derive(Clone, Copy, Debug)]
 pub struct Session<'a> {
     pub base: &'a str,
     pub form: Form,
     pub notation: NotationOptions<'a>,
     pub save_every: Option<&'a str>,
-    /// Its lines may request the time of day.
+    /// Lines may use the time of day.
     pub clock: bool,
 }
 
@@ -41,7 +42,7 @@ impl<'a> Session<'a> {
         })
     }
 
-    /// Its words as messages show them.
+    /// Returns the arguments as messages show them.
     pub fn words(&self) -> Words<'a> {
         Words {
             subject: Subject::Session,

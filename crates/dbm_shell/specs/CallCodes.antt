@@ -1,4 +1,4 @@
--- An encoding of a session's calls to its host, so that a log can be the value of a ghost field.
+-- An encoding of a session's calls to its host, so that a ghost field can have a log as its value.
 use Rattle.std.specs.Prelude.{◌≡◌, ◌⊎◌, ℕ, Option, refl}
 use Rattle.std.specs.Coded.{Coded, code_by, coded×, coded⊎, coded_ℕ, coded_option}
 use mathlib.Core.Logic.{inl, inr}

@@ -1,4 +1,4 @@
-//! A ghost log of a session's calls to its host: only contracts read it.
+//! A ghost log of a session's calls to its host. Only contracts read the log.
 ghost use Rattle.std.specs.Prelude.{◌≡◌, ◌++◌, ◌∷◌, [], List};
 ghost use Rattle.std.specs.Coded.{coded_list};
 ghost use base.Fml.{ftrue};
@@ -10,7 +10,7 @@ use sdbm_files::Image;
 use std::alloc::Global;
 use std::marker::Model;
 
-/// The saves of a host and the times that it returned, in order. A ghost value: it has no bytes at run time and owns nothing.
+/// The saves of a host and the times that it returned, in order. This is a ghost value: it has no bytes at run time and owns nothing.
 pub(crate) struct HostLog {
     pub(crate) ghost calls: { List HostCall } by { coded_list coded_call },
 }

@@ -1,4 +1,4 @@
-//! Sessions on the files of a database, and at a terminal.
+//! The host of a session: the files of its database, the clock, and the terminal.
 #![tactic(auto)]
 
 mod host_log;

@@ -1,4 +1,4 @@
-//! A session on the files of its database.
+//! Serves a session on the files of its database.
 
 use crate::shell::{Options, Shell};
 use crate::terminal_lines::TerminalLines;
@@ -16,14 +16,16 @@ use std::io::{self, Read};
 use std::rt::Runtime;
 use std::time::Clock;
 
-/// Answers the lines of a reader on the database of files that were taken, and saves it there. No other run may change the database until
-/// the end; other runs may read it between two saves.
+/// Answers the lines of a reader on the database of the taken files, and saves the database in these files. Until the session ends, no
+/// other run may change the database; other runs may read it between two saves.
 ///
 /// # Errors
-/// `Report` with `BadLayout` if the layout of values is invalid, with `BadNumber` if `--save-every` is, and with `Open` if the files do not
-/// open, before a line is read; then `Report` with `Read`, and with `TooLong` if a line has more than 16,777,216 bytes, `Write` if an
-/// answer was not written, those of a save, and `NoMemory`. The changes since the last save are lost then, and a note says how many lines
-/// requested them. `CutLine` if the input ends within a line: that line is not run, and the changes before it are saved.
+/// - Before a line is read: `Report` with `BadLayout` if the layout of values is invalid, with `BadNumber` if `--save-every` is invalid, or
+///   with `Open` if the files cannot be opened; and `WriteFile` if the files were taken without the lock for changes.
+/// - While lines are answered: `Report` with `Read`, or with `TooLong` if a line has more than 16,777,216 bytes; `Write` if an answer was
+///   not written; the errors of a save; and `NoMemory`. The changes since the last save are then lost, and a note gives the number of lines
+///   that requested changes.
+/// - `CutLine` if the input ends within a line. That line is not run, and the changes before it are saved.
 pub fn serve_session<R: Runtime<File = File> + Clock + AllocGlobal, I: Read>(
     rt: &R,
     session: Session<'_>,
@@ -50,7 +52,7 @@ pub fn serve_session<R: Runtime<File = File> + Clock + AllocGlobal, I: Read>(
     answer_lines(rt, &notation, image, reader, &mut shell)
 }
 
-// Opens the database of the files, and drops their bytes.
+// Opens the database of the files, and drops the bytes of the files.
 fn opened(
     alloc: Global,
     session: Session<'_>,
@@ -64,7 +66,7 @@ fn opened(
     Ok(open(alloc, &given, session.form)?)
 }
 
-// Answers the lines. After a fault it reports the number of lines whose changes are lost.
+// Answers the lines of a reader. After a fault, reports the number of lines whose changes are lost.
 fn answer_lines<R: Runtime<File = File> + Clock + AllocGlobal, I: Read>(
     rt: &R,
     notation: &Notation<Global>,
@@ -91,7 +93,7 @@ fn answer_lines<R: Runtime<File = File> + Clock + AllocGlobal, I: Read>(
     }
 }
 
-// The fault of a session as a fault of the program.
+// Converts the fault of a session into a fault of the program.
 fn serve_fault(fault: SessionFault<FilesFault>) -> ServeFault {
     match fault {
         SessionFault::Read => ServeFault::Report(ReportFault::Read),

@@ -1,4 +1,4 @@
-//! The host of a session: the files of its database, the clock, and the terminal at which its lines are typed.
+//! The host of a session: the files of the database, the clock, and the terminal at which lines are typed.
 ghost use Rattle.std.specs.Prelude.{◌≡◌, ◌++◌, ◌∷◌, [], IfOk, IfSome, codes, nat_eq, true};
 ghost use Rattle.std.specs.List.{starts_with};
 ghost use Rattle.dbm_session.specs.HostCalls.{DidSave};
@@ -20,7 +20,7 @@ use std::rt::Runtime;
 use std::time::{Clock, Duration, SystemTime, UNIX_EPOCH};
 use stock_names::{NAMES, ProgramWord, read_word};
 
-/// The options of a session: the notation of its lines, when it saves by itself, and whether its lines may request the time of day.
+/// The options of a session: the notation of its lines, the rule for its automatic saves, and whether lines may use the time of day.
 #[derive(Clone, Copy)]
 pub struct Options<'a> {
     pub notation: &'a Notation<Global>,
@@ -28,16 +28,16 @@ pub struct Options<'a> {
     pub clock: bool,
 }
 
-/// The files of a session's database, the clock, and the terminal for typing its lines, if there is one. Its saves share a log, which is
-/// open from the first one on. It remembers the identity of its files, since a save may only go into these. Clauses see its saves and the
-/// times that it returned through a separate log.
+/// The files of a session's database, the clock, and the terminal at which lines are typed, if there is one. All saves of the session go
+/// through one log of saves, which is open from the first save on. The shell remembers the identity of its files, because it may save only
+/// into these. Only clauses read the field `log`, which has the saves and the times that the shell returned.
 #[derive(Drop)]
 pub struct Shell<'a, R: Runtime<File = File>> {
     rt: &'a R,
     place: RunPlace<'a>,
     held: &'a LockedFiles,
     seen: SeenFiles,
-    // The data files that its saves have made, held open.
+    // The data files that the saves of the session have made, held open.
     made: DataFiles,
     saves: SessionSaves<'a, R>,
     options: Options<'a>,
@@ -45,13 +45,13 @@ pub struct Shell<'a, R: Runtime<File = File>> {
     // The number of lines that requested changes since the last save.
     changes: u64,
     has_saved: bool,
-    // The time of the last save. If the system does not report it, a save is due.
+    // The time of the last save, or of the start. If it is `None`, a save after some seconds is due as soon as a line requests a change.
     saved_at: Option<Duration>,
     log: HostLog,
 }
 
 impl<'a, R: Runtime<File = File> + Clock + AllocGlobal> Shell<'a, R> {
-    /// The host of a session before any line is read.
+    /// Makes the host of a session before any line is read.
     pub fn new(
         rt: &'a R,
         place: RunPlace<'a>,
@@ -82,7 +82,7 @@ impl<'a, R: Runtime<File = File> + Clock + AllocGlobal> Shell<'a, R> {
         }
     }
 
-    // The time of day. `None` if lines may not request it, or the system does not report it.
+    // Returns the time of day, or `None` if lines may not use it or the system reports none.
     fn clock_time(&self) -> Option<TimeOfDay> {
         if !self.options.clock {
             return None;
@@ -97,7 +97,7 @@ impl<'a, R: Runtime<File = File> + Clock + AllocGlobal> Shell<'a, R> {
         })
     }
 
-    // Saves a database in the files, and returns the log with that save. No other function logs a save.
+    // Saves a database in the files, and returns the log with this save appended. No other function logs a save.
     fn save_logged(&mut self, image: &Image<Global>) -> Result<HostLog, FilesFault>
         ensures saved { IfOk result (λ log. log.calls ≡ self.old.log.calls ++ DidSave image.now ∷ []) }
         ensures same { self.new.log.calls ≡ self.old.log.calls }
@@ -110,15 +110,15 @@ impl<'a, R: Runtime<File = File> + Clock + AllocGlobal> Shell<'a, R> {
         Ok(self.log.with_save(image))
     }
 
-    /// Ends the saves of the session: both data files are whole then. If a file cannot be written, and the session has saved, it reports that
-    /// the next run that writes finishes the save.
+    /// Ends the saves of the session, after which both data files are whole. If this fails and the session has saved, notes that the next
+    /// run that writes will finish the save.
     pub fn end_saves(&mut self) {
         if close_session(self.rt, self.held, &mut self.saves).is_err() && self.has_saved {
             note_waiting_save(self.rt, self.place.base);
         }
     }
 
-    // The seconds since the last save, as far as the system reports them.
+    // The seconds since the last save, or the greatest number if the system reports no time.
     fn seconds(&self) -> u64 {
         let (Some(saved_at), Ok(now)) = (self.saved_at, self.rt.monotonic()) else {
             return u64::MAX;
@@ -126,7 +126,7 @@ impl<'a, R: Runtime<File = File> + Clock + AllocGlobal> Shell<'a, R> {
         now.saturating_sub(saved_at).as_secs()
     }
 
-    // The bytes of a program's file.
+    // Reads the file of a program.
     fn read_file(&self, name: &[u8]) -> Result<Vec<u8>, FilesFault> {
         match str::from_utf8(name) {
             Ok(name) => read_program(self.rt, name),
@@ -134,8 +134,8 @@ impl<'a, R: Runtime<File = File> + Clock + AllocGlobal> Shell<'a, R> {
         }
     }
 
-    // The line that submits the named program: a stock program, or the one in a file of this name. `None` if there is no such
-    // program; a line appended to `text` then says why.
+    // Returns the line that submits the named program: a stock program, or the program in the file with this name. If there is no such
+    // program, appends a line that says why to `text` and returns `None`.
     fn program(&self, name: &[u8], text: &mut Vec<u8>) -> Result<Option<Vec<u8>>, AllocError>
         ensures { IfOk result (λ line. IfSome line (λ full. starts_with nat_eq full.items (codes "program ") ≡ true)) }
     {

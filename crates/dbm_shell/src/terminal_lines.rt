@@ -1,9 +1,9 @@
-//! The end of a session that is typed at a terminal.
+//! Ends a session at a line `quit` or `exit` that is typed at a terminal.
 
 use std::io::{self, Read};
 
-/// Standard input of a session. At a terminal a line `quit` or `exit` ends it. A terminal gives at most one line to each read; a line that
-/// Ctrl-D interrupts comes in two reads, so the end of a longer line may end the session too.
+/// Standard input of a session. At a terminal, a line `quit` or `exit` ends the input. A terminal returns at most one line from each read.
+/// If Ctrl-D is typed within a line, the line comes in two reads, and a second part `quit` or `exit` ends the input too.
 #[derive(Drop)]
 pub struct TerminalLines<'a, R: Read> {
     reader: &'a mut R,

@@ -4,7 +4,7 @@ use Rattle.std.specs.List.{fold, sum}
 use Rattle.dbm_stats.specs.Totals.{greatest}
 use Rattle.dbm_stats.specs.declared.depths.Depths.{Depths}
 
--- the least of the numbers, or 0 if there are none
+-- the least of the numbers, or 0 if the list is empty
 abbrev pub least : List ℕ → ℕ
 least ns = fold (λ a n. min a n) (slice_index_or ns 0 0) ns
 

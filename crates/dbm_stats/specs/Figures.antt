@@ -1,4 +1,4 @@
--- The statistics of a database as text, one per line, and as a JSON object.
+-- The statistics of a database as text, one on each line, and as a JSON object.
 use Rattle.std.specs.Prelude.{ℕ, ◌+◌, ◌-◌, ◌*◌, ◌/◌, ◌%◌, ◌==◌, ◌++◌, max, min, cond, codes, decimal, drop, length, replicate, slice_index_or, List, [], ◌∷◌}
 use Rattle.std.specs.List.{flat_map, range_with_len}
 use Rattle.dbm_stats.specs.declared.stats.Stats.{Stats}
@@ -33,14 +33,14 @@ depth_rows splits d used =
     row (codes "splits                   ") splits ++ row (codes "least depth of a page    ") d.least
     ++ (codes "average depth            " ++ (quotient d.sum used ++ 10 ∷ [])) ++ row (codes "greatest depth           ") d.greatest
 
--- the length of the bar for n, if 40 signs represent `most`; a nonzero n has at least one sign
+-- the length of the bar for n, if 40 signs represent `most`; an n above 0 has at least one sign
 abbrev pub bar_length : ℕ → ℕ → ℕ
 bar_length most n = min ((40 * n + (most - 1)) / max most 1) 40
 
 abbrev pub percent : ℕ → List ℕ
 percent i = cond (i == 0) (32 ∷ 48 ∷ []) (decimal (10 * i))
 
--- the line of the pages that are between i and i + 1 tenths full: a bar, and their number
+-- the line of the n pages that are at least i and less than i + 1 tenths full: a bar and the number n
 abbrev pub bar_row : ℕ → ℕ → ℕ → List ℕ
 bar_row most i n = codes "from " ++ (percent i ++ (codes "%  " ++ (replicate (bar_length most n) 35 ++ (32 ∷ (decimal n ++ 10 ∷ [])))))
 
@@ -57,7 +57,7 @@ figures_text s =
 
 -- ---- JSON
 
--- the texts f x of a list, separated by commas
+-- the texts of the elements of a list, made by f, separated by commas
 abbrev pub between_commas : {X : Type 0} → (X → List ℕ) → List X → List ℕ
 between_commas f xs = drop 1 (flat_map (λ x. 44 ∷ f x) xs)
 

@@ -10,7 +10,7 @@ use Rattle.dbm_stats.specs.declared.totals.PageShape.{PageShape}
 abbrev pub room_on : PageSize → PageShape → PageRoom
 room_on size s = record { number = s.number; free = page_bytes size - s.filled }
 
--- The first five pages by ascending number of free bytes; of two pages with the same number, the lower page number comes first.
+-- The first five pages in ascending order of free bytes. Of two pages with equally many free bytes, the lower page number comes first.
 pub record AreFullest (rooms fullest : List PageRoom) : Type 0 where
   pub sorted : List PageRoom
   pub same : IsPermutation rooms sorted

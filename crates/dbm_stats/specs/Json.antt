@@ -1,8 +1,8 @@
--- JSON: strings, fields of objects, and objects in a line.
+-- JSON: strings, fields of objects, and lines with an object.
 use Rattle.std.specs.Prelude.{ℕ, ◌++◌, ◌==◌, ◌||◌, cond, decimal, List, [], ◌∷◌}
 use Rattle.std.specs.List.{flat_map}
 
--- a character of a string of printable ASCII; a backslash escapes a quote and a backslash
+-- a character of a string of printable ASCII; a backslash precedes a quote and a backslash
 abbrev pub escaped_character : ℕ → List ℕ
 escaped_character c = cond (c == 34 || c == 92) (92 ∷ c ∷ []) (c ∷ [])
 
@@ -18,6 +18,6 @@ field name n = 34 ∷ (name ++ (34 ∷ 58 ∷ decimal n))
 abbrev pub next_field : List ℕ → ℕ → List ℕ
 next_field name n = 44 ∷ field name n
 
--- a line with an object of one numeric field
+-- a line with an object that has one numeric field
 abbrev pub count_object : List ℕ → ℕ → List ℕ
 count_object name n = 123 ∷ (field name n ++ (125 ∷ 10 ∷ []))

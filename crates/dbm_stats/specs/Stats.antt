@@ -18,14 +18,14 @@ use Rattle.dbm_stats.specs.declared.stats.Stats.{Stats}
 abbrev pub used_pages : Database → List (ℕ × List Pair)
 used_pages db = map.entries db.pages
 
--- the number of pages filled to each tenth
+-- the number of pages that are filled to each tenth
 abbrev pub fill_bars : Database → List ℕ
 fill_bars db = map_list (λ i. count_by (λ (e : ℕ × List Pair). tenth db.size (filled e.1) == i) (used_pages db)) (range_with_len 0 10)
 
 pub record AreStats {A : Type 0} (db : Database) (s : Stats A) : Type 0 where
   pub pairs : s.pairs ≡ totals_of (pairs_of db)
   pub used : s.used ≡ map.len db.pages
-  -- `.pag` has this number of pages
+  -- the pages with pairs and the holes are all pages of `.pag`
   pub holes : IsPageCount db (s.used + s.holes)
   pub dir_bytes : (dir : List ℕ) → AreDirectoryBytes db.splits dir → s.dir_bytes ≡ length dir
   pub pag_bytes : (pag : List ℕ) → ArePagBytes db pag → s.pag_bytes ≡ length pag

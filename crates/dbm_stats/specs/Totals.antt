@@ -28,7 +28,7 @@ joined_totals a b = record {
   longest_pair = max a.longest_pair b.longest_pair;
 }
 
--- the number of pairs and the sums of lengths are at most n
+-- the number of pairs, the bytes of keys and the bytes of values are at most n each
 pub record AreBelow (t : PairTotals) (n : ℕ) : Type 0 where
   pub count : t.count ≤ n
   pub key_bytes : t.key_bytes ≤ n

@@ -7,10 +7,10 @@ use crate::totals::PageShape;
 use sdbm_addr::PageSize;
 use std::alloc::{AllocError, Allocator};
 
-/// The number of pages in each tenth, beginning with the emptiest.
+/// Counts the pages in each tenth, the emptiest tenth first.
 ///
 /// # Errors
-/// `AllocError` if allocation of ten numbers fails.
+/// `AllocError` if allocation fails.
 pub fn bars_of<A: Allocator>(
     alloc: A,
     shapes: &[PageShape],
@@ -26,7 +26,7 @@ pub fn bars_of<A: Allocator>(
     Ok(bars)
 }
 
-// The number of pages in a tenth.
+// Counts the pages in tenth `i`.
 fn count_tenth(shapes: &[PageShape], size: PageSize, i: u64) -> u32
     requires { length shapes.now ≤ 2 ^ 31 }
     ensures { result ≡ count_by (λ (s : PageShape). tenth size s.filled == i) shapes.now }
@@ -40,7 +40,7 @@ fn count_tenth(shapes: &[PageShape], size: PageSize, i: u64) -> u32
     count
 }
 
-// The tenth of a page with `filled` bytes in use.
+// The tenth, from 0 to 9, of a page with `filled` bytes in use.
 fn tenth(filled: u32, size: PageSize) -> u64
     ensures { result ≡ tenth size filled }
 {

@@ -1,10 +1,10 @@
-//! The depths of pages: the number of bits of a hash that lead to each.
+//! The depth of a page is the number of hash bits that lead to the page.
 ghost use Rattle.std.specs.Prelude.{◌≡◌, ◌≤◌, ◌^◌, length, map as map_list};
 ghost use Rattle.dbm_stats.specs.Depths.{depths_of};
 
 use crate::totals::PageShape;
 
-/// The number of hash bits that lead to pages: the least, the greatest, and the sum over all pages. All are 0 if there is no page.
+/// The least depth, the greatest depth, and the sum of the depths of pages. All are 0 if there is no page.
 #[derive(Clone, Copy, Debug, PartialEq, Eq)]
 pub struct Depths {
     pub least: u8,
@@ -12,7 +12,7 @@ pub struct Depths {
     pub sum: u64,
 }
 
-/// The depths of pages.
+/// Computes the least depth, the greatest depth and the sum.
 pub fn depths_of(shapes: &[PageShape]) -> Depths
     requires { length shapes.now ≤ 2 ^ 32 }
     ensures { result ≡ depths_of (map_list (λ (s : PageShape). s.depth) shapes.now) }

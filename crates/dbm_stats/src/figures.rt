@@ -8,7 +8,7 @@ use crate::rows::{show_depths, show_files, show_full, show_pairs};
 use crate::{PageRoom, Stats};
 use std::alloc::{AllocError, Allocator};
 
-/// The statistics of a database, one per line, and bars that show how full its pages are.
+/// Makes a text with the statistics of a database, one on each line, and bars that show how full its pages are.
 ///
 /// # Errors
 /// `AllocError` if allocation fails.
@@ -30,7 +30,7 @@ pub fn figures_text<A: Allocator, B: Allocator>(
     Ok(text)
 }
 
-// Adds a line for each page.
+// Appends a line for each page.
 fn show_fullest<A: Allocator>(fullest: &[PageRoom], text: &mut Vec<u8, A>) -> Result<(), AllocError>
     ensures { OnOk result (text.new.items ≡ text.old.items ++ flat_map full_row fullest.now) }
 {

@@ -8,7 +8,7 @@ use crate::totals::PageShape;
 use sdbm_addr::PageSize;
 use std::alloc::{AllocError, Allocator};
 
-// The greatest number of pages in the result.
+// The result has at most this many pages.
 const MOST: usize = 5;
 
 /// A page and the number of its free bytes.
@@ -18,11 +18,11 @@ pub struct PageRoom {
     pub free: u32,
 }
 
-/// The fullest pages, at most five, of pages in the order of their numbers: the fullest page is first, and of two pages with equally
-/// many free bytes the one with the lower number.
+/// Finds the fullest pages, at most five, the fullest first. Of two pages with the same number of free bytes, the one with the lower number
+/// comes first. The input is in the order of page numbers.
 ///
 /// # Errors
-/// `AllocError` if allocation fails while sorting.
+/// `AllocError` if allocation fails.
 pub fn fullest_of<A: Allocator + Copy>(
     alloc: A,
     shapes: &[PageShape],

@@ -6,7 +6,7 @@ ghost use Rattle.dbm_stats.specs.Json.{count_object, escaped_character, field, n
 use itoa::Buffer;
 use std::alloc::{AllocError, Allocator};
 
-/// Adds a string of printable ASCII.
+/// Appends a JSON string. `string` must be printable ASCII.
 ///
 /// # Errors
 /// `AllocError` if allocation fails. A part of the output may then be in `text`.
@@ -18,7 +18,7 @@ pub fn show_string<A: Allocator>(string: &[u8], text: &mut Vec<u8, A>) -> Result
     Ok(text.push(b'"')?)
 }
 
-// Adds the characters of a string.
+// Appends the characters of a string.
 fn show_characters<A: Allocator>(string: &[u8], text: &mut Vec<u8, A>) -> Result<(), AllocError>
     ensures { OnOk result (text.new.items ≡ text.old.items ++ flat_map escaped_character string.now) }
 {
@@ -28,7 +28,7 @@ fn show_characters<A: Allocator>(string: &[u8], text: &mut Vec<u8, A>) -> Result
     Ok(())
 }
 
-// Adds a character of a string.
+// Appends a character of a string.
 fn show_character<A: Allocator>(byte: u8, text: &mut Vec<u8, A>) -> Result<(), AllocError>
     ensures { OnOk result (text.new.items ≡ text.old.items ++ escaped_character byte) }
 {
@@ -46,7 +46,7 @@ fn is_special(byte: u8) -> bool
     byte == b'"' || byte == b'\\'
 }
 
-/// Adds a field with a number. The name must need no escapes.
+/// Appends a field with a number. The name must need no escapes.
 ///
 /// # Errors
 /// `AllocError` if allocation fails. A part of the output may then be in `text`.
@@ -64,7 +64,7 @@ pub fn show_field<A: Allocator>(
     text.extend_from_slice(digits.format(number).as_bytes())
 }
 
-/// Like `show_field`, for a field that is not the first.
+/// Like `show_field`, for a field that is not the first one.
 ///
 /// # Errors
 /// `AllocError` if allocation fails. A part of the output may then be in `text`.
@@ -79,7 +79,7 @@ pub fn show_next_field<A: Allocator>(
     show_field(name, number, text)
 }
 
-/// A line with an object of one numeric field.
+/// Makes a line with an object that has one numeric field.
 ///
 /// # Errors
 /// `AllocError` if allocation fails.

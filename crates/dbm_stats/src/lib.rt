@@ -1,5 +1,5 @@
-//! Statistics of a database: its pairs and their bytes, how full its pages are, and how deep its directory is. They are printed as text or as
-//! a JSON object. Also JSON strings and fields for other lines.
+//! Statistics of a database: its pairs and their bytes, how full its pages are, and how deep its directory is. The statistics are printed
+//! as text or as a JSON object. Other crates use the JSON strings and fields too.
 #![tactic(auto)]
 
 mod bar_lines;

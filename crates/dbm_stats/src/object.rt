@@ -8,7 +8,7 @@ use crate::rows::show_number;
 use crate::{Depths, PageRoom, PairTotals, Stats};
 use std::alloc::{AllocError, Allocator};
 
-/// A line with the statistics of a database as a JSON object.
+/// Makes a line with the statistics of a database as a JSON object.
 ///
 /// # Errors
 /// `AllocError` if allocation fails.
@@ -31,7 +31,7 @@ pub fn figures_object<A: Allocator + Copy, B: Allocator>(
     Ok(text)
 }
 
-// Adds the fields about pairs.
+// Appends the fields about pairs.
 fn show_pairs<A: Allocator>(totals: &PairTotals, text: &mut Vec<u8, A>) -> Result<(), AllocError>
     ensures { OnOk result (text.new.items ≡ text.old.items ++ pair_fields totals.now) }
 {
@@ -42,7 +42,7 @@ fn show_pairs<A: Allocator>(totals: &PairTotals, text: &mut Vec<u8, A>) -> Resul
     show_next_field(b"longest_pair", totals.longest_pair, text)
 }
 
-// Adds the fields about pages and files.
+// Appends the fields about pages and files.
 fn show_files<A: Allocator, B: Allocator>(
     stats: &Stats<B>,
     text: &mut Vec<u8, A>,
@@ -56,7 +56,7 @@ fn show_files<A: Allocator, B: Allocator>(
     show_next_field(b"wide_bytes", stats.wide_bytes, text)
 }
 
-// Adds the fields about the directory.
+// Appends the fields about the directory.
 fn show_depths<A: Allocator>(
     splits: u64,
     depths: Depths,
@@ -70,7 +70,7 @@ fn show_depths<A: Allocator>(
     show_next_field(b"depth_sum", depths.sum, text)
 }
 
-// Adds numbers, separated by commas.
+// Appends numbers, separated by commas.
 fn show_numbers<A: Allocator>(
     alloc: A,
     numbers: &[u32],
@@ -86,7 +86,7 @@ fn show_numbers<A: Allocator>(
     text.extend_from_slice(past_first(items.as_slice()))
 }
 
-// Adds pages as objects, separated by commas.
+// Appends pages as objects, separated by commas.
 fn show_rooms<A: Allocator>(
     alloc: A,
     rooms: &[PageRoom],
@@ -102,7 +102,7 @@ fn show_rooms<A: Allocator>(
     text.extend_from_slice(past_first(items.as_slice()))
 }
 
-// Adds a page as an object.
+// Appends a page as an object.
 fn show_room<A: Allocator>(room: &PageRoom, text: &mut Vec<u8, A>) -> Result<(), AllocError>
     ensures { OnOk result (text.new.items ≡ text.old.items ++ room_object room.now) }
 {
@@ -112,7 +112,7 @@ fn show_room<A: Allocator>(room: &PageRoom, text: &mut Vec<u8, A>) -> Result<(),
     Ok(text.push(b'}')?)
 }
 
-// The bytes after the first; empty if there are none.
+// The bytes after the first one; no bytes if `bytes` is empty.
 fn past_first(bytes: &[u8]) -> &[u8]
     ensures { result.now ≡ drop 1 bytes.now }
 {

@@ -1,4 +1,4 @@
-//! Lines with a label and a number.
+//! Appends lines with a label and a number to a text.
 ghost use Rattle.std.specs.Prelude.{◌≡◌, ◌++◌, decimal, OnOk};
 ghost use Rattle.dbm_stats.specs.Figures.{depth_rows, file_rows, full_row, pair_rows, quotient, row};
 
@@ -6,7 +6,7 @@ use crate::{Depths, PageRoom, PairTotals, Stats};
 use itoa::Buffer;
 use std::alloc::{AllocError, Allocator};
 
-// Adds a line with a label and a number.
+// Appends a line with a label and a number.
 fn show_row<A: Allocator>(
     label: &[u8],
     number: u64,
@@ -19,7 +19,7 @@ fn show_row<A: Allocator>(
     Ok(text.push(b'\n')?)
 }
 
-/// Adds the digits of a number.
+/// Appends a number in decimal.
 ///
 /// # Errors
 /// `AllocError` if allocation fails.
@@ -30,7 +30,7 @@ pub fn show_number<A: Allocator>(number: u64, text: &mut Vec<u8, A>) -> Result<(
     text.extend_from_slice(digits.format(number).as_bytes())
 }
 
-/// Adds the lines about pairs.
+/// Appends the lines about pairs.
 ///
 /// # Errors
 /// `AllocError` if allocation fails. A part of the output may then be in `text`.
@@ -47,7 +47,7 @@ pub fn show_pairs<A: Allocator>(
     show_row(b"bytes of longest pair    ", totals.longest_pair, text)
 }
 
-/// Adds the lines about pages and files.
+/// Appends the lines about pages and files.
 ///
 /// # Errors
 /// `AllocError` if allocation fails. A part of the output may then be in `text`.
@@ -64,7 +64,7 @@ pub fn show_files<A: Allocator, B: Allocator>(
     show_row(b"bytes of .pag, widened   ", stats.wide_bytes, text)
 }
 
-/// Adds the lines about the directory.
+/// Appends the lines about the directory.
 ///
 /// # Errors
 /// `AllocError` if allocation fails. A part of the output may then be in `text`.
@@ -84,7 +84,7 @@ pub fn show_depths<A: Allocator>(
     show_row(b"greatest depth           ", depths.greatest as u64, text)
 }
 
-// Adds a quotient with one decimal, rounded down.
+// Appends a quotient with one decimal place, rounded down. A `count` of 0 is taken as 1.
 fn show_quotient<A: Allocator>(
     sum: u64,
     count: u32,
@@ -98,7 +98,7 @@ fn show_quotient<A: Allocator>(
     show_number(sum % count * 10 / count, text)
 }
 
-/// Adds the line of one of the fullest pages.
+/// Appends the line of one of the fullest pages.
 ///
 /// # Errors
 /// `AllocError` if allocation fails. A part of the output may then be in `text`.

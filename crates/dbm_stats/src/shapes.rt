@@ -31,7 +31,7 @@ pub fn shapes_of<A: Allocator + Copy>(
     Ok(shapes)
 }
 
-// Measures the page with a number, or returns `None` if it has no pairs.
+// Measures the page with this number. Returns `None` if the page has no pairs.
 fn shape_at<A: Allocator + Copy>(image: &Image<A>, number: u32) -> Option<PageShape>
     ensures shape { result ≡ option_map (λ pairs. shape_of image.now (number, pairs)) (map.get image.now.pages number) }
     ensures small { IfSome result (λ shape. AreBelow shape.totals 8192) }

@@ -5,7 +5,7 @@ ghost use Rattle.sdbm_addr.specs.Directory.{Splits};
 ghost use Rattle.sdbm_addr.specs.DirectoryFile.{bit_of, SpellsDirectory};
 ghost use Rattle.sdbm_dir.specs.Bitmap.{splits_below};
 
-/// The number of prefixes that the bytes of a directory split, which is the number of their bits that are 1.
+/// The number of split prefixes in a directory, given its bytes. This is the number of bits that are 1.
 pub fn count_splits(bytes: &[u8]) -> u64
     requires short { length bytes.now < 2 ^ 32 }
     ensures count { (d : Splits) → SpellsDirectory bytes.now d → result ≡ set.len d }

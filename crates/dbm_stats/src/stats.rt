@@ -17,24 +17,24 @@ use std::alloc::{AllocError, Allocator};
 /// Statistics of a database.
 #[derive(Drop)]
 pub struct Stats<A: Allocator> {
-    /// Number and lengths of the pairs.
+    /// The number and the lengths of the pairs.
     pub pairs: PairTotals,
     /// The number of pages that have pairs.
     pub used: u32,
-    /// The number of pages without pairs before the last page that has pairs. They are written to `.pag` as zeros.
+    /// The number of pages without pairs before the last page that has pairs. Each is all zeros in `.pag`.
     pub holes: u32,
     /// The length of the `.dir` file in bytes.
     pub dir_bytes: u64,
     /// The length of the `.pag` file in bytes.
     pub pag_bytes: u64,
-    /// The length of the `.pag` file in bytes after the database is widened.
+    /// The length in bytes that the `.pag` file would have if the database were widened.
     pub wide_bytes: u64,
-    /// The number of pages that are filled to less than a tenth, from one to less than two tenths, and so on. Pages without pairs are
-    /// not counted; a full page counts in the last tenth.
+    /// Ten numbers of pages: those filled to less than a tenth, those filled to at least one and less than two tenths, and so on. Pages
+    /// without pairs are not counted. A full page counts in the last tenth.
     pub bars: Vec<u32, A>,
-    /// The fullest pages, at most five: the fullest page is first, and of two equally full pages the one with the lower number.
+    /// The fullest pages, at most five, the fullest first. Of two equally full pages, the one with the lower number comes first.
     pub fullest: Vec<PageRoom, A>,
-    /// The number of split prefixes, which is the number of bits that are 1 in the `.dir` file.
+    /// The number of split prefixes: the number of bits that are 1 in the `.dir` file.
     pub splits: u64,
     /// The depths of the pages that have pairs.
     pub depths: Depths,
@@ -43,7 +43,7 @@ pub struct Stats<A: Allocator> {
 /// Computes the statistics of a database. Reads each pair once, and each page a few times.
 ///
 /// # Errors
-/// `AllocError` if allocation fails; about forty bytes are allocated for each page.
+/// `AllocError` if allocation fails. More than fifty bytes are allocated for each page that has pairs.
 pub fn stats_of<A: Allocator + Copy>(alloc: A, image: &Image<A>) -> Result<Stats<A>, AllocError>
     ensures stats { IfOk result (AreStats image.now) }
     ensures count { IfOk result (λ stats. stats.pairs.count ≡ map.len (map_of image.now)) }

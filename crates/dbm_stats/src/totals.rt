@@ -1,4 +1,4 @@
-//! Totals over pairs: their number, their bytes, and the longest ones.
+//! Totals over pairs: the number of pairs, their bytes, the longest key and the longest pair.
 ghost use Rattle.std.specs.Prelude.{◌≡◌, ◌≤◌, ◌+◌, ◌^◌, ◌∷◌, [], ℕ, List, length, map as map_list};
 ghost use Rattle.std.specs.List.{All, flat_map};
 ghost use Rattle.sdbm_addr.specs.Pairs.{Pair};
@@ -20,7 +20,7 @@ pub struct PairTotals {
     pub value_bytes: u64,
     /// The length of the longest key.
     pub longest_key: u64,
-    /// The length of the longest pair, its key and its value together.
+    /// The length of the longest pair: the key and the value together.
     pub longest_pair: u64,
 }
 
@@ -46,7 +46,7 @@ fn pair_totals(key: &[u8], value: &[u8]) -> PairTotals
     }
 }
 
-// Combines the totals over two disjoint sets of pairs.
+// Combines the totals over two lists of pairs.
 fn join(first: PairTotals, second: PairTotals) -> PairTotals
     requires first { AreBelow first (2 ^ 62) }
     requires second { AreBelow second (2 ^ 62) }

@@ -1,4 +1,4 @@
-//! Examines the files again after a fault, to find the file that it is about and the system's own reason.
+//! Examines the files again after a fault, to find the file that the fault is about and the reason that the system gives.
 
 use dbm_messages::{Finding, Matter, Reason};
 use dbm_places::{Names, Side, Source, doubt_of, folder_of, is_special};
@@ -6,8 +6,8 @@ use std::fs::{self, File, OpenOptions};
 use std::io::{self, ErrorKind, Read};
 use std::rt::Files;
 
-/// Returns the first file of a run that cannot be read, if any. The order is: the lock of the files, the redo file, the directory and the
-/// pages of its database, if it has one, and the program's file. The files of a database may be missing.
+/// Returns the first file of a run that cannot be read, if any. The order is: the lock, the redo file, `.dir` and `.pag` of the database,
+/// then the program's file. The files of a database may be missing.
 pub fn find_unread<'a, R: Files<File = File>>(
     rt: &R,
     names: Option<&'a Names>,
@@ -43,7 +43,7 @@ fn unread_of<'a, R: Files<File = File>>(rt: &R, names: &'a Names) -> Option<Find
     None
 }
 
-// Why a file cannot be read, if it cannot. Even if the file may be missing, a dangling link is a problem.
+// Returns the reason why a file cannot be read, or `None` if it can. A dangling link is a reason even if the file may be missing.
 fn unread<R: Files<File = File>>(rt: &R, name: &str, may_be_absent: bool) -> Option<Matter> {
     let error = read_error(rt, name)?;
     if error.kind() != ErrorKind::NotFound {
@@ -58,7 +58,7 @@ fn unread<R: Files<File = File>>(rt: &R, name: &str, may_be_absent: bool) -> Opt
     Some(Matter::Absent)
 }
 
-// Why a file cannot be opened, or its first byte cannot be read. Returns `None` if both work.
+// Opens a file and reads its first byte. Returns the error of either, or `None` if both work.
 fn read_error<R: Files<File = File>>(rt: &R, name: &str) -> Option<io::Error> {
     let mut first = [0; 1];
     match fs::open(rt, name) {
@@ -74,8 +74,8 @@ fn is_link<R: Files<File = File>>(rt: &R, name: &str) -> bool {
     }
 }
 
-/// Why the files of a database cannot be written, if this can be seen: their folder is invalid, or an existing file is refused. The order
-/// is: the locks, the redo file, the directory and the pages. A read-only lock is enough.
+/// Finds a reason why the files of a database cannot be written: an invalid folder, or the first existing file that cannot be opened for
+/// writing. The order is: both locks, the redo file, `.dir`, `.pag`. A lock need only be readable.
 pub fn find_unwritten<'a, R: Files<File = File>>(rt: &R, names: &'a Names) -> Option<Finding<'a>> {
     let name = folder_of(names.lock.as_str());
     if let Some(matter) = lost(rt, name) {
@@ -100,7 +100,7 @@ pub fn find_unwritten<'a, R: Files<File = File>>(rt: &R, names: &'a Names) -> Op
     None
 }
 
-/// The first of the files next to the database that is unsafe, because another user could have planted it: the locks, then the redo file.
+/// Finds the first unsafe file: one that another user could have planted. The order is: both locks, then the redo file.
 pub fn find_unsafe<'a, R: Files<File = File>>(rt: &R, names: &'a Names) -> Option<Finding<'a>> {
     for (side, name) in [
         (Side::Lock, names.lock.as_str()),
@@ -122,7 +122,7 @@ pub fn find_unsafe<'a, R: Files<File = File>>(rt: &R, names: &'a Names) -> Optio
     None
 }
 
-// Why a folder is invalid, if it is.
+// Returns the reason why a folder is invalid, or `None` if it is valid.
 fn lost<R: Files<File = File>>(rt: &R, folder: &str) -> Option<Matter> {
     match fs::metadata(rt, folder) {
         Ok(found) if found.is_dir() => None,
@@ -131,7 +131,7 @@ fn lost<R: Files<File = File>>(rt: &R, folder: &str) -> Option<Matter> {
     }
 }
 
-// Why an existing file cannot be written, if it cannot.
+// Returns the reason why an existing file cannot be opened for writing, or `None` if it can or if the file is missing.
 fn unwritten<R: Files<File = File>>(rt: &R, name: &str) -> Option<Matter> {
     let Err(error) = OpenOptions::new().read(true).write(true).open(rt, name) else {
         return None;
@@ -145,8 +145,8 @@ fn unwritten<R: Files<File = File>>(rt: &R, name: &str) -> Option<Matter> {
     None
 }
 
-/// The first of the files to read that is over its size limit, if any. Otherwise the first that is not a regular file, but a device or
-/// a FIFO, which has no length.
+/// Finds the first file to read that is over its size limit. If there is none, finds the first that is not a regular file: a device or a
+/// FIFO has no length.
 pub fn find_too_long<'a, R: Files<File = File>>(
     rt: &R,
     sources: &'a [Source],
@@ -178,7 +178,7 @@ fn is_longer<R: Files<File = File>>(rt: &R, source: &Source) -> bool {
     }
 }
 
-/// Finds out whether a file is an object file, the output of a compiler, instead of a program: its first bytes are those of ELF.
+/// Returns a finding if a file is an object file, the output of a compiler, and not a program: its first four bytes are those of ELF.
 pub fn find_object<'a, R: Files<File = File>>(rt: &R, name: &'a str) -> Option<Finding<'a>> {
     let mut head = [0; 4];
     let is_object = match fs::open(rt, name) {

@@ -1,5 +1,5 @@
-//! Prints sentences and notes on standard error, before a wait and after a fault or an answer. Also the readers and the writer that notes need:
-//! one records standard input, one shows progress, and one notices a pipe without a reader.
+//! Prints sentences and notes on standard error: during a wait, after a fault, and after an answer. The crate also has a reader that
+//! records standard input, a reader that shows progress, and a writer that notices a pipe without a reader.
 #![tactic(auto)]
 
 mod context;
@@ -18,8 +18,8 @@ pub use piped::PipeWriter;
 pub use progress::{ProgressReader, Work, tell_saving};
 pub use recording::RecordingReader;
 pub use telling::{
-    advise, note_absent, note_bad_lines, note_object, note_pending, note_refusal, note_that,
-    note_unsaved, note_waiting_save,
+    advise, note_absent, note_bad_lines, note_hex_word, note_object, note_pending, note_refusal,
+    note_that, note_unsaved, note_waiting_save,
 };
 pub use terminal::is_terminal;
 pub use waiting::take_and_tell;

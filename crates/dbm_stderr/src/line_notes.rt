@@ -3,7 +3,7 @@
 use dbm_messages::{Sentence, half_line_note, line_end_note};
 use dbm_script::LineKind;
 
-/// The note on the first line of a text that ends in CR. Returns `None` if no line does. A comment in a script may end so.
+/// Makes the note on the first line of a text that ends in CR. Returns `None` if no line does. A comment in a script may end in CR.
 pub fn note_of_line_end(lines: LineKind, text: &[u8]) -> Option<Sentence<'static>> {
     for (at, line) in text.split(|byte| *byte == b'\n').enumerate() {
         let is_comment = lines == LineKind::OfScript && line.starts_with(b"#");
@@ -14,7 +14,7 @@ pub fn note_of_line_end(lines: LineKind, text: &[u8]) -> Option<Sentence<'static
     None
 }
 
-/// The note on the last line of a script or a batch that was run, if it has no LF after it. A comment in a script needs none.
+/// Makes the note on the last line of a script or a batch that was run, if the line has no LF. A comment in a script needs no LF.
 pub fn note_of_half_line(lines: LineKind, text: &[u8]) -> Option<Sentence<'static>> {
     let mut count = 0u64;
     let mut last = text;

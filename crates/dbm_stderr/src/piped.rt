@@ -2,7 +2,7 @@
 
 use std::io::{self, ErrorKind, Write};
 
-/// A writer that notices if it is a pipe whose reader is gone.
+/// A writer that notices when it writes to a pipe whose reader is gone.
 #[derive(Drop)]
 pub struct PipeWriter<W: Write> {
     writer: W,
@@ -18,7 +18,7 @@ impl<W: Write> PipeWriter<W> {
         }
     }
 
-    /// Returns `true` if the last failed write found no reader.
+    /// Returns `true` if the last write that failed was to a pipe without a reader.
     pub fn has_no_reader(&self) -> bool {
         self.has_no_reader
     }

@@ -21,7 +21,7 @@ pub enum Work {
 }
 
 impl Work {
-    // The step of the command after it has read the files.
+    // The name of the step that comes after reading the files.
     fn doing(self) -> &'static str {
         match self {
             Work::Backup | Work::Check => "checking",
@@ -32,7 +32,8 @@ impl Work {
     }
 }
 
-/// Reports that the files of a base are being read, if the command is slow on them and standard error is a terminal.
+/// Reports that the files of a base are being read, if the command is slow on large files, `.pag` is large, and standard error is a
+/// terminal.
 pub fn tell_reading<R: Runtime<File = File> + AllocGlobal>(
     rt: &R,
     work: Option<Work>,
@@ -46,21 +47,21 @@ pub fn tell_reading<R: Runtime<File = File> + AllocGlobal>(
     }
 }
 
-/// Reports that a command is working on a `.pag` of `len` bytes, if it is slow on it and standard error is a terminal.
+/// Like `tell_reading`, when the command works on a `.pag` of `len` bytes.
 pub fn tell_work<R: Runtime<File = File> + AllocGlobal>(rt: &R, work: Option<Work>, len: u64) {
     if let Some(work) = work {
         tell_step(rt, work.doing(), len);
     }
 }
 
-/// Reports that a `.pag` of `len` bytes is being saved, if that is slow and standard error is a terminal.
+/// Like `tell_reading`, when a `.pag` of `len` bytes is saved.
 pub fn tell_saving<R: Runtime<File = File> + AllocGlobal>(rt: &R, work: Option<Work>, len: u64) {
     if work.is_some() {
         tell_step(rt, "saving", len);
     }
 }
 
-// Reports a step on a long `.pag`. Errors of standard error are ignored.
+// Reports a step on a large `.pag` at a terminal. Errors of standard error are ignored.
 fn tell_step<R: Runtime<File = File> + AllocGlobal>(rt: &R, step: &str, len: u64) {
     if len >= LONG_FILE && is_at_terminal(rt) {
         let mebibytes = len >> 20;
@@ -85,7 +86,7 @@ struct Meter<R: Runtime> {
 }
 
 impl<R: Runtime<File = File> + Clock + AllocGlobal> Meter<R> {
-    // Starts at zero. Returns `None` except for a `load` at a terminal, and if memory runs out.
+    // Makes a meter at zero for a `load` at a terminal. Returns `None` for any other command, without a terminal, or if memory runs out.
     fn new(rt: &R, work: Option<Work>) -> Option<Self> {
         if !matches!(work, Some(Work::Load)) || !is_at_terminal(rt) {
             return None;
@@ -98,7 +99,7 @@ impl<R: Runtime<File = File> + Clock + AllocGlobal> Meter<R> {
         })
     }
 
-    // Counts bytes that were read, and reports the sum once a second. At the end of the input it erases the report.
+    // Counts bytes that were read, and reports the sum once a second. Erases the report at the end of the input.
     fn count(&mut self, given: usize) {
         self.count = self.count.saturating_add(given as u64);
         if given == 0 {
@@ -108,7 +109,7 @@ impl<R: Runtime<File = File> + Clock + AllocGlobal> Meter<R> {
         }
     }
 
-    // Reports the number of bytes read if the last report is at least a second old. The next output overwrites it.
+    // Reports the number of bytes read if the last report is at least a second old. The next output overwrites the report.
     fn tell(&mut self) {
         let (Some(told_at), Ok(now)) = (self.told_at, self.rt.monotonic()) else {
             return;
@@ -130,7 +131,7 @@ impl<R: Runtime<File = File> + Clock + AllocGlobal> Meter<R> {
     }
 }
 
-/// A reader of a dump that reports its progress at a terminal once a second.
+/// A reader of a dump that reports its progress once a second, if standard error is a terminal.
 #[derive(Drop)]
 pub struct ProgressReader<R: Runtime, I: Read> {
     reader: I,
@@ -138,7 +139,7 @@ pub struct ProgressReader<R: Runtime, I: Read> {
 }
 
 impl<R: Runtime<File = File> + Clock + AllocGlobal, I: Read> ProgressReader<R, I> {
-    /// Wraps a reader before anything is read. It reports progress only for a `load`.
+    /// Wraps a reader before anything is read. Progress is reported only for a `load`.
     pub fn new(rt: &R, reader: I, work: Option<Work>) -> Self {
         ProgressReader {
             reader,

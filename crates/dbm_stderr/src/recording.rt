@@ -8,11 +8,11 @@ use std::io::{self, ErrorKind, Read};
 // The number of bytes to read ahead at once.
 const PIECE: usize = 65_536;
 
-/// A reader that records what it returns, for a note. If memory runs out it records nothing.
+/// A reader that records the bytes that it returns, for a note. If memory runs out, the record is empty.
 #[derive(Drop)]
 pub struct RecordingReader<R: Read> {
     reader: R,
-    // The bytes that were read ahead, and the number of those already returned.
+    // The bytes that were read ahead. The first `given` of them were returned.
     ahead: Vec<u8>,
     given: usize,
     text: Vec<u8>,
@@ -33,7 +33,7 @@ impl<R: Read> RecordingReader<R> {
         }
     }
 
-    /// Reads ahead about `most` bytes, which later reads return. Errors and failed allocations are left to those reads.
+    /// Reads ahead about `most` bytes, which later reads return. Stops at an error or a failed allocation, and reports neither.
     pub fn read_ahead(&mut self, most: usize) {
         for _ in 0..u64::MAX {
             if self.ahead.len() >= most || !self.read_piece() {

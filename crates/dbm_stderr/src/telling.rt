@@ -1,11 +1,12 @@
-//! Prints sentences on standard error after a fault, and notes next to an answer.
+//! Prints sentences on standard error after a fault, and notes after an answer.
 
 use crate::context::DiagnosticContext;
 use crate::findings::{find_object, find_too_long, find_unread, find_unsafe, find_unwritten};
 use dbm_args::Words;
 use dbm_messages::{
-    Finding, Look, Sentence, ServeFault, absent_note, bad_lines_note, finding_sentence, look_for,
-    memory_sentence, object_note, pending_note, refusal_note, sentence_of, unsaved_note,
+    Finding, Look, Sentence, ServeFault, absent_note, bad_lines_note, finding_sentence,
+    hex_word_note, look_for, memory_sentence, object_note, pending_note, refusal_note, sentence_of,
+    unsaved_note,
 };
 use dbm_places::{has_no_files, names_of, resolve, sources};
 use dbm_script::BadLines;
@@ -18,7 +19,7 @@ fn say<R: Runtime>(rt: &R, before: &str, sentence: Sentence<'_>) {
     let _ = eprintln!(rt; "{before}{sentence}");
 }
 
-/// Prints one line: what a fault is about, and what to do.
+/// Prints one line that says what a fault is about and what to do.
 pub fn advise<R: Runtime<File = File> + AllocGlobal>(
     rt: &R,
     context: Option<&DiagnosticContext<'_>>,
@@ -36,13 +37,13 @@ pub fn advise<R: Runtime<File = File> + AllocGlobal>(
     }
 }
 
-// The same for words that were read. Examines the files again if that shows which of them the fault was about.
+// Like `advise`, with the arguments of the request. For some faults, examines the files again to find the one that the fault is about.
 fn advise_on<R: Runtime<File = File> + AllocGlobal>(
     rt: &R,
     context: &DiagnosticContext<'_>,
     fault: ServeFault,
 ) -> Result<(), AllocError> {
-    // If a name leads elsewhere by now, the message shows the base that the words named.
+    // After these two faults the names may lead elsewhere, so the message shows the base that the user named.
     let base = match fault {
         ServeFault::Moved(_) | ServeFault::Changed => None,
         _ => base_behind(rt, context.words.base),
@@ -62,7 +63,7 @@ fn advise_on<R: Runtime<File = File> + AllocGlobal>(
     Ok(())
 }
 
-// The words with another base, if one is given.
+// Replaces the base of the arguments, if another base is given.
 fn with_base<'a>(words: Words<'a>, base: Option<&'a String>) -> Words<'a> {
     match base {
         Some(base) => Words {
@@ -73,7 +74,7 @@ fn with_base<'a>(words: Words<'a>, base: Option<&'a String>) -> Words<'a> {
     }
 }
 
-// The base whose files a base of the words names by links, or that base itself.
+// Resolves a base. If its files are links to the files of another base, returns that base, otherwise the base itself.
 fn base_behind<R: Runtime<File = File> + AllocGlobal>(
     rt: &R,
     base: Option<&str>,
@@ -133,7 +134,7 @@ fn tell_unsafe<R: Runtime<File = File> + AllocGlobal>(
     Ok(())
 }
 
-// Prints the sentence of a fault, with the result of a second look.
+// Prints the sentence on what was found in the files, or if nothing was found, the sentence of the fault.
 fn tell_found<R: Runtime + AllocGlobal>(
     rt: &R,
     words: &Words<'_>,
@@ -162,12 +163,12 @@ pub fn note_absent<R: Runtime<File = File> + AllocGlobal>(rt: &R, context: &Diag
     }
 }
 
-/// Notes that a save is durable in the redo file, but not yet done in the files of the database.
+/// Notes that a save is durable in the redo file, but not yet written to the data files.
 pub fn note_pending<R: Runtime>(rt: &R, context: &DiagnosticContext<'_>) {
     note_waiting_save(rt, context.place.base);
 }
 
-/// The same for the files of a base.
+/// Like `note_pending`, for a base.
 pub fn note_waiting_save<R: Runtime>(rt: &R, base: Option<&str>) {
     note_that(rt, pending_note(base.unwrap_or("BASE")));
 }
@@ -187,15 +188,19 @@ pub fn note_object<R: Runtime<File = File>>(rt: &R, context: &DiagnosticContext<
     }
 }
 
-/// Notes the first line of a script that is not a command, and the number of further ones. Prints nothing if all are commands.
+/// Notes the first bad line of a script and the number of further bad lines. Prints nothing if there are none.
 pub fn note_bad_lines<R: Runtime>(rt: &R, bad_lines: BadLines) {
     if bad_lines.count > 0 {
         note_that(rt, bad_lines_note(bad_lines.first, bad_lines.count - 1));
     }
 }
 
-/// Notes why a program is refused, and how to see more.
-pub fn note_refusal<R: Runtime>(rt: &R, context: &DiagnosticContext<'_>, refusal: &str) {
-    let file = context.place.file.unwrap_or("FILE");
-    note_that(rt, refusal_note(refusal, file, context.words.image));
+/// Notes the reason why a program is refused, and how to see more.
+pub fn note_refusal<R: Runtime>(rt: &R, file: &str, is_image: bool, refusal: &str) {
+    note_that(rt, refusal_note(refusal, file, is_image));
+}
+
+/// Notes that an argument was read as hex and may be meant as text.
+pub fn note_hex_word<R: Runtime>(rt: &R, word: &str) {
+    note_that(rt, hex_word_note(word));
 }

@@ -8,7 +8,7 @@ pub fn is_at_terminal<R: Runtime<File = File> + AllocGlobal>(rt: &R) -> bool {
     is_terminal(rt, 2)
 }
 
-/// Returns `true` if a descriptor is known to be that of a terminal.
+/// Returns `true` if a descriptor is known to be a terminal.
 pub fn is_terminal<R: Runtime<File = File> + AllocGlobal>(rt: &R, descriptor: u32) -> bool {
     let Ok(link) = format!(in rt.alloc(); "/proc/self/fd/{descriptor}") else {
         return false;

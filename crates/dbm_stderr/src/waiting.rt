@@ -1,4 +1,4 @@
-//! A run that waits for the lock of its database, and reports that.
+//! Takes the files of a run, and reports a wait for the lock of the database.
 
 use crate::progress::{Work, tell_reading, tell_work};
 use crate::terminal::is_at_terminal;
@@ -12,12 +12,12 @@ use std::time::{Clock, Duration};
 /// Milliseconds that a run waits before it reports that it waits.
 const SILENT_WAIT: u64 = 500;
 
-/// Does the same as `take_files`. If the run is verbose, or standard error is a terminal, it reports who holds the lock after a wait of
-/// half a second; otherwise it reports that at the end of a longer wait that failed. At a terminal it also reports that a command is slow
-/// on large files.
+/// Like `take_files`, with reports. If the run is verbose or standard error is a terminal, reports the holder of the lock after a wait of
+/// half a second. Otherwise reports the holder only if a longer wait has failed. At a terminal, also reports the steps of a command that is
+/// slow on large files.
 ///
 /// # Errors
-/// Those of `take_files`.
+/// The errors of `take_files`.
 pub fn take_and_tell<R: Runtime<File = File> + Clock + AllocGlobal>(
     rt: &R,
     place: RunPlace<'_>,
@@ -32,7 +32,7 @@ pub fn take_and_tell<R: Runtime<File = File> + Clock + AllocGlobal>(
     Ok(taken)
 }
 
-// The same, without reports on the work.
+// Like `take_and_tell`, without reports of steps.
 fn take_patiently<R: Runtime<File = File> + Clock + AllocGlobal>(
     rt: &R,
     place: RunPlace<'_>,
@@ -62,7 +62,7 @@ fn take_patiently<R: Runtime<File = File> + Clock + AllocGlobal>(
     }
 }
 
-// Reports who holds the lock. Errors of standard error are ignored.
+// Reports the holder of the lock during a wait. Errors of standard error are ignored.
 fn tell_wait<R: Runtime<File = File> + AllocGlobal>(rt: &R, place: RunPlace<'_>) {
     let Some(base) = place.base else {
         return;
@@ -79,7 +79,7 @@ fn tell_wait<R: Runtime<File = File> + AllocGlobal>(rt: &R, place: RunPlace<'_>)
     let _ = eprintln!(rt; "dbm: note: {note}");
 }
 
-// Reports who holds the lock at the end of a wait without reports.
+// Reports the holder of the lock after a wait that failed.
 fn tell_holder<R: Runtime<File = File> + AllocGlobal>(rt: &R, place: RunPlace<'_>) {
     let Some(base) = place.base else {
         return;
@@ -95,8 +95,8 @@ fn tell_holder<R: Runtime<File = File> + AllocGlobal>(rt: &R, place: RunPlace<'_
     let _ = eprintln!(rt; "dbm: note: {note}");
 }
 
-// The number of the process that a run waits for, if the system reports it: one that has locked the files. If the run may write, first one
-// that has the base open to change it.
+// Returns the number of the process for which a run waits, if the system reports one. For a run that may write, this is the process that
+// has the base open for changes; otherwise, or if there is none, the one that has locked the files.
 fn holder_of<R: Runtime<File = File> + AllocGlobal>(
     rt: &R,
     base: &str,

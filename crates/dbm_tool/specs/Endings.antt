@@ -8,7 +8,7 @@ use Rattle.dbm_tool.specs.declared.ending.Ending.TheVariants.{Served, Refused, F
 use Rattle.dbm_messages.specs.declared.fault.ServeFault.{ServeFault}
 use Rattle.dbm_messages.specs.declared.fault.ServeFault.TheVariants as fault
 
--- help and the version are not faults
+-- the status is 0 for help and the version, and 2 for any other refusal
 abbrev pub IsRefusalStatus : ToolFault → ℕ → Type 0
 IsRefusalStatus fault status = (IsAnswer fault → status ≡ 0) × ((IsAnswer fault → ⊥) → status ≡ 2)
 
@@ -17,13 +17,13 @@ IsExitStatus (Served served) status = status ≡ served.status
 IsExitStatus (Refused fault) status = IsRefusalStatus fault status
 IsExitStatus (Failed fault) status = status ≡ 2
 
--- How a run ends after its request: it was served; or the reader of the answer is gone, which has the status 0; or it failed.
+-- The ending of a run after its request. The request was served, or the reader of the answer is gone (status 0), or the request failed.
 abbrev pub IsEndingOf : Result (Option ServedRequest) ServeFault → Ending → Type 0
 IsEndingOf (Ok (Some served)) ending = ending ≡ Served served
 IsEndingOf (Ok None) ending = IsExitStatus ending 0
 IsEndingOf (Err fault) ending = ending ≡ Failed fault
 
--- Printing an ending leaves it unchanged, except a refusal or help that cannot be printed.
+-- Printing leaves an ending unchanged, except that a refusal or help that cannot be printed becomes the fault `Write`.
 abbrev pub IsEndingTold : Ending → Ending → Type 0
 IsEndingTold (Served served) told = told ≡ Served served
 IsEndingTold (Refused refusal) told = (told ≡ Refused refusal) ⊎ (told ≡ Failed fault.Write)

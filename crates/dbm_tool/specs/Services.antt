@@ -1,4 +1,4 @@
--- The result of each request, and its errors.
+-- The possible reports of each request, and the conditions of its faults.
 use Rattle.std.specs.Prelude.{ℕ, Bool, true, false, List, Option, Some, None}
 use Rattle.std.specs.declared.alloc.Global.{Global}
 use Rattle.dbm_script.specs.declared.notations.Notation.{Notation}
@@ -35,12 +35,12 @@ use Rattle.dbm_batches.specs.Batches.{OnBatch, batch_causes}
 use Rattle.dbm_batches.specs.Causes.{WishCauses, only_report}
 
 pub record Service : Type 1 where
-  -- the possible results
+  -- the possible reports
   pub reports : Report → Type 0
-  -- the causes of its errors
+  -- the conditions of the faults
   pub causes : WishCauses
 
--- a subcommand other than a batch
+-- a subcommand whose faults are all inside `Report`
 abbrev pub reporting : Known → Service
 reporting known = record {
   reports = known.reports;
@@ -61,7 +61,7 @@ batch_in n batch given input = record {
   causes = batch_causes n batch.form given batch.workers batch.image batch.time input;
 }
 
--- The facts about a request, given its notation, the bytes of its files and its input.
+-- The reports and the faults of a request, given its notation, the bytes of its files and standard input.
 abbrev pub service_in : Notation Global → Wish → Given → Option (List ℕ) → Service
 service_in n (wish.Fetch fetch) given input = reporting (fetch_in n fetch given)
 service_in n (wish.Store store) given input = reporting (store_in n store given input)
@@ -79,7 +79,7 @@ service_in n (wish.Stats stats) given input = reporting (stats_in stats given)
 service_in n (wish.Script script) given input = reporting (script_in n script.base script given input)
 service_in n (wish.Widen widen) given input = reporting (widen_in widen given)
 service_in n (wish.Compact compact) given input = reporting (compact_in compact given)
-service_in n (wish.Dump dump) given input = dumping (dump_in dump given)
+service_in n (wish.Dump dump) given input = dumping (dump_in n dump given)
 service_in n (wish.Load load) given input = dumping (load_in load given input)
 service_in n (wish.Asm asm) given input = reporting (asm_in given)
 service_in n (wish.Disasm disasm) given input = reporting (disasm_in given)
@@ -89,7 +89,7 @@ service_in n (wish.Verify verify) given input = reporting (verify_in verify give
 abbrev pub notation_for : Wish → Option (Notation Global)
 notation_for wish = notation_by (head_of wish).notation.text (head_of wish).notation.layout
 
--- the facts in a notation; an unknown layout has no result
+-- the reports and the faults in the notation; with an invalid layout, the only fault is `BadLayout` and no report is possible
 abbrev pub noted : Option (Notation Global) → (Notation Global → Service) → Service
 noted None known = record {
   reports = λ report. ⊥;
@@ -97,11 +97,11 @@ noted None known = record {
 }
 noted (Some n) known = known n
 
--- The facts about a request, given the bytes of its files and its input.
+-- The reports and the faults of a request, given the bytes of its files and standard input.
 abbrev pub service_for : Wish → Given → Option (List ℕ) → Service
 service_for wish given input = noted (notation_for wish) (λ n. service_in n wish given input)
 
--- a script, a batch and a load read standard input, and so does a store whose value is standard input
+-- the requests that read standard input: a batch, a script, a load, and a store whose value is standard input
 abbrev pub reads_input : Wish → Bool
 reads_input (wish.Batch batch) = true
 reads_input (wish.Script script) = true

@@ -1,4 +1,4 @@
-//! A copy of a database in new files.
+//! Copies a database into new files.
 
 use crate::ending::{Ending, FAULT, Served};
 use crate::request::given_of;
@@ -21,11 +21,11 @@ use std::time::Clock;
 // The mode of a copy of a database without BASE.pag and BASE.redo.
 const NEW_MODE: u32 = 0o666;
 
-/// Copies a database whose files were read into the new files of a backup, and prints the number of pairs. A fault of the copy is reported
-/// here, with its name.
+/// Opens the database of the files that were read, copies it into the new files of a backup, and prints the number of pairs. If making the
+/// copy fails, reports the fault here and returns the status of a fault.
 ///
 /// # Errors
-/// `Report` with `Open` if the files are not a database, and `NoMemory`: those are about the database.
+/// Only faults of the database that is copied: `Report` with `Open` if its files cannot be opened, and `NoMemory`.
 pub fn serve_backup<R: Runtime<File = File> + Clock + AllocGlobal>(
     rt: &R,
     backup: &Backup<'_>,
@@ -38,7 +38,7 @@ pub fn serve_backup<R: Runtime<File = File> + Clock + AllocGlobal>(
     }
 }
 
-/// Reports a fault of the copy, with its name.
+/// Reports a fault of making the copy. The message names the copy.
 pub fn refuse_copy<R: Runtime<File = File> + AllocGlobal>(
     rt: &R,
     backup: &Backup<'_>,
@@ -66,7 +66,7 @@ fn make_copy<R: Runtime<File = File> + Clock + AllocGlobal>(
     }
 }
 
-// The permissions of a database: those of its pages, or of its redo file if it has no pages yet.
+// The permissions of a database: those of its `.pag`, or if that is missing those of its redo file.
 fn mode_of<R: Runtime<File = File> + AllocGlobal>(rt: &R, base: &str) -> Result<u32, ServeFault> {
     let names = names_of(rt.alloc(), base)?;
     for name in [&names.pages, &names.redo] {

@@ -1,4 +1,4 @@
-//! The time of day, for a run and for lines that request it.
+//! Reads the time of day, for a run and for lines that use the clock.
 ghost use Rattle.std.specs.Prelude.{◌≡◌, ◌/◌, IfOk, IfSome, decimal, string_bytes};
 ghost use Rattle.std.specs.Duration.{as_nanos};
 ghost use Rattle.dbm_tool.specs.Clocks.{nanos_in};
@@ -10,10 +10,10 @@ use dbm_script::TimeOfDay;
 use std::alloc::{AllocError, Global};
 use std::time::{Clock, Duration, SystemTime, UNIX_EPOCH};
 
-/// The time of day in decimal, in a unit since the beginning of 1970 in UTC.
+/// Returns the number of units since the beginning of 1970 in UTC, in decimal.
 ///
 /// # Errors
-/// `ReadClock` if the system does not report it, and `NoMemory`.
+/// `ReadClock` if the system does not report the time, and `NoMemory`.
 pub fn read_clock<C: Clock>(
     clock: &C,
     alloc: Global,
@@ -23,10 +23,10 @@ pub fn read_clock<C: Clock>(
     Ok(time_text(alloc, since, unit)?)
 }
 
-/// The time of day in both units.
+/// Returns the time of day in both units.
 ///
 /// # Errors
-/// `ReadClock` if the system does not report it.
+/// `ReadClock` if the system does not report the time.
 pub fn read_time<C: Clock>(clock: &C) -> Result<TimeOfDay, ServeFault> {
     let since = since_beginning(clock)?;
     match time_of_day(since) {
@@ -35,7 +35,7 @@ pub fn read_time<C: Clock>(clock: &C) -> Result<TimeOfDay, ServeFault> {
     }
 }
 
-// The time since the beginning of 1970 in UTC. `ReadClock` if the system does not report it.
+// The time since the beginning of 1970 in UTC, or `ReadClock` if the system does not report it.
 fn since_beginning<C: Clock>(clock: &C) -> Result<Duration, ServeFault> {
     let Ok(now) = SystemTime::now(clock) else {
         return Err(ServeFault::ReadClock);
@@ -46,7 +46,7 @@ fn since_beginning<C: Clock>(clock: &C) -> Result<Duration, ServeFault> {
     }
 }
 
-// A time in both units, rounded down. Returns `None` if the milliseconds do not fit 64 bits.
+// Converts a time to both units, rounded down. Returns `None` if the milliseconds do not fit into 64 bits.
 fn time_of_day(since: Duration) -> Option<TimeOfDay>
     ensures { IfSome result (λ time. (time.seconds ≡ as_nanos since / nanos_in Seconds) × (time.millis ≡ as_nanos since / nanos_in Milliseconds)) }
 {
@@ -59,7 +59,7 @@ fn time_of_day(since: Duration) -> Option<TimeOfDay>
     })
 }
 
-// A time in decimal, in whole units, rounded down.
+// Returns the number of whole units in a time, in decimal.
 fn time_text(alloc: Global, since: Duration, unit: TimeUnit) -> Result<String, AllocError>
     ensures { IfOk result (λ text. string_bytes text ≡ decimal (as_nanos since / nanos_in unit)) }
 {

@@ -16,7 +16,7 @@ use std::io::{Read, Write};
 use std::sync::Wait;
 use std::thread::Threads;
 
-/// Serves a request. Reads the layout first.
+/// Serves a request, after reading the layout of values that its options name.
 pub fn serve_wish<T: Threads + Wait + Sync, R: Read, W: Write>(
     rt: &T,
     alloc: Global,
@@ -34,7 +34,7 @@ pub fn serve_wish<T: Threads + Wait + Sync, R: Read, W: Write>(
     }
 }
 
-// Serves a request whose bytes are in a notation.
+// Serves a request, given the notation of its bytes.
 fn serve_in<T: Threads + Wait + Sync, R: Read, W: Write>(
     rt: &T,
     alloc: Global,
@@ -71,7 +71,7 @@ fn serve_in<T: Threads + Wait + Sync, R: Read, W: Write>(
     }
 }
 
-// A fault of a subcommand that is also a fault of the program.
+// A fault of a subcommand, which converts into a fault of the program.
 trait SubcommandFault: Drop {
     // The fault of the program.
     ghost as_fault: { Self → ServeFault };
@@ -108,7 +108,7 @@ impl SubcommandFault for ServeFault {
     }
 }
 
-// The outcome of a subcommand, with its fault as one of the program.
+// Converts the fault of a subcommand into a fault of the program.
 fn outcome_of<F: SubcommandFault>(came: Result<Outcome, Unserved<F>>) -> Result<Outcome, ServeFault>
     ensures { result ≡ outcome_by F.as_fault came }
 {

@@ -1,4 +1,4 @@
-//! How a run of the program ends.
+//! The ending of a run of the program.
 ghost use Rattle.std.specs.Prelude.{◌≡◌};
 ghost use Rattle.dbm_tool.specs.Endings.{IsEndingOf, IsExitStatus, IsRefusalStatus};
 
@@ -10,74 +10,67 @@ use dbm_reports::{Notes, Outcome};
 /// The status of every fault.
 pub const FAULT: u8 = 2;
 
-/// A request that was served and printed: its exit status, and what the notes on standard error say of it.
-#[derive(Drop)]
+/// A request that was served and whose text was printed: the exit status, and the notes for standard error.
+#[derive(Clone, Copy)]
 pub struct Served {
     pub status: u8,
     pub notes: Notes,
-    /// Why the verifier refuses its program.
-    pub refusal: Option<String>,
-    /// Its change is durable in the redo file, but not yet done in the files of the database.
+    /// The change is durable in the redo file, but not yet written to the data files.
     pub is_pending: bool,
 }
 
 impl Served {
-    /// A request with a status and nothing to note.
+    /// A request with a status and no notes.
     pub fn plain(status: u8) -> Served
         ensures { result.status ≡ status }
     {
         Served {
             status,
             notes: Notes::none(),
-            refusal: None,
             is_pending: false,
         }
     }
 
-    /// The request of an outcome, once its text is printed and its files are written.
-    pub fn of(outcome: &Outcome, refusal: Option<String>, is_pending: bool) -> Served
+    /// A request with this outcome, after the text was printed and the database was saved.
+    pub fn of(outcome: &Outcome, is_pending: bool) -> Served
         ensures status { result.status ≡ outcome.now.status }
         ensures notes { result.notes ≡ outcome.now.notes }
-        ensures refusal { result.refusal ≡ refusal }
         ensures pending { result.is_pending ≡ is_pending }
     {
         Served {
             status: outcome.status,
             notes: outcome.notes,
-            refusal,
             is_pending,
         }
     }
 
-    /// The request of a result on one page, once its text is printed and its files are written.
-    pub fn on_page(page: &PageResult, refusal: Option<String>, is_pending: bool) -> Served
+    /// A request with this result on one page, after the text was printed and the change was saved.
+    pub fn on_page(page: &PageResult, is_pending: bool) -> Served
         ensures status { result.status ≡ page.now.status }
         ensures notes { result.notes ≡ page.now.notes }
-        ensures refusal { result.refusal ≡ refusal }
         ensures pending { result.is_pending ≡ is_pending }
     {
         Served {
             status: page.status,
             notes: page.notes,
-            refusal,
             is_pending,
         }
     }
 }
 
-/// How a run of the program ends.
+/// The ending of a run of the program.
 #[derive(Drop)]
 pub enum Ending {
     /// The request was served.
     Served(Served),
-    /// The words are invalid, or they request help or the version.
+    /// The arguments are invalid, or they request help or the version.
     Refused(ToolFault),
     /// The request failed.
     Failed(ServeFault),
 }
 
 impl Ending {
-    /// How a run ends after its request. `None` means that the reader of the answer is gone, which is no fault.
+    /// The ending of a run, given the result of its request. `None` means that the reader of the answer is gone, which is no fault.
     pub fn of(outcome: Result<Option<Served>, ServeFault>) -> Ending
         ensures { IsEndingOf outcome result }
     {
@@ -89,8 +82,8 @@ impl Ending {
     }
 }
 
-/// The exit status of the program: that of the served request, 0 if the words requested help or the version, and 2
-/// for every other refusal and for every fault.
+/// The exit status of the program: that of the served request, 0 if the arguments request help or the version, and 2 for every other
+/// refusal and for every fault.
 pub fn exit_status(ending: &Ending) -> u8
     ensures { IsExitStatus ending.now result }
 {

@@ -1,4 +1,4 @@
-//! A program for the files of a store: fetches, stores and lists pairs, runs scripts, and handles programs as text and images.
+//! The program `dbm`: fetches, stores and lists pairs, runs scripts, and handles programs as text and images.
 #![tactic(auto)]
 
 ghost use Rattle.std.specs.Prelude.{◌≡◌};
@@ -24,17 +24,17 @@ use dbm_files::{LockedFiles, RunFiles, SaveOutcome, save_files, take_rest};
 use dbm_messages::ServeFault;
 use dbm_places::{RunPlace, has_no_files};
 use dbm_reports::{Given, NOT_RUN, ReportFault};
-use dbm_script::{LineKind, SCRIPT_LIMIT, read_number};
+use dbm_script::{LineKind, SCRIPT_LIMIT, TimeOfDay, read_number};
 use dbm_shell::serve_session;
 use dbm_stderr::{
     DiagnosticContext, PipeWriter, ProgressReader, RecordingReader, advise, is_terminal,
-    note_absent, note_bad_lines, note_object, note_of_half_line, note_of_line_end, note_pending,
-    note_refusal, note_that, take_and_tell, tell_saving,
+    note_absent, note_bad_lines, note_hex_word, note_object, note_of_half_line, note_of_line_end,
+    note_pending, note_that, take_and_tell, tell_saving,
 };
 use ending::{Ending, Served, exit_status};
-use printing::{print_change, print_lines};
-use quick::{PageServed, may_be_quick, refusal_in, serve_quick};
-use request::{context_of, given_of, place_asked, reads_whole, work_asked, work_of};
+use printing::{note_program, print_change, print_lines};
+use quick::{PageServed, may_be_quick, serve_quick};
+use request::{context_of, doubtful_hex, given_of, place_asked, reads_whole, work_asked, work_of};
 use sdbm_saves::ReadFiles;
 use serve::serve;
 use sizes::{must_be_wide, refuse_small};
@@ -48,7 +48,7 @@ use std::sync::Wait;
 use std::thread::Threads;
 use std::time::Duration;
 use std::{env, fs, io, thread};
-use stock::{print_programs, stock_file};
+use stock::{check_program, print_programs, stock_file};
 
 // The default wait in seconds for the lock that a change of the database needs.
 const DEFAULT_PATIENCE: u64 = 60;
@@ -62,13 +62,13 @@ fn main(rt: HostRuntime) -> ExitCode {
     ExitCode::from(exit_status(&ending))
 }
 
-// Opens the descriptors 0, 1 and 2 that are closed, so that no file of a database gets one of them. Reads and writes on them
-// fail, since they are a folder.
+// Opens a folder on each of the descriptors 0, 1 and 2 that is closed, so that no file of a database gets this descriptor. Reads and
+// writes on a folder fail.
 fn hold_standard<R: Files>(rt: &R) -> [io::Result<R::File>; 3] {
     [fs::open(rt, "/"), fs::open(rt, "/"), fs::open(rt, "/")]
 }
 
-// The words of the command line, preceded by the program's name.
+// Returns the words of the command line. The first is the program's name.
 fn read_args<R: Runtime + AllocGlobal>(rt: &R) -> Result<Vec<String>, ServeFault> {
     match env::args(rt) {
         Ok(args) => Ok(args.collect(rt.alloc())?),
@@ -77,7 +77,7 @@ fn read_args<R: Runtime + AllocGlobal>(rt: &R) -> Result<Vec<String>, ServeFault
     }
 }
 
-// Reads the words after the program's name, serves the request, and reports errors.
+// Reads the arguments, serves the request, and reports errors.
 fn run<R: Runtime<File = File> + AllocGlobal + Threads + Wait + Sync>(
     rt: &R,
     args: &[String],
@@ -96,7 +96,7 @@ fn run<R: Runtime<File = File> + AllocGlobal + Threads + Wait + Sync>(
     }
 }
 
-// The words after the program's name. If DBM_TEXT is 1 and the subcommand knows `--text`, they have it.
+// Returns the arguments. If DBM_TEXT is 1 and the subcommand accepts `--text`, adds this option.
 fn words_meant<'a, R: Runtime + AllocGlobal>(
     rt: &R,
     args: &'a [String],
@@ -114,7 +114,7 @@ fn words_meant<'a, R: Runtime + AllocGlobal>(
     }
 }
 
-// The words after the program's name, with `--text` after the name of the subcommand if `is_text`.
+// Returns the arguments. If `is_text` is true, `--text` follows the first one, the name of the subcommand.
 fn words_after_name(
     alloc: Global,
     args: &[String],
@@ -136,12 +136,18 @@ fn serve_and_tell<R: Runtime<File = File> + AllocGlobal + Threads + Wait + Sync>
     request: Request<'_>,
 ) -> Ending {
     let context = context_of(&request);
+    let doubtful = doubtful_hex(&request.ask);
     let records = !matches!(request.ask, Ask::Wish(Wish::Load(_)) | Ask::Session(_));
     let input = ProgressReader::new(rt, rt.reader(), work_asked(&request.ask));
     let mut reader = RecordingReader::new(rt.alloc(), input, records);
     let outcome = serve_request(rt, request, &mut reader);
     if let Ok(Some(served)) = &outcome {
         note(rt, &context, served, reader.text());
+        if let Some(word) = doubtful
+            && is_terminal(rt, 2)
+        {
+            note_hex_word(rt, word);
+        }
     }
     let is_bad_line = matches!(outcome, Err(ServeFault::BadLine(_)));
     let ending = tell(rt, Some(&context), Ending::of(outcome));
@@ -151,8 +157,8 @@ fn serve_and_tell<R: Runtime<File = File> + AllocGlobal + Threads + Wait + Sync>
     ending
 }
 
-// The refusal of the same words with `\n` for each line feed, if one has a line feed. `clap` shows words unchanged, and a word must not be
-// able to print a line that looks like one of this program.
+// If an argument has a line feed, returns the refusal of the same arguments with `\n` for each line feed. `clap` shows arguments unchanged,
+// and an argument must not be able to print a line that looks like a message of this program.
 fn refused_in_lines(alloc: Global, words: &[&str], fault: ToolFault) -> ToolFault {
     if !words.iter().any(|word| word.contains('\n')) {
         return fault;
@@ -163,7 +169,7 @@ fn refused_in_lines(alloc: Global, words: &[&str], fault: ToolFault) -> ToolFaul
     }
 }
 
-// Words with `\n` for each line feed.
+// Copies the arguments, with `\n` for each line feed.
 fn words_in_lines(alloc: Global, words: &[&str]) -> Result<Vec<String>, AllocError> {
     let mut plain: Vec<String> = Vec::new(alloc);
     for word in words {
@@ -180,7 +186,7 @@ fn words_in_lines(alloc: Global, words: &[&str]) -> Result<Vec<String>, AllocErr
     Ok(plain)
 }
 
-// Why words are refused. Returns `None` if they are accepted, or if memory ran out.
+// Returns the refusal of the arguments, or `None` if they are accepted or memory ran out.
 fn refused_again(alloc: Global, words: &[String]) -> Option<ToolFault> {
     let mut lent: Vec<&str> = Vec::new(alloc);
     for word in words {
@@ -192,9 +198,8 @@ fn refused_again(alloc: Global, words: &[String]) -> Option<ToolFault> {
     }
 }
 
-// Prints notes next to an answer that may not be what the user meant: missing files, an object instead of an image, a refused program,
-// invalid lines of a script, a last line without LF, and a save that is not done in its files. After a bad line it also reports
-// a line that ends in CR.
+// Prints notes after an answer that the user may not expect. The notes are about missing files, a save that is not yet in the data files,
+// an object file instead of an image, bad lines of a script, a line that ends in CR if there are bad lines, and a last line without LF.
 fn note<R: Runtime<File = File> + AllocGlobal>(
     rt: &R,
     context: &DiagnosticContext<'_>,
@@ -209,9 +214,6 @@ fn note<R: Runtime<File = File> + AllocGlobal>(
     }
     if matches!(served.status, 1 | NOT_RUN) {
         note_object(rt, context);
-    }
-    if let Some(refusal) = &served.refusal {
-        note_refusal(rt, context, refusal.as_str());
     }
     if served.notes.bad_lines.count > 0 {
         note_bad_lines(rt, served.notes.bad_lines);
@@ -232,46 +234,51 @@ fn note_line_end<R: Runtime>(rt: &R, lines: LineKind, input: &[u8]) {
     }
 }
 
-// Serves a request after these checks: its base is a name, the timeout is valid, and required files exist. A run that writes holds its lock
-// until its change is saved. It is refused first if standard output cannot be written, since its answer would be lost after the change.
-// Returns `None` if the reader of the answer is gone, which is no fault.
+// Checks a request, takes its files, and serves it. The checks are: the stock program exists, the base is valid, the timeout is valid, and
+// required files exist. If there may be a change, standard output must be writable too, because otherwise the answer would be lost. A run
+// that writes holds its lock until its change is saved. Returns `None` if the reader of the answer is gone, which is no fault.
 fn serve_request<R: Runtime<File = File> + AllocGlobal + Threads + Wait + Sync, I: Read>(
     rt: &R,
     request: Request<'_>,
     reader: &mut RecordingReader<I>,
 ) -> Result<Option<Served>, ServeFault> {
-    let is_wide = must_be_wide(&request);
-    let Request { ask, access } = request;
-    let stock = match &ask {
-        Ask::Wish(wish) => stock_file(rt.alloc(), wish)?,
-        _ => None,
-    };
-    let place = place_asked(&ask);
+    if let Ask::Wish(wish) = &request.ask {
+        check_program(wish)?;
+    }
+    let place = place_asked(&request.ask);
     if place.base.is_some_and(|base| !is_name(base)) {
         return Err(ServeFault::BadBase);
     }
-    if let Ask::Backup(backup) = &ask
+    if let Ask::Backup(backup) = &request.ask
         && !is_name(backup.to)
     {
         return Ok(Some(refuse_copy(rt, backup, ServeFault::BadBase)));
     }
-    let patience = check_access(rt, &ask, access, place)?;
-    let taking = Taking { place, patience };
+    let patience = check_access(rt, &request.ask, request.access, place)?;
     // A terminal reports the end of its input only once, so it is not read ahead.
-    if place.base.is_some() && reads_whole(&ask) && !is_terminal(rt, 0) {
+    if place.base.is_some() && reads_whole(&request.ask) && !is_terminal(rt, 0) {
         reader.read_ahead(SCRIPT_LIMIT + 1);
     }
-    let mut taken = take_asked(rt, &ask, access, taking)?;
-    if is_wide {
-        taken = refuse_small(rt, place, taken, patience)?;
-    }
-    if let Some(program) = stock {
-        taken.bytes.program = program;
-    }
+    let taking = Taking { place, patience };
+    let taken = take_asked(rt, &request, taking)?;
+    serve_ask(rt, request.ask, taking, taken, reader)
+}
+
+// Serves a request whose files were taken.
+fn serve_ask<R: Runtime<File = File> + AllocGlobal + Threads + Wait + Sync, I: Read>(
+    rt: &R,
+    ask: Ask<'_>,
+    taking: Taking<'_>,
+    taken: RunFiles,
+    reader: &mut RecordingReader<I>,
+) -> Result<Option<Served>, ServeFault> {
     match ask {
-        Ask::Wish(wish) => serve_timed(rt, wish, taking, taken, reader),
+        Ask::Wish(wish) => {
+            let added = added_words(rt, &wish)?;
+            serve_peeked(rt, with_words(wish, &added), taking, taken, reader)
+        }
         Ask::Session(session) => {
-            serve_session(rt, session, place, taken, reader)?;
+            serve_session(rt, session, taking.place, taken, reader)?;
             Ok(Some(Served::plain(0)))
         }
         Ask::Backup(backup) => Ok(Some(serve_backup(rt, &backup, taken.bytes)?)),
@@ -282,7 +289,8 @@ fn serve_request<R: Runtime<File = File> + AllocGlobal + Threads + Wait + Sync, 
     }
 }
 
-// Checks that required files exist, and that standard output can be written if there may be a change. Returns the longest wait for the lock.
+// Checks that required files exist. If there may be a change, also checks that standard output is writable. Returns the longest wait for
+// the lock.
 fn check_access<R: Runtime<File = File> + AllocGlobal>(
     rt: &R,
     ask: &Ask<'_>,
@@ -301,17 +309,27 @@ fn check_access<R: Runtime<File = File> + AllocGlobal>(
     Ok(patience)
 }
 
-// Takes the files of a request, except pages that it may not need.
+// Takes the files of a request. Leaves `.pag` unread if one page may be enough. For a stock program, makes its bytes instead of reading a
+// file.
 fn take_asked<R: Runtime<File = File> + AllocGlobal>(
     rt: &R,
-    ask: &Ask<'_>,
-    access: Access<'_>,
+    request: &Request<'_>,
     taking: Taking<'_>,
 ) -> Result<RunFiles, ServeFault> {
+    let Request { ask, access } = request;
     let peeks = may_be_quick(ask) && (access.quick || is_on(rt, "DBM_QUICK")?);
     let Taking { place, patience } = taking;
     let work = work_asked(ask);
-    Ok(take_and_tell(rt, place, peeks, patience, access.verbose, work)?)
+    let mut taken = take_and_tell(rt, place, peeks, patience, access.verbose, work)?;
+    if must_be_wide(request) {
+        taken = refuse_small(rt, place, taken, patience)?;
+    }
+    if let Ask::Wish(wish) = ask
+        && let Some(program) = stock_file(rt.alloc(), wish)?
+    {
+        taken.bytes.program = program;
+    }
+    Ok(taken)
 }
 
 // The files of a request, and the timeout of their lock.
@@ -321,7 +339,7 @@ struct Taking<'a> {
     patience: Option<Duration>,
 }
 
-// Returns `true` if a variable of the environment is `1`.
+// Returns `true` if an environment variable is `1`.
 fn is_on<R: Runtime + AllocGlobal>(rt: &R, name: &str) -> Result<bool, AllocError> {
     match env::var(rt, name) {
         Ok(word) => Ok(word.as_str() == "1"),
@@ -330,7 +348,8 @@ fn is_on<R: Runtime + AllocGlobal>(rt: &R, name: &str) -> Result<bool, AllocErro
     }
 }
 
-// Returns `true` if the base has a file name: a base such as `users/` would name the files `users/.dir` and `users/.pag`.
+// Returns `true` if the base ends with a file name. A base such as `users/` does not: it would name the files `users/.dir` and
+// `users/.pag`.
 fn is_name(base: &str) -> bool {
     let last = match base.rsplit_once('/') {
         Some((_, last)) => last,
@@ -339,8 +358,8 @@ fn is_name(base: &str) -> bool {
     !matches!(last, "" | "." | "..")
 }
 
-// The time that a run waits for the lock: that of the words, else that of DBM_TIMEOUT, else a minute if it may change the database. `None`
-// means forever.
+// Returns the longest wait for the lock: the value of `--timeout`, or else that of DBM_TIMEOUT. Without both, the longest wait is a minute
+// for a run that may change the database, and otherwise unlimited (`None`).
 fn patience_of<R: Runtime + AllocGlobal>(
     rt: &R,
     timeout: Option<&str>,
@@ -359,7 +378,7 @@ fn patience_of<R: Runtime + AllocGlobal>(
     })
 }
 
-// The timeout in DBM_TIMEOUT. If it is not a number, prints a note and treats it as unset.
+// Returns the timeout in DBM_TIMEOUT. If the variable is not a number, prints a note and treats the variable as unset.
 fn asked_patience<R: Runtime + AllocGlobal>(rt: &R) -> Option<Duration> {
     let word = env::var(rt, "DBM_TIMEOUT").ok()?;
     let seconds = read_number(word.as_bytes(), u64::MAX);
@@ -371,45 +390,54 @@ fn asked_patience<R: Runtime + AllocGlobal>(rt: &R) -> Option<Duration> {
     Some(Duration::from_secs(seconds?))
 }
 
-// Serves a request on its files, which were taken, with the time of day if it needs that. The clock is read once, after the wait for the
-// lock.
-fn serve_timed<R: Runtime<File = File> + AllocGlobal + Threads + Wait + Sync, I: Read>(
+// The values that the program adds to a request.
+#[derive(Drop)]
+struct AddedWords {
+    time: Option<String>,
+    workers: Option<String>,
+    clock: Option<TimeOfDay>,
+}
+
+// Finds the values that a request needs: the time of day, and the number of cores. Reads the clock once, after the wait for the lock.
+fn added_words<R: Runtime + Threads + AllocGlobal>(
     rt: &R,
-    wish: Wish<'_>,
-    taking: Taking<'_>,
-    taken: RunFiles,
-    reader: &mut RecordingReader<I>,
-) -> Result<Option<Served>, ServeFault> {
-    let Some(unit) = wish.time_asked() else {
-        let wish = with_lines_timed(rt, wish)?;
-        return serve_staffed(rt, wish, taking, taken, reader);
+    wish: &Wish<'_>,
+) -> Result<AddedWords, ServeFault> {
+    let alloc = rt.alloc();
+    let mut added = AddedWords {
+        time: None,
+        workers: None,
+        clock: None,
     };
-    let time = read_clock(rt, rt.alloc(), unit)?;
-    serve_peeked(rt, wish.with_time(time.as_str()), taking, taken, reader)
-}
-
-// Serves a request on its files, which were taken. If it wants one worker per core, it gets their number.
-fn serve_staffed<R: Runtime<File = File> + AllocGlobal + Threads + Wait + Sync, I: Read>(
-    rt: &R,
-    wish: Wish<'_>,
-    taking: Taking<'_>,
-    taken: RunFiles,
-    reader: &mut RecordingReader<I>,
-) -> Result<Option<Served>, ServeFault> {
-    if !wish.asks_cores() {
-        return serve_peeked(rt, wish, taking, taken, reader);
+    if let Some(unit) = wish.time_asked() {
+        added.time = Some(read_clock(rt, alloc, unit)?);
+        return Ok(added);
     }
-    let workers = cores_text(rt, rt.alloc())?;
-    serve_peeked(
-        rt,
-        wish.with_workers(workers.as_str()),
-        taking,
-        taken,
-        reader,
-    )
+    if wish.asks_clock() {
+        added.clock = Some(read_time(rt)?);
+    }
+    if wish.asks_cores() {
+        added.workers = Some(cores_text(rt, alloc)?);
+    }
+    Ok(added)
 }
 
-// The number of cores that this process may use, in decimal; 1 if the system does not report it.
+// Puts the added values into a request.
+fn with_words<'a>(wish: Wish<'a>, added: &'a AddedWords) -> Wish<'a> {
+    if let Some(time) = &added.time {
+        return wish.with_time(time.as_str());
+    }
+    let wish = match added.clock {
+        Some(time) => wish.with_clock(time),
+        None => wish,
+    };
+    match &added.workers {
+        Some(workers) => wish.with_workers(workers.as_str()),
+        None => wish,
+    }
+}
+
+// The number of cores that this process may use, in decimal; 1 if the system reports none.
 fn cores_text<R: Threads>(rt: &R, alloc: Global) -> Result<String, AllocError> {
     let cores = match thread::available_parallelism(rt) {
         Ok(cores) => cores.get(),
@@ -418,7 +446,7 @@ fn cores_text<R: Threads>(rt: &R, alloc: Global) -> Result<String, AllocError> {
     format!(in alloc; "{cores}")
 }
 
-// Serves a request from the page of its key if its files were taken so and that page is enough, otherwise from the whole files.
+// Serves a request from the page of its key if `.pag` was left unread and that page is enough; otherwise from the whole files.
 fn serve_peeked<R: Runtime<File = File> + AllocGlobal + Threads + Wait + Sync, I: Read>(
     rt: &R,
     wish: Wish<'_>,
@@ -458,7 +486,7 @@ fn serve_peeked<R: Runtime<File = File> + AllocGlobal + Threads + Wait + Sync, I
     }
 }
 
-// Prints the lines of a request that was served from one page, unless its save has printed them.
+// Prints the lines of a request that was served from one page, unless the save has printed the lines.
 fn print_page<R: Runtime<File = File> + AllocGlobal>(
     rt: &R,
     wish: Wish<'_>,
@@ -467,15 +495,15 @@ fn print_page<R: Runtime<File = File> + AllocGlobal>(
     reads: bool,
 ) -> Result<Option<Served>, ServeFault> {
     let PageServed { result, saved } = page;
-    let refusal = refusal_in(rt.alloc(), wish, program, result.notes);
     if saved.is_none() && !print_unsaved(rt, reads, result.text.as_slice())? {
         return Ok(None);
     }
+    note_program(rt, wish, program, result.notes);
     let is_pending = saved == Some(SaveOutcome::Pending);
-    Ok(Some(Served::on_page(&result, refusal, is_pending)))
+    Ok(Some(Served::on_page(&result, is_pending)))
 }
 
-// Prints the lines of a request that saved nothing. Returns `false` if it only reads and the reader of its answer is gone.
+// Prints the lines of a request that saved nothing. Returns `false` if the request only reads and the reader of the answer is gone.
 fn print_unsaved<R: Runtime>(rt: &R, reads: bool, lines: &[u8]) -> Result<bool, ServeFault> {
     if reads {
         return print_lines(rt, lines);
@@ -484,16 +512,7 @@ fn print_unsaved<R: Runtime>(rt: &R, reads: bool, lines: &[u8]) -> Result<bool, 
     Ok(true)
 }
 
-// The same request, with the time of day for its lines if they may request it.
-fn with_lines_timed<'a, R: Runtime>(rt: &R, wish: Wish<'a>) -> Result<Wish<'a>, ServeFault> {
-    if !wish.asks_clock() {
-        return Ok(wish);
-    }
-    let time = read_time(rt)?;
-    Ok(wish.with_clock(time))
-}
-
-// Serves a request on its files, which were taken.
+// Serves a request whose files were taken and read as a whole.
 fn serve_taken<R: Runtime<File = File> + AllocGlobal + Threads + Wait + Sync, I: Read>(
     rt: &R,
     wish: Wish<'_>,
@@ -520,10 +539,10 @@ fn serve_reading<R: Runtime<File = File> + AllocGlobal + Threads + Wait + Sync, 
     if writer.has_no_reader() && !matches!(wish, Wish::Dump(_)) {
         return Ok(None);
     }
-    Ok(Some(Served::of(&served?, None, false)))
+    Ok(Some(Served::of(&served?, false)))
 }
 
-// Serves a request that may change its database. Its lines are printed once the save is committed and the lock released.
+// Serves a request that may change its database. The lines are printed after the save is committed and the lock is released.
 fn serve_change<R: Runtime<File = File> + AllocGlobal + Threads + Wait + Sync, I: Read>(
     rt: &R,
     wish: Wish<'_>,
@@ -538,7 +557,6 @@ fn serve_change<R: Runtime<File = File> + AllocGlobal + Threads + Wait + Sync, I
         Err(ServeFault::Write) => return Err(ServeFault::NoMemory),
         Err(fault) => return Err(fault),
     };
-    let refusal = refusal_in(rt.alloc(), wish, given.file.as_slice(), outcome.notes);
     let mut is_pending = false;
     if let Some(new) = &outcome.database {
         let old = ReadFiles {
@@ -549,11 +567,12 @@ fn serve_change<R: Runtime<File = File> + AllocGlobal + Threads + Wait + Sync, I
         let saved = save_files(rt, held, old, new, lines.as_slice(), &mut io::writer(rt))?;
         is_pending = saved == SaveOutcome::Pending;
     }
-    Ok(Served::of(&outcome, refusal, is_pending))
+    note_program(rt, wish, given.file.as_slice(), outcome.notes);
+    Ok(Served::of(&outcome, is_pending))
 }
 
-// Prints why the words are refused, or the help or the version that they request, or the fault and what to do. If help cannot be printed
-// on standard output, that is the fault. If standard error fails, only the status reports the fault.
+// Prints the refusal of the arguments, the help or the version that the arguments request, or the fault and what to do. If a refusal or
+// help cannot be printed, the ending becomes the fault `Write`. If a fault cannot be printed, only the status reports it.
 fn tell<R: Runtime<File = File> + AllocGlobal>(
     rt: &R,
     context: Option<&DiagnosticContext<'_>>,

@@ -1,4 +1,4 @@
-//! A request that is served from the page of its key, so that the rest of `.pag` stays unread.
+//! Serves a request from the page of its key, without reading the whole `.pag`.
 ghost use Rattle.std.specs.Prelude.{◌≡◌, ◌+◌, ◌*◌, ◌%◌, ◌<◌, ◌≤◌, ℕ, List, Option, length, get_or, IfSome, Ok, Some};
 ghost use Rattle.sdbm_addr.specs.Pairs.{page_bytes};
 ghost use Rattle.sdbm_saves.specs.Redo.{IsPlan, Knows};
@@ -12,12 +12,11 @@ use dbm_command_line::{Ask, Wish};
 use dbm_files::{LockedFiles, PlannedPart, SaveOutcome, UnreadPages, save_part};
 use dbm_messages::ServeFault;
 use dbm_places::FileBytes;
-use dbm_programs::refusal_of;
 use dbm_records::{
     PageRequest, PageResult, answer_on_page, delete_request, fetch_request, run_request,
     store_request,
 };
-use dbm_reports::{Notes, ReportFault, key_bytes_of, notation_by, page_size_of};
+use dbm_reports::{ReportFault, key_bytes_of, notation_by, page_size_of};
 use dbm_script::Notation;
 use sdbm_addr::PageSize;
 use sdbm_saves::Part;
@@ -27,7 +26,7 @@ use std::io;
 use std::rt::{Files, Runtime};
 use store_parts::{has_own_pairs, page_of};
 
-/// Returns `true` if a request may be served so.
+/// Returns `true` if a request may be served from the page of its key.
 pub fn may_be_quick(ask: &Ask<'_>) -> bool {
     matches!(
         ask,
@@ -39,16 +38,16 @@ pub fn may_be_quick(ask: &Ask<'_>) -> bool {
 #[derive(Drop)]
 pub struct PageServed {
     pub result: PageResult,
-    /// How its change was saved. `None` if there was none: then its lines are not printed yet.
+    /// The outcome of saving the change. `None` means that there was no change, and the lines are not printed yet.
     pub saved: Option<SaveOutcome>,
 }
 
-/// Serves a request from the page of its key; its files were taken except `.pag`. If there is a change it saves it, releases the lock, and
-/// prints the lines. If there is none, the caller prints the lines after it has released the lock. Returns `None` if that page is not enough:
-/// then nothing was written, and the caller has to read all of `.pag`.
+/// Serves a request from the page of its key. The files were taken, but `.pag` was left unread. If there is a change, saves it, releases
+/// the lock, and prints the lines. If there is none, the caller has to release the lock and then print the lines. Returns `None` if that
+/// page is not enough: nothing was written, and the caller has to read the whole `.pag`.
 ///
 /// # Errors
-/// `Write` if its lines could not be written, and those of a save.
+/// `Write` if the lines could not be written, and the errors of a save.
 pub fn serve_quick<R: Runtime<File = File> + AllocGlobal>(
     rt: &R,
     wish: Wish<'_>,
@@ -113,7 +112,7 @@ fn save_quick<R: Runtime<File = File> + AllocGlobal>(
     Ok(Some(saved))
 }
 
-// The request that may be served from the page of its key, and the form of its files.
+// Returns the request that may be served from the page of its key, together with the form of its files.
 fn asked_of(
     alloc: Global,
     notation: &Notation<Global>,
@@ -134,7 +133,7 @@ fn asked_of(
     }
 }
 
-// The request, if there is one, together with the form of its files.
+// Returns the request together with the form of its files, or `None` if there is no request.
 fn meant(form: Form, asked: Result<Option<PageRequest>, ReportFault>) -> Option<(Form, PageRequest)>
     ensures { IfSome result (λ meant. (meant.0 ≡ form) × (asked ≡ Ok (Some meant.1))) }
 {
@@ -144,8 +143,8 @@ fn meant(form: Form, asked: Result<Option<PageRequest>, ReportFault>) -> Option<
     }
 }
 
-// The page to which a key leads, and its number. Returns `None` if it cannot be read, if the length of the file is not a multiple of a
-// page, or if its last page has no pairs or those of other keys.
+// Reads the page to which a key leads, and returns its number and its bytes. Returns `None` if the page cannot be read, if the length of
+// the file is not a multiple of the page size, or if `ends_with_pairs` is false.
 fn page_for(
     alloc: Global,
     unread: &UnreadPages,
@@ -169,8 +168,8 @@ fn page_for(
     Some((number, page))
 }
 
-// Returns `true` if the file is empty, or its last page has pairs that belong to it. This detects a directory that is lost, or that of
-// another database.
+// Returns `true` if the file is empty, or its last page has pairs and all their keys lead to that page. This detects a directory that is
+// lost or belongs to another database.
 fn ends_with_pairs(alloc: Global, unread: &UnreadPages, directory: &[u8], form: Form) -> bool {
     let (kind, size) = (key_bytes_of(form), page_size_of(form));
     let pages = unread.len / size.bytes();
@@ -206,15 +205,5 @@ fn is_free(alloc: Global, unread: &UnreadPages, number: u32, size: PageSize) -> 
     match unread.page(alloc, number, size) {
         Ok(page) => page.iter().all(|byte| *byte == 0),
         Err(_) => false,
-    }
-}
-
-/// Why the verifier refuses the program of a run, if it does. `None` if memory ran out.
-pub fn refusal_in(alloc: Global, wish: Wish<'_>, file: &[u8], notes: Notes) -> Option<String> {
-    match wish {
-        Wish::Run(run) if notes.refuses_program => {
-            refusal_of(alloc, file, run.image).unwrap_or(None)
-        }
-        _ => None,
     }
 }

@@ -1,11 +1,11 @@
-//! The parts of a request that files and sentences need, as plain records.
+//! Extracts the parts of a request that the files and the sentences need.
 ghost use Rattle.std.specs.Prelude.{◌≡◌, option_map};
 ghost use Rattle.dbm_command_line.specs.Wishes.{wish_base, wish_file, writes_files};
 ghost use Rattle.dbm_tool.specs.Stock.{file_in};
 ghost use Rattle.sdbm_files.specs.Limits.{pag_limit};
 
 use crate::stock::{file_in, file_or_unknown};
-use dbm_args::{Numbers, Words};
+use dbm_args::{Named, Numbers, Words};
 use dbm_command_line::{Ask, Request, Wish};
 use dbm_dump::Backup;
 use dbm_places::{FileBytes, RunPlace};
@@ -16,7 +16,7 @@ use dbm_stderr::{DiagnosticContext, Work};
 use sdbm_addr::PageSize;
 use sdbm_files::PAG_LIMIT;
 
-/// The files of a request.
+/// The files of a request on a database or a program.
 pub fn place_of<'a>(wish: &Wish<'a>) -> RunPlace<'a>
     ensures base { option_map (λ text. text.now) result.base ≡ wish_base wish.now }
     ensures file { option_map (λ text. text.now) result.file ≡ file_in (wish_file wish.now) }
@@ -33,7 +33,7 @@ pub fn place_of<'a>(wish: &Wish<'a>) -> RunPlace<'a>
     }
 }
 
-// The page size that the words request.
+// The page size that the options select.
 fn size_of(words: &Words<'_>) -> PageSize {
     if words.wide {
         PageSize::Wide
@@ -42,7 +42,7 @@ fn size_of(words: &Words<'_>) -> PageSize {
     }
 }
 
-/// The files that were read, in the form for a report.
+/// Converts the bytes of the files into the input of a report.
 pub fn given_of(bytes: FileBytes) -> Given
     ensures { result ≡ record { dir = bytes.directory; pag = bytes.pages; file = bytes.program } }
 {
@@ -67,7 +67,7 @@ pub fn context_of<'a>(request: &Request<'a>) -> DiagnosticContext<'a> {
     }
 }
 
-// The words that a sentence may show.
+// The arguments that a sentence may show.
 fn words_of<'a>(ask: &Ask<'a>) -> Words<'a> {
     match ask {
         Ask::Wish(wish) => Words {
@@ -133,8 +133,8 @@ fn place_of_session<'a>(session: &Session<'a>) -> RunPlace<'a> {
     }
 }
 
-/// Returns `true` if a request reads its whole input before it changes anything: the lines of a script or a batch, or a value. It reads the
-/// input before it waits for the lock, since the writer of the input may want the lock too.
+/// Returns `true` if a request needs its whole input before it changes anything: the lines of a script or a batch, or a value. The input is
+/// then read before the wait for the lock, because the program that writes the input may need the lock too.
 pub fn reads_whole(ask: &Ask<'_>) -> bool {
     match ask {
         Ask::Wish(Wish::Script(_) | Wish::Batch(_)) => true,
@@ -143,7 +143,7 @@ pub fn reads_whole(ask: &Ask<'_>) -> bool {
     }
 }
 
-/// The work of a request that is slow on a large database.
+/// Returns the kind of work of a request, if the work is slow on a large database.
 pub fn work_asked(ask: &Ask<'_>) -> Option<Work> {
     match ask {
         Ask::Wish(wish) => work_of(wish),
@@ -152,13 +152,36 @@ pub fn work_asked(ask: &Ask<'_>) -> Option<Work> {
     }
 }
 
-/// The work of a `Wish` that is slow on a large database.
+/// Like `work_asked`, for a `Wish`.
 pub fn work_of(wish: &Wish<'_>) -> Option<Work> {
     match wish {
         Wish::Check(_) => Some(Work::Check),
         Wish::Dump(_) => Some(Work::Dump),
         Wish::Load(_) => Some(Work::Load),
         Wish::Widen(_) => Some(Work::Widen),
+        _ => None,
+    }
+}
+
+/// Returns the first argument of a store that was read as hex but may be meant as text, because it has only letters, as `cafe` does.
+pub fn doubtful_hex<'a>(ask: &Ask<'a>) -> Option<&'a str> {
+    let Ask::Wish(wish @ Wish::Store(_)) = ask else {
+        return None;
+    };
+    let notation = wish.head().notation;
+    if notation.text || notation.layout.is_some() {
+        return None;
+    }
+    let words = wish.words();
+    lettered(words.first).or(lettered(words.second))
+}
+
+// Returns the argument if it has only letters.
+fn lettered(named: Option<Named<'_>>) -> Option<&str> {
+    match named {
+        Some(named) if named.word.bytes().all(|byte| byte.is_ascii_alphabetic()) => {
+            Some(named.word)
+        }
         _ => None,
     }
 }

@@ -13,20 +13,25 @@ use std::io::{Read, Write};
 use std::sync::Wait;
 use std::thread::Threads;
 
-/// Serves a request: reads its words, opens the database, reads standard input for a script, a batch or a load, executes the request, and
-/// writes the lines that it prints. The status is 1 if nothing was found or changed. The outcome has a database exactly for a request that
-/// writes (`Head::writes`).
+/// Serves a request: reads its arguments, opens the database, reads standard input if the request needs it, executes the request, and
+/// writes the text of the result. The outcome has a database if and only if the request saves one (`Head::writes`).
 ///
 /// # Errors
-/// The first that is met, in this order; those that a `ReportFault` names are within `Report`. `BadLayout` if the layout is unknown;
-/// `BadHex`, or as text `BadText`, if a word is not valid bytes; `BadNumber` if one is not a number; `Open` if the files do not open;
-/// `NotText` and `Assemble` if a program's file is not the text of one, `Decode` if it is not an image, and for a batch `Submit` if its
-/// program is refused; for a script or a batch, `Read` if it could not be read and `TooLong` above 16,777,216 bytes; for a dump,
-/// `BadFormat` before the files and the other faults of `Dump` with the first invalid line; for a batch, `BadLine` with the first line that
-/// is not a task, `Pool` if not all tasks were done, and `Close` if the store does not close; `Write` if lines could not be written;
-/// `FileTooLong` if `.pag` would exceed `PAG_LIMIT`, after the lines were written. `NoMemory` may occur at any step before the lines, and
-/// is within no other fault except that of a task. Nothing is written if a fault occurs before the lines, and their first bytes if it is
-/// `Write`.
+/// The first fault in this order. Faults that `ReportFault` names are inside `Report`.
+/// - `BadLayout` if the layout of values is invalid. For a dump or a load, `BadFormat` of `Dump` if the format is unknown.
+/// - `BadHex` (in a text notation `BadText`) if an argument is not valid bytes, and `BadNumber` if one is not a number.
+/// - `Open` if the files cannot be opened.
+/// - `NotText` or `Assemble` if the program's file is not the text of a program. For `disasm`, `Decode` if the file is not the image of
+///   one. For a batch, `Submit` if the program is refused.
+/// - `Read` if standard input could not be read, and `TooLong` if it has more than 16,777,216 bytes. For a load, `Dump` with the fault of
+///   the dump.
+/// - For a script, `OutputTooLong`.
+/// - For a batch, `BadLine` with the first line that is not a task, `Pool` if not all tasks were done, and `Close` if the store does not
+///   close.
+/// - `Write` if only a prefix of the text was written, and `FileTooLong`, after the whole text was written, if `.pag` would exceed
+///   `PAG_LIMIT`. On any other fault nothing was written.
+///
+/// `NoMemory` may occur at any step before the text is written. No other fault contains it, except that of a task.
 pub fn serve<T: Threads + Wait + Sync, R: Read, W: Write>(
     rt: &T,
     alloc: Global,

@@ -1,4 +1,4 @@
-//! Detects files of small pages that are to be opened with wide pages.
+//! Refuses to open files of small pages with wide pages.
 use crate::request::context_of;
 use dbm_command_line::Request;
 use dbm_files::{RunFiles, UnreadPages, take_rest};
@@ -14,16 +14,16 @@ use std::time::{Clock, Duration};
 // The two ways to hash the keys of a database. The user may have chosen the wrong one.
 const KINDS: [KeyBytes; 2] = [KeyBytes::Signed, KeyBytes::Unsigned];
 
-/// Returns `true` if the files of a request must not look small: they are opened with wide pages, and the user does not insist.
+/// Returns `true` if a request opens its files with wide pages and the user does not insist. Files that look small are then refused.
 pub fn must_be_wide(request: &Request<'_>) -> bool {
     context_of(request).words.wide && !request.access.insist
 }
 
-/// Refuses files that look small. An unread `.pag` is read whole if its last page may be small: a database of small
-/// pages shows it on each page that is not all zeros.
+/// Refuses files that look small. An unread `.pag` is read as a whole only if its last page may be small. One page is enough to tell,
+/// because in a database of small pages each wide page that is not all zeros looks small.
 ///
 /// # Errors
-/// `OtherSize` if the files look small, `NoMemory`, and those of `take_rest`.
+/// `OtherSize` if the files look small, `NoMemory`, and the errors of `take_rest`.
 pub fn refuse_small<R: Files<File = File> + Clock + AllocGlobal>(
     rt: &R,
     place: RunPlace<'_>,

@@ -1,4 +1,4 @@
-//! Stock programs that a command line names.
+//! Finds the stock program that a command line names.
 ghost use Rattle.std.specs.Prelude.{◌≡◌, ◌⊎◌, IfOk, IfErr, option_map};
 ghost use Rattle.dbm_command_line.specs.Wishes.{wish_file, head_of};
 ghost use Rattle.dbm_messages.specs.declared.fault.ServeFault.TheVariants.{NoMemory, NoStock};
@@ -14,7 +14,7 @@ use std::fs::File;
 use std::rt::Runtime;
 use stock_names::{ProgramWord, read_word};
 
-/// The file that a word names. `None` if there is no word, or if it begins with `@`.
+/// The file that the argument for a program names. `None` if there is no argument, or if it begins with `@`.
 pub fn file_in<'a>(word: Option<&'a str>) -> Option<&'a str>
     ensures { option_map (λ text. text.now) result ≡ file_in (option_map (λ text. text.now) word.entry) }
 {
@@ -24,7 +24,7 @@ pub fn file_in<'a>(word: Option<&'a str>) -> Option<&'a str>
     }
 }
 
-/// The word for a program, unless it names a stock program: a file, or an unknown name.
+/// Returns the argument for a program, or `None` if the argument names a stock program.
 pub fn file_or_unknown<'a>(word: Option<&'a str>) -> Option<&'a str> {
     match read_word(word?.as_bytes()) {
         ProgramWord::Stock(_) => None,
@@ -32,8 +32,24 @@ pub fn file_or_unknown<'a>(word: Option<&'a str>) -> Option<&'a str> {
     }
 }
 
-/// The bytes of the stock program that a request names: its image if the request takes one, or else its text. `None` if it names a file, or
-/// no program.
+/// Checks the argument for a program, before the files of the request are taken.
+///
+/// # Errors
+/// `NoStock` if the argument begins with `@` and no stock program has the name.
+pub fn check_program(wish: &Wish<'_>) -> Result<(), ServeFault>
+    ensures { IfErr result (λ fault. (fault ≡ NoStock) × (word_in (wish_file wish.now) ≡ Unknown)) }
+{
+    let Some(word) = wish.head().file else {
+        return Ok(());
+    };
+    match read_word(word.as_bytes()) {
+        ProgramWord::Unknown => Err(ServeFault::NoStock),
+        ProgramWord::File | ProgramWord::Stock(_) => Ok(()),
+    }
+}
+
+/// Returns the bytes of the stock program that a request names: the image if the request takes an image, otherwise the text. Returns `None`
+/// if the request names a file or no program.
 ///
 /// # Errors
 /// `NoStock` if no stock program has the name, and `NoMemory`.

@@ -48,7 +48,7 @@ pub record StartsWith {A : Type 0} (db : Database) (limit : ℕ) (s : DeskState 
 abbrev pub page_led : {A : Type 0} → DeskState A → Command A → ℕ
 page_led s command = page_of s.database.splits (hash_of s.database.kind (key_of command))
 
--- true if an existing hold on that page conflicts with this mode
+-- true if a hold on a page conflicts with this mode
 abbrev pub is_barred_in : {A : Type 0} → DeskState A → ℕ → Option Hold → Bool
 is_barred_in s page None = false
 is_barred_in s page (Some mode) = list_any (bars page mode) s.holds
@@ -75,12 +75,12 @@ IsAskFault s command af.TrailFull = IsSmall s.database.size command × (s.limit 
 IsAskFault s command af.Busy = IsSmall s.database.size command × ((length s.entries + open_count s < s.limit) × (is_barred s command ≡ true))
 IsAskFault s command af.NoMemory = MayAsk s command
 
--- the place of a command's key and its page's first hold; `None` for a count
+-- The needs of a command: the place of its key, and its first hold on the page there. `None` for a count.
 abbrev pub IsWanted : {A : Type 0} → DeskState A → Command A → Option PageNeed → Type 0
 IsWanted s command None = command ≡ Count
 IsWanted s command (Some wanted) = (first_hold command ≡ Some wanted.mode) × IsPlaceOf s.database (key_of command) wanted.place
 
--- one ticket changed, and no other
+-- the open command under ticket t became `to`, and no other ticket changed
 pub record Changes {A : Type 0} (old new : List (Option (Open A))) (t : ℕ) (to : Option (Open A)) : Type 0 where
   pub here : slice_index_or new t None ≡ to
   pub others : (u : ℕ) → u ≢ t → slice_index_or new u None ≡ slice_index_or old u None
@@ -108,7 +108,7 @@ pub record Opens {A : Type 0} (s : DeskState A) (command : Command A) (j : Ticke
   pub limit_is : s'.limit ≡ s.limit
   pub count : open_count s' ≡ open_count s + 1
 
--- a reply is added to the trail, and nothing else changes
+-- a count is answered: its reply is added to the trail, and nothing else changes
 pub record Counts {A : Type 0} (s : DeskState A) (session : ℕ) (reply : Reply A) (s' : DeskState A) : Type 0 where
   pub reply_is : reply ≡ replies.Count (map.len (map_of s.database))
   pub entries : s'.entries ≡ s.entries ++ record { session = session; command = Count; reply = reply } ∷ []
@@ -124,7 +124,7 @@ abbrev pub Asks : {A : Type 0} → DeskState A → ℕ → Command A → Asked A
 Asks s session command (asked.Job j) s' = MayAsk s command × (IsAsked s session command j.asked × Opens s command j s')
 Asks s session command (asked.Answered reply) s' = MayAsk s command × ((command ≡ Count) × Counts s session reply s')
 
--- the ticket is closed and its hold released; it is the next to be opened
+-- the ticket is closed and its hold is released; the next request opens it again
 pub record Closes {A : Type 0} (s : DeskState A) (t : ℕ) (s' : DeskState A) : Type 0 where
   pub tickets : Changes s.tickets s'.tickets t None
   pub next : s'.next ≡ t
@@ -149,12 +149,12 @@ IsConvertFault s t cf.Busy = IsSome (ticket_of s t) × ((is_updating (the_ticket
 abbrev pub is_exclusive : {A : Type 0} → DeskState A → ℕ → Bool
 is_exclusive s t = exclusive_in (held_by (the_ticket t) s.holds)
 
--- a computed command of an open ticket, whose hold is exclusive if the page changes
+-- the ticket of a computed command is open with the same command, and its hold is exclusive if the page changes
 pub record MayFinish {A : Type 0} (s : DeskState A) (d : Ticketed A) : Type 0 where
   pub own : ticket_of s d.ticket ≡ Some d.asked
   pub alone : is_some (worked d.asked).change ≡ true → is_exclusive s d.ticket ≡ true
 
--- the result of the ticket is the effect of its command: it is installed, its entry is added, and the ticket is closed
+-- A computed command is committed: its change is installed, its entry is added, and its ticket is closed.
 pub record Finishes {A : Type 0} (s : DeskState A) (d : Ticketed A) (reply : Reply A) (s' : DeskState A) : Type 0 where
   pub may : MayFinish s d
   pub reply_is : reply ≡ (worked d.asked).reply
@@ -176,7 +176,7 @@ pub record Abandons {A : Type 0} (s : DeskState A) (t : ℕ) (s' : DeskState A) 
   pub entries : s'.entries ≡ s.entries
   pub closes : Closes s t s'
 
--- true if existing holds bar a change of the command's page
+-- true if a hold bars a change of the command's page
 abbrev pub is_held : {A : Type 0} → DeskState A → Command A → Bool
 is_held s command = list_any (bars (page_led s command) Exclusive) s.holds
 
@@ -190,7 +190,8 @@ pub record WouldChange {A : Type 0} (s : DeskState A) (session : ℕ) (command :
   pub leads : IsPlaceOf s.database (key_of command) place
   pub change : is_some (works_there s session command place).change ≡ true
 
--- the command is executed on the database and adds one entry; tickets and holds stay, and only a page without holds changes
+-- A command is executed on the database and adds one entry. Tickets and holds are unchanged. A page that a ticket holds is not
+-- changed.
 pub record Steps {A : Type 0} (s : DeskState A) (session : ℕ) (command : Command A) (reply : Reply A) (s' : DeskState A) : Type 0 where
   pub may : MayAsk s command
   pub alone : does_change (is_there s.database command) reply ≡ true → is_held s command ≡ false
@@ -203,9 +204,9 @@ pub record Steps {A : Type 0} (s : DeskState A) (session : ℕ) (command : Comma
   pub holds : s'.holds ≡ s.holds
   pub limit_is : s'.limit ≡ s.limit
 
--- The condition of each refusal of a step: as of a request, and Busy also if other tickets hold a page that would change.
--- Memory is needed only if neither applies. A run is an exception: its program runs, on a page that needs memory, before it is
--- known whether the page changes.
+-- The condition of each refusal of a step. It is that of a request; in addition, `Busy` applies if a ticket holds a page that
+-- would change. `NoMemory` applies only if neither does. A run is an exception: its program runs on a page that needs memory
+-- before it is known whether the page changes.
 abbrev pub IsStepFault : {A : Type 0} → DeskState A → ℕ → Command A → AskFault → Type 0
 IsStepFault s session command af.PairTooLarge = IsAskFault s command af.PairTooLarge
 IsStepFault s session command af.ArgTooLong = IsAskFault s command af.ArgTooLong
@@ -215,22 +216,22 @@ IsStepFault s session command af.NoMemory = MayAsk s command × (IsRun command �
 
 -- ---- looks
 
--- the open command's page is the current page of its key, in a database of the same page size and hash kind
+-- the page of an open command is still the current page of its key, and the database has the same page size and hash kind
 abbrev pub IsStill : {A : Type 0} → DeskState A → Open A → Type 0
 IsStill s o = IsAsked s o.session o.command o
 
--- its result may be put in: its page is unchanged, and no ticket holds the page if the command changes it
+-- the result of an open command may be put in: its page is unchanged, and if the command changes the page, no ticket holds it
 pub record MayPut {A : Type 0} (s : DeskState A) (o : Open A) : Type 0 where
   pub may : MayAsk s o.command
   pub still : IsStill s o
   pub free : (is_some (worked o).change && list_any (bars o.place.page Exclusive) s.holds) ≡ false
 
--- its result changes a page that a ticket holds
+-- the result of an open command changes a page that a ticket holds
 abbrev pub IsInTheWay : {A : Type 0} → DeskState A → Open A → Type 0
 IsInTheWay s o = (is_some (worked o).change && list_any (bars o.place.page Exclusive) s.holds) ≡ true
 
--- The condition of each refusal: as of a request; or the page has changed; or it is unchanged, and a ticket holds it or memory
--- is needed.
+-- The condition of each refusal of `put`. It is that of a request; or the page has changed; or it is unchanged, and a ticket
+-- holds it or memory runs out.
 abbrev pub IsPutFault : {A : Type 0} → DeskState A → Open A → PutFault → Type 0
 IsPutFault s o (pf.Refused af.PairTooLarge) = IsAskFault s o.command af.PairTooLarge
 IsPutFault s o (pf.Refused af.ArgTooLong) = IsAskFault s o.command af.ArgTooLong

@@ -24,11 +24,11 @@ Hands A = ℕ → Option (InHand A)
 abbrev pub no_hands : {A : Type 0} → Hands A
 no_hands t = None
 
--- all tickets keep what they have in hand
+-- nothing changes in hand
 abbrev pub Stay : {A : Type 0} → Hands A → Hands A → Type 0
 Stay h h' = (u : ℕ) → h' u ≡ h u
 
--- `x` is in hand under ticket t, and all other tickets are unchanged
+-- `x` is now in hand under ticket t, and nothing changes under other tickets
 abbrev pub Put : {A : Type 0} → Hands A → ℕ → Option (InHand A) → Hands A → Type 0
 Put h t x h' = (u : ℕ) → h' u ≡ cond (nat_eq t u) x (h u)
 
@@ -42,7 +42,7 @@ is_done None = false
 is_done (Some (hand.Job j)) = false
 is_done (Some (hand.Done d)) = true
 
--- A requested job is in hand under its ticket and replaces any earlier one there.
+-- A requested job is in hand under its ticket and replaces any earlier command there.
 abbrev pub OnAsk : {A : Type 0} → DeskState A → Hands A → ℕ → Command A → EventOutcome A → DeskState A → Hands A → Type 0
 OnAsk {A} s h session command (outcome.Asked t) s' h' = (j : Ticketed A) × ((j.ticket ≡ t.0) × (Asks s session command (asked.Job j) s' × Put h t.0 (Some (hand.Job j)) h'))
 OnAsk s h session command (outcome.Answered reply) s' h' = Asks s session command (asked.Answered reply) s' × Stay h h'
@@ -57,7 +57,7 @@ OnAsk s h session command outcome.Abandoned s' h' = ⊥
 OnAsk s h session command outcome.AbandonRefused s' h' = ⊥
 OnAsk s h session command outcome.NoHand s' h' = ⊥
 
--- A job in hand becomes a computed command, which is seen as the same value.
+-- A job in hand becomes a computed command, which is modelled as the same value.
 abbrev pub OnWork : {A : Type 0} → Hands A → ℕ → EventOutcome A → Hands A → Type 0
 OnWork {A} h t outcome.Worked h' = (j : Ticketed A) × ((h t ≡ Some (hand.Job j)) × Put h t (Some (hand.Done j)) h')
 OnWork {A} h t outcome.WorkRefused h' = (j : Ticketed A) × ((h t ≡ Some (hand.Job j)) × Stay h h')
@@ -86,7 +86,7 @@ OnConvert s t outcome.Abandoned s' = ⊥
 OnConvert s t outcome.AbandonRefused s' = ⊥
 OnConvert s t outcome.NoHand s' = ⊥
 
--- A computed command in hand is finished and removed; if it is refused, it stays.
+-- A computed command in hand is finished and removed. If `finish` refuses it, it stays in hand.
 abbrev pub OnFinish : {A : Type 0} → DeskState A → Hands A → ℕ → EventOutcome A → DeskState A → Hands A → Type 0
 OnFinish {A} s h t (outcome.Finished reply) s' h' = (d : Ticketed A) × ((h t ≡ Some (hand.Done d)) × (Finishes s d reply s' × Put h t None h'))
 OnFinish {A} s h t (outcome.FinishRefused fault) s' h' = (d : Ticketed A) × ((h t ≡ Some (hand.Done d)) × (IsFinishFault s d fault × ((s' ≡ s) × Stay h h')))
@@ -115,7 +115,7 @@ OnAbandon s t (outcome.Finished reply) s' = ⊥
 OnAbandon s t (outcome.FinishRefused fault) s' = ⊥
 OnAbandon s t outcome.NoHand s' = ⊥
 
--- the effect and the outcome of an event, in a given state with the given commands in hand
+-- the effect and the outcome of an event, in a given state and with the given commands in hand
 abbrev pub Does : {A : Type 0} → DeskState A → Hands A → Event A → EventOutcome A → DeskState A → Hands A → Type 0
 Does s h (event.Ask session command) out s' h' = OnAsk s h session command out s' h'
 Does s h (event.Work t) out s' h' = OnWork h t.0 out h' × (s' ≡ s)
@@ -123,14 +123,15 @@ Does s h (event.Convert t) out s' h' = OnConvert s t.0 out s' × Stay h h'
 Does s h (event.Finish t) out s' h' = OnFinish s h t.0 out s' h'
 Does s h (event.Abandon t) out s' h' = OnAbandon s t.0 out s' × Stay h h'
 
--- events in order, each with its outcome; the desk is sound after each
+-- events in order, each with its outcome; the desk is sound after each event
 abbrev pub Plays : {A : Type 0} → DeskState A → Hands A → List (Event A) → List (EventOutcome A) → DeskState A → Hands A → Type 0
 Plays s h [] [] s' h' = (s' ≡ s) × Stay h h'
 Plays s h [] (out ∷ outs) s' h' = ⊥
 Plays s h (e ∷ es) [] s' h' = ⊥
 Plays {A} s h (e ∷ es) (out ∷ outs) s' h' = (mid : DeskState A) × ((held : Hands A) × (Does s h e out mid held × (IsSound mid × Plays mid held es outs s' h')))
 
--- entries are added; they lead from the database before to the one after, and are a legal history between their maps
+-- Entries were added. They lead from the database before to the database after, and are a legal history between the maps of
+-- both.
 pub record GoesOn {A : Type 0} (s s' : DeskState A) : Type 0 where
   pub added : List (Entry A)
   pub entries : s'.entries ≡ s.entries ++ added

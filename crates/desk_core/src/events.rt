@@ -31,9 +31,9 @@ pub enum Event<A: Allocator> {
 pub enum EventOutcome<A: Allocator> {
     /// A ticket was opened, and its job is in hand.
     Asked(Ticket),
-    /// The command was answered immediately.
+    /// A count was answered immediately.
     Answered(Reply<A>),
-    /// The command was refused.
+    /// The request was refused.
     AskRefused(AskFault),
     /// The job in hand was computed.
     Worked,
@@ -41,17 +41,17 @@ pub enum EventOutcome<A: Allocator> {
     WorkRefused,
     /// The hold is now exclusive.
     Converted,
-    /// The hold is unchanged.
+    /// The hold was not made exclusive.
     ConvertRefused(ConvertFault),
-    /// The command was committed, and its ticket has nothing in hand.
+    /// The command was committed and is no longer in hand.
     Finished(Reply<A>),
-    /// The command was not committed, and is still in hand.
+    /// The command was not committed and is still in hand.
     FinishRefused(FinishFault),
     /// The ticket was closed.
     Abandoned,
     /// The ticket is not open.
     AbandonRefused,
-    /// The ticket has no job in hand to compute, or no computed command to finish.
+    /// No job is in hand under the ticket for `Work`, or no computed command for `Finish`.
     NoHand,
 }
 
@@ -69,8 +69,8 @@ type ByTicket<A> = HashMap<usize, InHand<A>, BuildHasherDefault<FoldHasher>, A>;
 
 impl<A: Allocator + Copy> Desk<A> {
     /// Plays a list of events in order and returns their outcomes. Initially nothing is in hand. A requested job is in hand
-    /// under its ticket and replaces any earlier one there. If an event's command is refused, its outcome says so. Tickets that
-    /// are open at the end stay open.
+    /// under its ticket and replaces any earlier command there. The outcome of a refused event says so. Tickets that are open
+    /// at the end stay open.
     ///
     /// # Errors
     /// `AllocError` if there is no memory for the outcomes and the commands in hand, which is allocated first. The desk is then
@@ -91,7 +91,7 @@ impl<A: Allocator + Copy> Desk<A> {
         Ok(outcomes)
     }
 
-    // Plays one event.
+    // Plays one event and returns its outcome.
     fn happen(&mut self, hands: &mut ByTicket<A>, event: &Event<A>) -> EventOutcome<A>
         requires { 1 ≤ spare hands.old }
         ensures does { Does self.old (get nat_eq hands.old) event.now result self.new (get nat_eq hands.new) }
@@ -112,7 +112,7 @@ impl<A: Allocator + Copy> Desk<A> {
         }
     }
 
-    // Requests a command, and takes its job in hand.
+    // Requests a command and puts its job in hand.
     fn ask_in_hand(
         &mut self,
         hands: &mut ByTicket<A>,
@@ -134,7 +134,7 @@ impl<A: Allocator + Copy> Desk<A> {
         }
     }
 
-    // Requests a command, adding an owner to it.
+    // Adds an owner to a command and requests it.
     fn ask_shared(&mut self, session: u64, command: &SharedCommand<A>) -> Result<Asked<A>, AskFault>
         ensures ok { IfOk result (λ asked. Asks self.old session command.now asked self.new) }
         ensures refused { IfErr result (λ fault. IsAskFault self.old command.now fault) }
@@ -190,7 +190,7 @@ fn work_in_hand<A: Allocator + Copy>(hands: &mut ByTicket<A>, ticket: Ticket) ->
     }
 }
 
-// Puts a command in hand under a ticket, replacing any other. There must be room for it.
+// Puts a command in hand under a ticket; it replaces any other. There must be room for it.
 fn put<A: Allocator + Copy>(hands: &mut ByTicket<A>, ticket: Ticket, what: InHand<A>)
     requires { 1 ≤ spare hands.old }
     ensures put { Put (get nat_eq hands.old) ticket.0 (Some what) (get nat_eq hands.new) }

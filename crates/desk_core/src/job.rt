@@ -1,4 +1,4 @@
-//! Open commands: requested, but not yet answered.
+//! Open commands: commands that were requested but not yet answered.
 ghost use Rattle.std.specs.Prelude.{◌≡◌, ◌↔◌, IsTrue, IfOk, IfErr, OnOk, is_some};
 ghost use Rattle.desk_core.specs.Jobs.{worked, was_there, IsJob};
 ghost use Rattle.store_moves.specs.Works.{HasEnd};
@@ -46,7 +46,7 @@ impl<A: Allocator> Open<A> {
     }
 }
 
-/// A requested command, to be computed without the desk. Seen as its ticket and the open command.
+/// A requested command, to be computed without the desk. It is modelled as its ticket and the open command.
 #[derive(Drop)]
 pub struct Job<A: Allocator> {
     pub(crate) alloc: A,
@@ -64,7 +64,7 @@ impl<A: Allocator> Model for Job<A> {
     ghost invariant = { λ a. IsJob a.asked };
 }
 
-/// A computed command, seen as its ticket and the open command, which determine its result.
+/// A computed command. It is modelled as its ticket and the open command, which determine its result.
 #[derive(Drop)]
 pub struct Done<A: Allocator> {
     pub(crate) ticket: Ticket,
@@ -92,14 +92,14 @@ impl<A: Allocator> Job<A> {
         self.ticket
     }
 
-    /// The number of its page.
+    /// The number of the command's page.
     pub fn page(&self) -> u32
         ensures { result ≡ self.now.asked.place.page }
     {
         self.asked.place.page
     }
 
-    /// Computes the result from the snapshot of the page; touches nothing else.
+    /// Computes the result from the snapshot of the page. Neither reads nor changes anything else.
     ///
     /// # Errors
     /// `AllocError` if there is no memory for the reply or for the changed pages. The job is returned.
@@ -163,8 +163,8 @@ impl<A: Allocator> Done<A> {
         &self.asked
     }
 
-    /// Returns true if the command changes its page. Exactly three commands do: a store that stores, a delete that deletes, and
-    /// a run that saves its record or deletes the pair of an existing key.
+    /// Returns true if the command changes its page. Three commands do: a store that stores, a delete that deletes, and a run
+    /// that saves its record or removes the pair of an existing key.
     pub fn changes(&self) -> bool
         ensures change { result ≡ is_some (worked self.now.asked).change }
         ensures reply { result ≡ does_change (was_there self.now.asked) (worked self.now.asked).reply }

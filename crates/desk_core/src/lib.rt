@@ -1,5 +1,5 @@
-//! The core of a store: commands by ticket on a database, and the trail of their answers, which is always a legal history of a
-//! plain map.
+//! The core of a store: it executes commands by ticket on a database and records their answers in a trail. The trail is always
+//! a legal history of a plain map.
 #![tactic(auto)]
 
 ghost use Rattle.std.specs.Prelude.{◌≡◌, ◌≢◌, ◌≤◌, ◌+◌, ◌++◌, ◌∷◌, [], true, false, Some, None, IfOk, IfErr, OnOk, OnErr, vec_len, vec_capacity};
@@ -35,8 +35,8 @@ pub use step::ReplyPair;
 use store_cmd::{Command, KeptEntry, Opening, Reply, SharedCommand, SizeFault, Trail, check_sizes};
 use store_moves::{PageCopy, key_in, put_in};
 
-/// The core of a store, seen as its database, the opening and the entries of its trail, the open command under each ticket, the
-/// next ticket to open, the holds, and the maximum number of entries and open tickets.
+/// The core of a store. It is modelled as its database, the opening and the entries of its trail, the open command under each
+/// ticket, the next ticket to open, the holds, and the maximum number of entries and open tickets.
 #[derive(Drop)]
 pub struct Desk<A: Allocator> {
     alloc: A,
@@ -64,22 +64,22 @@ impl<A: Allocator> Model for Desk<A> {
         × (vec_len a.trail.entries + slab_len a.tickets ≤ vec_capacity a.trail.entries) };
 }
 
-/// Why a command is refused. Checked in this order.
+/// The reasons why a command is refused, checked in this order.
 #[derive(Clone, Copy, Debug, PartialEq, Eq)]
 pub enum AskFault {
-    /// The key plus the value or the blank is longer than a pair may be.
+    /// Key and value, or key and blank, are together longer than a pair may be.
     PairTooLarge,
     /// The argument of a run is longer than the limit.
     ArgTooLong,
-    /// The number of entries and open tickets is at its limit.
+    /// The number of entries and open tickets together is at its limit.
     TrailFull,
-    /// Another ticket's hold on the page conflicts.
+    /// The hold of another ticket on the page conflicts.
     Busy,
     /// Out of memory.
     NoMemory,
 }
 
-/// Why a hold is not made exclusive. Checked in this order.
+/// The reasons why a hold is not made exclusive, checked in this order.
 #[derive(Clone, Copy, Debug, PartialEq, Eq)]
 pub enum ConvertFault {
     /// The ticket is not open.
@@ -90,12 +90,12 @@ pub enum ConvertFault {
     Busy,
 }
 
-/// Why a computed command is not finished. Checked in this order.
+/// The reasons why a computed command is not finished, checked in this order.
 #[derive(Clone, Copy, Debug, PartialEq, Eq)]
 pub enum FinishFault {
     /// The ticket is not open.
     NoTicket,
-    /// Session, command, place or page differ from the ticket's.
+    /// The session, command, place or page of the computed command differs from the ticket's.
     Foreign,
     /// The command changes the page, but the ticket's hold is not exclusive.
     NotExclusive,
@@ -116,7 +116,7 @@ pub enum Asked<A: Allocator> {
     Answered(Reply<A>),
 }
 
-/// The requirements of a command about a key: its place, and its first hold on the page there.
+/// The needs of a command about a key: the place of its key, and its first hold on the page there.
 #[derive(Clone, Copy)]
 pub(crate) struct PageNeed {
     pub(crate) place: Place,
@@ -152,12 +152,12 @@ impl<A: Allocator + Copy> Desk<A> {
         })
     }
 
-    /// Opens a ticket for a session's command, or answers it immediately. Tickets are reused: the ticket closed last is opened
-    /// next.
+    /// Opens a ticket for a session's command, or answers a count immediately. Tickets are reused: the ticket that was closed
+    /// last is opened next.
     ///
     /// # Errors
-    /// Each `AskFault` except `NoMemory` if and only if its condition holds; `NoMemory` only if no other condition holds. The
-    /// desk is unchanged, and the command is returned.
+    /// Each `AskFault` except `NoMemory` if and only if its condition holds; `NoMemory` only if no other condition holds. On an
+    /// error the desk is unchanged, and the command is returned.
     pub fn ask(
         &mut self,
         session: u64,
@@ -174,7 +174,7 @@ impl<A: Allocator + Copy> Desk<A> {
         }
     }
 
-    // Checks that a command may be requested, and returns its requirements. Does not check memory.
+    // Checks that a command may be requested, and returns its needs. Does not check memory.
     fn may_ask(&self, command: &SharedCommand<A>) -> Result<Option<PageNeed>, AskFault>
         ensures ok { OnOk result (MayAsk self.now command.now) }
         ensures wanted { IfOk result (IsWanted self.now command.now) }
@@ -367,7 +367,7 @@ impl<A: Allocator + Copy> Desk<A> {
     ///
     /// # Errors
     /// Each `FinishFault` except `NoMemory` if and only if its condition holds; `NoMemory` only if no other condition holds and
-    /// a page changes. The desk is unchanged, and the computed command is returned.
+    /// a page changes. On an error the desk is unchanged, and the computed command is returned.
     pub fn finish(&mut self, done: Done<A>) -> Result<Reply<A>, (FinishFault, Done<A>)>
         ensures ok { IfOk result (λ reply. Finishes self.old done reply self.new) }
         ensures refused { IfErr result (λ refused. IsFinishFault self.old done refused.0) }
@@ -444,7 +444,7 @@ impl<A: Allocator + Copy> Desk<A> {
         &self.image
     }
 
-    /// The desk's initial pairs and the commands answered since.
+    /// The desk's initial pairs and the commands that were answered since.
     pub fn trail(&self) -> &Trail<A>
         ensures opening { result.now.opening ≡ self.now.opening }
         ensures entries { result.now.entries.items ≡ self.now.entries }

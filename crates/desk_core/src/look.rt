@@ -1,5 +1,5 @@
-//! Commands computed without a ticket: looked up on the desk, computed on a snapshot of their page, and put in if that page is
-//! unchanged.
+//! Commands computed without a ticket. Such a command is looked up on the desk and computed on a snapshot of its page. Its
+//! result is put in if that page is unchanged.
 ghost use Rattle.std.specs.Prelude.{◌≡◌, ◌↔◌, IsTrue, IfOk, IfErr, OnOk, OnErr, is_some};
 ghost use Rattle.store_moves.specs.Works.{HasKey, HasEnd, key_of};
 ghost use Rattle.store_moves.specs.Leads.{IsPlaceOf};
@@ -15,8 +15,8 @@ use std::marker::Model;
 use store_cmd::SharedCommand;
 use store_moves::{PageCopy, Worked};
 
-/// A command that was looked up, to be computed without the desk. Seen as the open command that its ticket would have. It has
-/// no ticket, so it holds no page and reserves no room in the trail.
+/// A command that was looked up, to be computed without the desk. It is modelled as the open command that its ticket would
+/// have. It has no ticket, so it holds no page and reserves no room in the trail.
 #[derive(Drop)]
 pub struct Look<A: Allocator> {
     alloc: A,
@@ -34,7 +34,7 @@ impl<A: Allocator> Model for Look<A> {
     ghost invariant = { λ a. IsJob a.asked };
 }
 
-/// A computed look, seen as the look, which determines its result.
+/// A computed look, modelled as the look, which determines its result.
 #[derive(Drop)]
 pub struct Seen<A: Allocator> {
     asked: Open<A>,
@@ -52,17 +52,17 @@ impl<A: Allocator> Model for Seen<A> {
     ghost invariant = { λ a. IsSeen a.asked a.worked };
 }
 
-/// Why a computed look is not put in.
+/// The reasons why a computed look is not put in.
 #[derive(Clone, Copy, Debug, PartialEq, Eq)]
 pub enum PutFault {
-    /// The command is refused for this reason.
+    /// `ask` refuses the command, a ticket holds the page that it changes, or memory runs out.
     Refused(AskFault),
     /// The page of the command's key has changed since the look.
     Changed,
 }
 
 impl<A: Allocator> Look<A> {
-    /// Computes the result from the snapshot of the page; touches nothing else.
+    /// Computes the result from the snapshot of the page. Neither reads nor changes anything else.
     ///
     /// # Errors
     /// `AllocError` if there is no memory for the reply or for the changed pages. The look is returned.
@@ -103,7 +103,7 @@ impl<A: Allocator + Copy> Desk<A> {
     /// sessions may change the page in the meantime.
     ///
     /// # Errors
-    /// Those of `ask`; `NoMemory` only if the page's owner count is at its maximum. The command is returned.
+    /// Those of `ask`. `NoMemory` only if the owner count of the page is at its maximum. The command is returned.
     pub fn look(
         &self,
         session: u64,
@@ -153,15 +153,15 @@ impl<A: Allocator + Copy> Desk<A> {
         })
     }
 
-    /// Puts in the result of a look, like one `step` of its command, if the page of its key is unchanged. Returns the reply
-    /// twice, like `step_twice`.
+    /// Puts in the result of a look, if the page of its key is unchanged. The effect is that of one `step` of its command.
+    /// Returns the reply twice, like `step_twice`.
     ///
     /// # Errors
-    /// Checked in this order; the desk is unchanged, and the command is returned.
+    /// Checked in this order. On an error the desk is unchanged, and the command is returned.
     /// - `Refused` if and only if `ask` refuses the command for a reason other than memory.
-    /// - `Changed` if and only if the page of the key has changed, or the page size or hash kind of the database is another.
+    /// - `Changed` if and only if the page of the key has changed, or the database has another page size or hash kind.
     /// - `Refused(Busy)` if and only if the command changes a page that a ticket holds.
-    /// - `Refused(NoMemory)` if out of memory.
+    /// - `Refused(NoMemory)` if memory runs out.
     pub fn put(&mut self, seen: Seen<A>) -> Result<ReplyPair<A>, (PutFault, SharedCommand<A>)>
         ensures ok { IfOk result (λ stepped. Steps self.old seen.session seen.command stepped.reply self.new) }
         ensures reply { IfOk result (λ stepped. stepped.reply ≡ (worked seen).reply) }
@@ -188,7 +188,7 @@ impl<A: Allocator + Copy> Desk<A> {
         }
     }
 
-    // Why a look is not put in, apart from memory.
+    // Returns the fault with which a look is not put in, without checking memory.
     fn may_put(&self, seen: &Seen<A>) -> Result<(), PutFault>
         ensures ok { OnOk result (MayPut self.now seen.now) }
         ensures refused { IfErr result (IsPutFault self.now seen.now) }
@@ -201,7 +201,7 @@ impl<A: Allocator + Copy> Desk<A> {
         }
     }
 
-    // Like `may_put`, for a command that may be requested, whose key has this place.
+    // Like `may_put`, for a command that may be requested and whose key has this place.
     fn may_put_at(&self, seen: &Seen<A>, place: Place) -> Result<(), PutFault>
         requires may { MayAsk self.now seen.now.command }
         requires place { IsPlaceOf self.now.database (key_of seen.now.command) place }
@@ -218,7 +218,7 @@ impl<A: Allocator + Copy> Desk<A> {
         Ok(())
     }
 
-    // Returns true if the open command's page is the current page of its key, whose place is `place`.
+    // Returns true if the page of the open command is the current page of its key, whose place is `place`.
     fn is_still(&self, asked: &Open<A>, place: Place) -> bool
         requires { IsPlaceOf self.now.database (key_of asked.now.command) place }
         ensures { IsTrue result ↔ IsStill self.now asked.now }

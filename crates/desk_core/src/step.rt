@@ -21,7 +21,7 @@ use std::alloc::{AllocError, Allocator};
 use store_cmd::{Command, KeptEntry, Reply, SharedCommand};
 use store_moves::{Worked, is_run, put_in, ran, run_in_place, work_at};
 
-/// The reply of a step, twice.
+/// The reply of a step, in two copies.
 #[derive(Drop)]
 pub struct ReplyPair<A: Allocator> {
     pub reply: Reply<A>,
@@ -31,10 +31,9 @@ pub struct ReplyPair<A: Allocator> {
 impl<A: Allocator + Copy> Desk<A> {
     /// Answers a session's command in one call, without a ticket.
     ///
-    /// # Errors
-    /// Those of `ask`, and `Busy` also if the command would change a page that another ticket holds. `NoMemory` only if it
-    /// would not, or if the command is a run: a run allocates before it is known whether its page changes. The desk is
-    /// unchanged, and the command is returned.
+    /// # Errors Those of `ask`, and `Busy` if the command would change a page that a ticket holds. `NoMemory` only if neither
+    /// applies. A run may fail with `NoMemory` in any case, since it allocates before it is known whether its page changes. On
+    /// an error the desk is unchanged, and the command is returned.
     pub fn step(
         &mut self,
         session: u64,
@@ -51,11 +50,11 @@ impl<A: Allocator + Copy> Desk<A> {
         }
     }
 
-    /// Answers like `step`, but returns the reply twice, so that the caller can keep one. Both are made before the desk
+    /// Like `step`, but returns the reply twice, so that the caller can keep one copy. Both copies are made before the desk
     /// changes.
     ///
     /// # Errors
-    /// Those of `step`; the desk is unchanged, and the command is returned.
+    /// Those of `step`. On an error the desk is unchanged, and the command is returned.
     pub fn step_twice(
         &mut self,
         session: u64,
@@ -116,8 +115,8 @@ impl<A: Allocator + Copy> Desk<A> {
         }
     }
 
-    // Like `step_twice`, for a run on a short record of a page that is neither held nor read elsewhere. Allocates only its
-    // entry. Any other command is returned, and nothing changes.
+    // Like `step_twice`, for a run on a short record whose page is neither held nor read elsewhere. Allocates only the entry.
+    // Returns any other command, and nothing changes.
     fn step_in_place(
         &mut self,
         session: u64,
@@ -236,7 +235,8 @@ impl<A: Allocator + Copy> Desk<A> {
         Ok(ReplyPair { reply, copy })
     }
 
-    // The refusal of a command that ran out of memory.
+    // The refusal of a command for which memory ran out: `Busy` if a ticket holds the page that it would change, otherwise
+    // `NoMemory`.
     fn refusal(&self, page: u32, changes: bool) -> AskFault
         ensures { result ≡ cond (changes && list_any (bars page Exclusive) self.now.holds) AskFault.Busy AskFault.NoMemory }
     {
@@ -246,7 +246,7 @@ impl<A: Allocator + Copy> Desk<A> {
         AskFault::NoMemory
     }
 
-    // Returns true if another ticket holds a page that is to be changed.
+    // Returns true if the page is to be changed and a ticket holds it.
     pub(crate) fn is_in_the_way(&self, page: u32, changes: bool) -> bool
         ensures { result ≡ (changes && list_any (bars page Exclusive) self.now.holds) }
     {
@@ -257,7 +257,7 @@ impl<A: Allocator + Copy> Desk<A> {
     }
 }
 
-// The reply to a count, twice. Allocates nothing.
+// Both copies of the reply to a count. Allocates nothing.
 fn twice<A: Allocator>(reply: Reply<A>) -> ReplyPair<A>
     requires { (n : ℕ) × (reply ≡ replies.Count n) }
     ensures reply { result.reply ≡ reply }
@@ -272,7 +272,7 @@ fn twice<A: Allocator>(reply: Reply<A>) -> ReplyPair<A>
     }
 }
 
-// Returns true if a command allocates only when it changes its page. A run is not one: its program runs before it is known
+// Returns true if a command allocates only if it changes its page. This is false for a run: its program runs before it is known
 // whether the page changes.
 fn is_change<A: Allocator>(command: &SharedCommand<A>) -> bool
     ensures { result ≡ worked.is_change command.now }

@@ -9,7 +9,7 @@ const DIR: &str = "visits.dir";
 
 const PAG: &str = "visits.pag";
 
-/// Reads the database of both files.
+/// Reads the database from both files.
 pub fn read_image<R: Files + AllocGlobal>(rt: &R) -> Result<Image<Global>, &'static str> {
     let dir = fs::read(rt, DIR).map_err(|_| "visits.dir cannot be read")?;
     let pag = fs::read(rt, PAG).map_err(|_| "visits.pag cannot be read")?;
@@ -20,7 +20,8 @@ pub fn read_image<R: Files + AllocGlobal>(rt: &R) -> Result<Image<Global>, &'sta
     }
 }
 
-/// Writes both files whole. A service that must not lose them at a crash saves as `dbm` does, with a redo file: `sdbm_saves` has the steps.
+/// Writes both files whole. A crash may break them: a service that must survive a crash saves as `dbm` does, with a redo file,
+/// by the steps of `sdbm_saves`.
 pub fn write_image<R: Files + AllocGlobal>(
     rt: &R,
     image: &Image<Global>,

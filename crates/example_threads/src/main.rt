@@ -1,5 +1,5 @@
-//! A small service: four threads count visits in one database, which is read from its two files and written to them again. The output
-//! is read from the files that were written.
+//! A small service: four threads count visits in one database. It is read from its two files and written to them again. The
+//! service then reads the written files and prints their pairs.
 #![tactic(auto)]
 
 mod files;
@@ -14,7 +14,7 @@ use std::sync::Wait;
 use std::thread::Threads;
 use visits::{all_visits, counter};
 
-// Opens a store over the database, lets all threads make their visits, and closes it.
+// Opens a store over the database, lets all threads count their visits, and closes the store.
 fn serve<R: AllocGlobal + Threads + Wait + Sync>(
     rt: &R,
     image: Image<Global>,

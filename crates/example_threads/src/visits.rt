@@ -43,7 +43,7 @@ pub fn number(record: &[u8]) -> u64 {
     }
 }
 
-// A thread's session, its owner of the program, and why a call was refused.
+// A thread's session, its owner of the program, and the refusal of a call, if one was refused.
 #[derive(Drop)]
 struct Visitor<'a> {
     session: Session<'a, Global, NoGate>,
@@ -51,7 +51,7 @@ struct Visitor<'a> {
     refused: Option<Refusal>,
 }
 
-// Counts a visit to each place in turn. If a key is missing, its record begins as eight zeros.
+// Counts `EACH` visits, to each place in turn. If a key is missing, its record begins as eight zeros.
 fn visit<R: Wait>(rt: &R, visitor: &mut Visitor<'_>) {
     let Visitor {
         session,

@@ -1,10 +1,10 @@
--- The holds as stored by ticket, oldest first.
+-- The list of holds as a cache with tickets as keys, oldest hold first.
 use Rattle.std.specs.Prelude.{ℕ, ◌≡◌, ◌-◌, ◌^◌, List, [], map, Option, Some, None, ⊤}
 use Rattle.lru.specs.LruCache.{LruCache}
 use Rattle.hold_modes.specs.declared.modes.Hold.{Hold}
 use Rattle.hold_modes.specs.declared.modes.Held.{Held}
 
--- the hold stored as a ticket with a page and a mode
+-- the hold that an entry of the cache represents: a ticket with a page and a mode
 abbrev pub held_of : ℕ × (ℕ × Hold) → Held
 held_of e = record { page = e.1.0; mode = e.1.1; ticket = record { 0 = e.0 } }
 

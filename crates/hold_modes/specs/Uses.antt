@@ -26,13 +26,13 @@ more Read uses = record uses { read = uses.read + 1 }
 more Update uses = record uses { update = uses.update + 1 }
 more Exclusive uses = record uses { exclusive = uses.exclusive + 1 }
 
--- one hold fewer in a mode
+-- one fewer hold in a mode
 abbrev pub fewer : Hold → Uses → Uses
 fewer Read uses = record uses { read = uses.read - 1 }
 fewer Update uses = record uses { update = uses.update - 1 }
 fewer Exclusive uses = record uses { exclusive = uses.exclusive - 1 }
 
--- one more hold in a mode if the page is this one
+-- one more hold in a mode if `other` is the page; otherwise no change
 abbrev pub also : ℕ → ℕ → Hold → Uses → Uses
 also page other mode uses = if other == page then more mode uses else uses
 
@@ -41,7 +41,7 @@ abbrev pub uses_of : ℕ → List Held → Uses
 uses_of page [] = no_uses
 uses_of page (held ∷ rest) = also page held.page held.mode (uses_of page rest)
 
--- one of these holds prevents another ticket from holding the page in that mode
+-- a page with these holds cannot be held by another ticket in this mode
 abbrev pub uses_bar : Hold → Uses → Bool
 uses_bar mode uses = (not (uses.read == 0) && not (are_compatible Read mode))
     || (not (uses.update == 0) && not (are_compatible Update mode))
@@ -60,10 +60,10 @@ module _ {S : Type 0} where
   abbrev pub Keeps : HashMap ℕ Uses S → HashMap ℕ Uses S → Type 0
   Keeps old new = (page : ℕ) → get nat_eq new page ≡ get nat_eq old page
 
-  -- one page has this entry, and every other page the same as before
+  -- `page` has this entry, and every other page has the same entry as before
   abbrev pub Puts : HashMap ℕ Uses S → HashMap ℕ Uses S → ℕ → Option Uses → Type 0
   Puts old new page entry = (other : ℕ) → get nat_eq new other ≡ (if nat_eq page other then entry else get nat_eq old other)
 
-  -- for each page, the stored numbers are those of its holds in the list
+  -- the entry of each page has the numbers of its holds in the list
   abbrev pub IsIndex : HashMap ℕ Uses S → List Held → Type 0
   IsIndex pages holds = (page : ℕ) → get nat_eq pages page ≡ kept (uses_of page holds)

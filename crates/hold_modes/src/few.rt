@@ -1,4 +1,4 @@
-//! A few holds in a vector, searched one after another.
+//! A few holds in a vector, which are searched one after another.
 ghost use Rattle.std.specs.Prelude.{◌≡◌, ◌↔◌, true, IsTrue, IsErr, OnOk, OnErr};
 ghost use Rattle.std.specs.List.{list_any, position};
 ghost use Rattle.hold_modes.specs.Held.{bars, is_beside, is_of, is_shared, is_updating, held_by, without, made_exclusive, obeys_rule};
@@ -6,7 +6,7 @@ ghost use Rattle.hold_modes.specs.Held.{bars, is_beside, is_of, is_shared, is_up
 use crate::modes::{Busy, Held, Hold, Ticket, compatible};
 use std::alloc::Allocator;
 
-// Returns `true` if some hold of the page bars the mode.
+// Returns `true` if some hold on the page bars the mode.
 pub(crate) fn is_barred(few: &[Held], page: u32, mode: Hold) -> bool
     ensures { result ≡ list_any (bars page mode) few.now }
 {
@@ -14,7 +14,7 @@ pub(crate) fn is_barred(few: &[Held], page: u32, mode: Hold) -> bool
         .any(|held| held.page == page && !compatible(held.mode, mode))
 }
 
-// The page and the mode that the ticket holds.
+// Returns the page and the mode that the ticket holds, or `None` if it holds nothing.
 pub(crate) fn find(few: &[Held], ticket: Ticket) -> Option<(u32, Hold)>
     ensures { result ≡ held_by ticket few.now }
 {
@@ -22,7 +22,7 @@ pub(crate) fn find(few: &[Held], ticket: Ticket) -> Option<(u32, Hold)>
     Some((few[at].page, few[at].mode))
 }
 
-// Makes a ticket's update hold exclusive. Returns `Busy` exactly if another ticket holds the page.
+// Makes a ticket's update hold exclusive. Fails with `Busy` if and only if another ticket holds the page.
 pub(crate) fn convert(few: &mut [Held], ticket: Ticket) -> Result<(), Busy>
     requires updating { is_updating ticket few.old ≡ true }
     requires rule { obeys_rule few.old ≡ true }
@@ -51,7 +51,7 @@ pub(crate) fn release<A: Allocator>(few: &mut Vec<Held, A>, ticket: Ticket) -> O
     Some((held.page, held.mode))
 }
 
-// The index of the ticket's hold.
+// Returns the index of the ticket's hold.
 fn place(few: &[Held], ticket: Ticket) -> Option<usize>
     ensures { result ≡ position (is_of ticket) few.now }
 {

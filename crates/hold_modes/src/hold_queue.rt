@@ -14,7 +14,7 @@ use std::marker::Model;
 #[derive(Drop)]
 pub struct HoldQueue<A: Allocator> {
     alloc: A,
-    // The oldest hold is first. `None` until the first hold is taken, because even an empty cache allocates.
+    // The oldest hold is first. `None` until the first hold is added, because even an empty cache allocates.
     holds: Option<LruCache<usize, (u32, Hold), DefaultHasher, A>>,
 }
 
@@ -31,7 +31,7 @@ impl<A: Allocator> Model for HoldQueue<A> {
 }
 
 impl<A: Allocator + Copy> HoldQueue<A> {
-    // No holds. Does not allocate.
+    // Makes an empty list of holds. Does not allocate.
     pub(crate) fn new(alloc: A) -> Self
         ensures { result ≡ [] }
     {
@@ -56,7 +56,7 @@ impl<A: Allocator + Copy> HoldQueue<A> {
         }
     }
 
-    // The page and the mode that the ticket holds.
+    // Returns the page and the mode that the ticket holds, or `None` if it holds nothing.
     pub(crate) fn get(&self, ticket: Ticket) -> Option<(u32, Hold)>
         ensures { result ≡ held_by ticket self.now }
     {

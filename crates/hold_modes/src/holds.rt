@@ -12,24 +12,24 @@ use std::marker::Model;
 /// The reason why a page could not be taken.
 #[derive(Clone, Copy, Debug, PartialEq, Eq)]
 pub enum HoldFault {
-    /// Another ticket holds the page in a mode that bars this one.
+    /// Another ticket holds the page in a mode that bars the requested one.
     Busy,
     /// Allocation for one more hold fails.
     NoMemory,
 }
 
-// The greatest number of holds that are searched one after another, which is faster than an index for a few.
+// The greatest number of holds without an index. A search through so few holds is faster than an index.
 const FEW: usize = 16;
 
-/// The holds on pages. The model is the list of holds, oldest first. Each ticket has at most one hold, and any two holds of one page
-/// are compatible. Once there have been more than sixteen holds at a time, an index finds them by ticket and by page without a search
-/// through the list.
+/// The holds on pages. The model is the list of holds, oldest first. Each ticket has at most one hold, and any two holds on one page are
+/// compatible. When a seventeenth hold is added, an index is created and used from then on: it finds holds by ticket and by page without a
+/// search through the list.
 #[derive(Drop)]
 pub struct Holds<A: Allocator = Global> {
     alloc: A,
-    // All holds, as long as no index is needed.
+    // All holds until the index is created.
     few: Vec<Held, A>,
-    // All holds from then on.
+    // All holds once the index is created.
     many: Option<Indexed<A>>,
 }
 
@@ -47,7 +47,7 @@ impl<A: Allocator> Model for Holds<A> {
 }
 
 impl<A: Allocator + Copy> Holds<A> {
-    /// No holds. Does not allocate.
+    /// Makes an empty list of holds. Does not allocate.
     pub fn new(alloc: A) -> Self
         ensures { result ≡ [] }
     {
@@ -58,10 +58,10 @@ impl<A: Allocator + Copy> Holds<A> {
         }
     }
 
-    /// Holds a page for a ticket that holds nothing. On error the holds are unchanged.
+    /// Adds a hold on a page for a ticket that holds nothing. On error the holds are unchanged.
     ///
     /// # Errors
-    /// `Busy` exactly if another ticket holds the page in a mode that bars this one; otherwise `NoMemory` if allocation fails.
+    /// `Busy` if and only if another ticket holds the page in a mode that bars the requested one; otherwise `NoMemory` if allocation fails.
     pub fn take(&mut self, page: u32, mode: Hold, ticket: Ticket) -> Result<(), HoldFault>
         requires { list_any (is_of ticket) self.old ≡ false }
         ensures ok { OnOk result (self.new ≡ self.old ++ record { page = page; mode = mode; ticket = ticket } ∷ []) }
@@ -69,7 +69,7 @@ impl<A: Allocator + Copy> Holds<A> {
         ensures err { OnErr result (self.new ≡ self.old) }
         ensures rule { obeys_rule self.new ≡ true }
     {
-        // Reading a field gives the proof the invariant of the holds.
+        // This read lets the proof use the invariant of the holds.
         let _few = &self.few;
         if self.bars(page, mode) {
             return Err(HoldFault::Busy);
@@ -80,7 +80,7 @@ impl<A: Allocator + Copy> Holds<A> {
         Ok(())
     }
 
-    /// Holds a page that no hold bars, for a ticket that holds nothing. This is `take` for a caller that has already called `bars`.
+    /// Adds a hold on a page for a ticket that holds nothing. No hold on the page may bar the mode; the caller tests this with `bars`.
     ///
     /// # Errors
     /// `AllocError` if allocation for one more hold fails. The holds are then unchanged.
@@ -104,7 +104,7 @@ impl<A: Allocator + Copy> Holds<A> {
         Ok(())
     }
 
-    /// Returns `true` if some hold of the page bars the mode.
+    /// Returns `true` if some hold on the page bars the mode.
     pub fn bars(&self, page: u32, mode: Hold) -> bool
         ensures { result ≡ list_any (bars page mode) self.now }
     {
@@ -114,7 +114,7 @@ impl<A: Allocator + Copy> Holds<A> {
         }
     }
 
-    /// The page and the mode that the ticket holds.
+    /// Returns the page and the mode that the ticket holds, or `None` if it holds nothing.
     pub fn get(&self, ticket: Ticket) -> Option<(u32, Hold)>
         ensures { result ≡ held_by ticket self.now }
     {
@@ -147,7 +147,7 @@ impl<A: Allocator + Copy> Holds<A> {
     /// Makes a ticket's update hold exclusive. Does not allocate.
     ///
     /// # Errors
-    /// `Busy` exactly if another ticket has a hold on the page; it can only be a read hold. The holds are then unchanged.
+    /// `Busy` if and only if another ticket has a hold on the page, which can only be a read hold. The holds are then unchanged.
     pub fn convert(&mut self, ticket: Ticket) -> Result<(), Busy>
         requires { is_updating ticket self.old ≡ true }
         ensures ok { OnOk result (self.new ≡ made_exclusive ticket self.old) }

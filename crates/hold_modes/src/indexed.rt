@@ -9,7 +9,7 @@ use crate::pages::Pages;
 use std::alloc::{AllocError, Allocator};
 use std::marker::Model;
 
-/// The same list as `Holds`, with an index that finds holds by ticket and by page without a search through the list.
+/// The same list as in `Holds`, with an index that finds holds by ticket and by page without a search through the list.
 #[derive(Drop)]
 pub struct Indexed<A: Allocator> {
     taken: HoldQueue<A>,
@@ -30,7 +30,7 @@ impl<A: Allocator> Model for Indexed<A> {
 }
 
 impl<A: Allocator + Copy> Indexed<A> {
-    // No holds. Does not allocate.
+    // Makes an empty list of holds. Does not allocate.
     pub(crate) fn new(alloc: A) -> Self
         ensures { result ≡ [] }
     {
@@ -40,7 +40,7 @@ impl<A: Allocator + Copy> Indexed<A> {
         }
     }
 
-    // Holds a page that no hold bars, for a ticket that holds nothing.
+    // Adds a hold on a page for a ticket that holds nothing. No hold on the page may bar the mode.
     pub(crate) fn take_free(
         &mut self,
         page: u32,
@@ -60,21 +60,21 @@ impl<A: Allocator + Copy> Indexed<A> {
         Ok(())
     }
 
-    // Returns `true` if some hold of the page bars the mode.
+    // Returns `true` if some hold on the page bars the mode.
     pub(crate) fn bars(&self, page: u32, mode: Hold) -> bool
         ensures { result ≡ list_any (bars page mode) self.now }
     {
         self.pages.at(page).bar(mode)
     }
 
-    // The page and the mode that the ticket holds.
+    // Returns the page and the mode that the ticket holds, or `None` if it holds nothing.
     pub(crate) fn get(&self, ticket: Ticket) -> Option<(u32, Hold)>
         ensures { result ≡ held_by ticket self.now }
     {
         self.taken.get(ticket)
     }
 
-    // Makes a ticket's update hold exclusive. Returns `Busy` exactly if another ticket holds the page.
+    // Makes a ticket's update hold exclusive. Fails with `Busy` if and only if another ticket holds the page.
     pub(crate) fn convert(&mut self, ticket: Ticket) -> Result<(), Busy>
         requires { is_updating ticket self.old ≡ true }
         ensures ok { OnOk result (self.new ≡ made_exclusive ticket self.old) }
@@ -107,7 +107,7 @@ impl<A: Allocator + Copy> Indexed<A> {
     }
 }
 
-// Builds the index of a list of holds.
+// Builds an indexed list from a list of holds.
 pub(crate) fn make_index<A: Allocator + Copy>(
     alloc: A,
     few: &[Held],

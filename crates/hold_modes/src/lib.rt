@@ -1,4 +1,4 @@
-//! The holds on pages: their modes and the tickets that have them.
+//! The holds on pages. Each hold has a page, a mode, and the ticket that owns it.
 #![tactic(auto)]
 
 mod few;

@@ -1,4 +1,4 @@
-//! The three modes of a hold, and which modes are compatible.
+//! The three modes of a hold, and their compatibility.
 ghost use Rattle.std.specs.Prelude.{◌≡◌, false, true};
 ghost use Rattle.hold_modes.specs.Held.{are_compatible};
 
@@ -17,7 +17,7 @@ pub enum Hold {
 #[derive(Clone, Copy, Debug, PartialEq, Eq)]
 pub struct Ticket(pub usize);
 
-/// One hold: a page, its mode, and the ticket that holds it.
+/// One hold: a page, a mode, and the ticket that owns the hold.
 #[derive(Clone, Copy, Debug, PartialEq, Eq)]
 pub struct Held {
     pub page: u32,
@@ -25,7 +25,7 @@ pub struct Held {
     pub ticket: Ticket,
 }
 
-/// Returns `true` if two tickets may hold one page in these modes.
+/// Returns `true` if two tickets may hold one page in these modes at the same time.
 pub fn compatible(one: Hold, other: Hold) -> bool
     ensures { result ≡ are_compatible one other }
 {

@@ -8,14 +8,14 @@ use std::alloc::{AllocError, Allocator};
 use std::collections::HashMap;
 use std::hash::{BuildHasherDefault, FoldHasher};
 
-/// The held pages, each with the number of its holds in each mode, found in constant time on average.
+/// The held pages, each with the number of its holds in each mode. A page is found in constant time on average.
 #[derive(Drop)]
 pub struct Pages<A: Allocator> {
     pub uses: HashMap<u32, Uses, BuildHasherDefault<FoldHasher>, A>,
 }
 
 impl<A: Allocator + Copy> Pages<A> {
-    // No page is held. Does not allocate.
+    // Makes an empty map. Does not allocate.
     pub(crate) fn new(alloc: A) -> Self
         ensures { IsIndex result.uses [] }
     {
@@ -24,7 +24,7 @@ impl<A: Allocator + Copy> Pages<A> {
         }
     }
 
-    // The number of the page's holds in each mode.
+    // Returns the number of the page's holds in each mode.
     pub(crate) fn at(&self, page: u32) -> Uses
         ensures { result ≡ uses_at self.now.uses page }
     {
@@ -34,7 +34,7 @@ impl<A: Allocator + Copy> Pages<A> {
         }
     }
 
-    // Makes room for one more page.
+    // Makes room for one more page. On error no entry changes.
     pub(crate) fn reserve(&mut self) -> Result<(), AllocError>
         ensures same { Keeps self.old.uses self.new.uses }
         ensures room { OnOk result (0 < spare self.new.uses) }
@@ -42,7 +42,7 @@ impl<A: Allocator + Copy> Pages<A> {
         self.uses.reserve(1)
     }
 
-    // Sets the numbers of a page's holds, in the room reserved before.
+    // Sets the numbers of a page's holds. `reserve` has to make room before.
     pub(crate) fn put(&mut self, page: u32, uses: Uses)
         requires { 0 < spare self.old.uses }
         ensures { Puts self.old.uses self.new.uses page (Some uses) }
@@ -52,7 +52,7 @@ impl<A: Allocator + Copy> Pages<A> {
         };
     }
 
-    // Sets the numbers of a held page's holds, or removes the page if all of them are 0. Does not allocate.
+    // Changes the numbers of a held page's holds, or removes the page if all of them are 0. Does not allocate.
     pub(crate) fn change(&mut self, page: u32, uses: Uses)
         requires { IsSome (get nat_eq self.old.uses page) }
         ensures { Puts self.old.uses self.new.uses page (kept uses) }

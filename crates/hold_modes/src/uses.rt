@@ -27,7 +27,7 @@ impl Uses {
         self.read == 0 && self.update == 0 && self.exclusive == 0
     }
 
-    // Returns `true` if one of the holds bars this mode.
+    // Returns `true` if a page with these holds cannot be held by another ticket in this mode.
     pub(crate) fn bar(self, mode: Hold) -> bool
         ensures { result ≡ uses_bar mode self }
     {
@@ -36,7 +36,7 @@ impl Uses {
             || (self.exclusive != 0 && !compatible(Hold::Exclusive, mode))
     }
 
-    // Adds one hold in a mode.
+    // Returns the numbers with one more hold in a mode.
     pub(crate) fn with(self, mode: Hold) -> Uses
         requires { uses_in mode self + 1 < 2 ^ 64 }
         ensures { result ≡ more mode self }
@@ -50,7 +50,7 @@ impl Uses {
         uses
     }
 
-    // Removes one hold in a mode that has one.
+    // Returns the numbers with one fewer hold in a mode that has a hold.
     pub(crate) fn without(self, mode: Hold) -> Uses
         requires { 0 < uses_in mode self }
         ensures { result ≡ fewer mode self }

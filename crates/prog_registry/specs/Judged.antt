@@ -37,12 +37,12 @@ pub record IsJudged (image : List ℕ) (fault : VerifyFault) : Type 0 where
   pub refused : IsRefused code fault
   pub told : fault ≢ verify.NoMemory
 
--- The number of bytes is possible for a code.
+-- The number of bytes is that of a possible code.
 pub record IsSized (image : List ℕ) : Type 0 where
   pub whole : IsWhole image
   pub short : IsShort image
 
--- The image gives no accepted program, for this reason. Memory may run out after the tests of the length.
+-- The reason why an image gives no accepted program. Memory runs out only after the tests of the length.
 abbrev pub Condemns : List ℕ → RegFault → Type 0
 Condemns image NoMemory = IsSized image
 Condemns image (Decode fault) = IsUndecoded image fault

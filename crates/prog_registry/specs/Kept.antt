@@ -26,7 +26,7 @@ module _ {Z : Type 0} where
     pub found : (image : List ℕ) (id : ℕ) → number_of numbers image ≡ Some id → StandsAt programs image id
     pub listed : (image : List ℕ) (id : ℕ) → StandsAt programs image id → number_of numbers image ≡ Some id
 
-  -- verdicts with the bytes of their keys
+  -- the verdicts, each with the plain bytes of its image
   abbrev pub plain : List (Vec ℕ Z × VerifyFault) → List Verdict
   plain entries = map (λ e. (e.0.items, e.1)) entries
 

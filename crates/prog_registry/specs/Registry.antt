@@ -15,7 +15,7 @@ pub record Registered : Type 0 where
 
 -- ---- submissions that get a number
 
--- The program of a new image goes last, and its number is the previous number of programs.
+-- The program of a new image is appended, and gets the previous number of programs as its number.
 pub record AddsProgram (old : Registered) (image : List ℕ) (id : ℕ) (new : Registered) : Type 0 where
   pub is_new : IsNew old.programs image
   pub unjudged : verdict_on old.recent.verdicts image ≡ None
@@ -26,13 +26,13 @@ pub record AddsProgram (old : Registered) (image : List ℕ) (id : ℕ) (new : R
   pub programs : new.programs ≡ old.programs ++ program ∷ []
   pub recent : new.recent ≡ old.recent
 
--- The number is that of a known image and nothing changes, or the image is new.
+-- The number is that of a known image, and nothing changes; or the image is new and gets the number.
 abbrev pub GivesNumber : Registered → List ℕ → ℕ → Registered → Type 0
 GivesNumber old image id new = (StandsAt old.programs image id × (new ≡ old)) ⊎ AddsProgram old image id new
 
 -- ---- submissions that are refused
 
--- The verdict was stored, and only the verdicts change.
+-- A stored verdict is the answer, and only the verdicts change.
 pub record RecallsIn (old : Registered) (image : List ℕ) (fault : VerifyFault) (new : Registered) : Type 0 where
   pub programs : new.programs ≡ old.programs
   pub recent : Recalls old.recent image fault new.recent
@@ -53,7 +53,7 @@ pub record IsAccepted (image : List ℕ) : Type 0 where
   pub program : Accepted
   pub is : IsProgramOf image program
 
--- The image gets no number, for this reason; the registry's state after that.
+-- The image gets no number, for this reason, and `new` is the registry after that.
 abbrev pub RefusesImage : Registered → List ℕ → RegFault → Registered → Type 0
 RefusesImage old image NoMemory new = IsUnheard old image × (IsSized image × (new ≡ old))
 RefusesImage old image (Decode fault) new = IsUnheard old image × (IsUndecoded image fault × (new ≡ old))

@@ -19,15 +19,15 @@ pub record Recent : Type 0 where
 abbrev pub verdict_on : List Verdict → List ℕ → Option VerifyFault
 verdict_on verdicts image = lookup (bytes_eq image) verdicts
 
--- Each is the verifier's verdict on that image.
+-- Each verdict is that of the verifier on its image.
 abbrev pub AreVerdicts : List Verdict → Type 0
 AreVerdicts verdicts = (v : Verdict) → Contains verdicts v → IsJudged v.0 v.1
 
--- a new verdict goes first; the last of 64 is removed
+-- the table after a new verdict, which goes first; the last of 64 verdicts is removed
 abbrev pub with_verdict : Recent → List ℕ → VerifyFault → Recent
 with_verdict old image fault = record { verdicts = (image, fault) ∷ take 63 old.verdicts; recalls = old.recalls }
 
--- The verdict was stored. It goes first, and the answer is counted, up to the greatest number of 64 bits.
+-- The verdict was stored. It moves to the front, and the answer is counted, up to the greatest number of 64 bits.
 pub record Recalls (old : Recent) (image : List ℕ) (fault : VerifyFault) (new : Recent) : Type 0 where
   pub was : verdict_on old.verdicts image ≡ Some fault
   pub first : new.verdicts ≡ promoted (bytes_eq image) old.verdicts

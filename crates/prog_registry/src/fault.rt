@@ -1,11 +1,11 @@
-//! The reasons for which an image gets no number.
+//! The reasons why an image gets no number.
 
 use bpf_insn::DecodeFault;
 use bpf_verify::VerifyFault;
 use std::error::Error;
 use std::fmt;
 
-/// The reason for which an image gets no number. It prints as its name, with the details in brackets.
+/// The reason why an image gets no number. It prints as its name, with the details in brackets.
 #[derive(Clone, Copy, Debug, PartialEq, Eq)]
 pub enum RegFault {
     /// Memory ran out, at any step.
@@ -14,7 +14,7 @@ pub enum RegFault {
     Decode(DecodeFault),
     /// The program is not accepted.
     Verify(VerifyFault),
-    /// The program is accepted and new, but the registry already has 4,096.
+    /// The program is accepted and new, but the registry already has 4,096 programs.
     Full,
 }
 

@@ -16,10 +16,10 @@ use std::sync::Arc;
 /// The maximum number of programs of a registry.
 pub const PROGRAM_LIMIT: usize = 4096;
 
-/// The numbers of images.
+/// Maps images to their numbers.
 type Numbers<A> = HashMap<Vec<u8, A>, u32, BuildHasherDefault<FoldHasher>, A>;
 
-/// Accepted programs with distinct images, in the order of their arrival. A program's number is its place.
+/// Accepted programs with distinct images, in the order of their arrival. A program's number is its index.
 #[derive(Drop)]
 pub struct Programs<A: Allocator> {
     list: Vec<Arc<Verified<A>, A>, A>,
@@ -59,7 +59,7 @@ impl<A: Allocator> Programs<A> {
         *self.list.allocator()
     }
 
-    /// The number of a known image, in constant time on average. `None` if the image is new.
+    /// Returns the number of a known image, or `None` if the image is new. Takes constant time on average.
     pub fn find(&self, image: &[u8]) -> Option<u32>
         ensures some { IfSome result (StandsAt self.now image.now) }
         ensures none { IfNone result (IsNew self.now image.now) }
@@ -84,7 +84,7 @@ impl<A: Allocator> Programs<A> {
         self.list.len() == PROGRAM_LIMIT
     }
 
-    /// Adds the program of a new image as the last one. All allocations come first, so nothing changes if one fails.
+    /// Appends the program of a new image. All allocations come first, so nothing changes if one fails.
     pub fn add(&mut self, image: &[u8], program: Verified<A>) -> Result<u32, AllocError>
     where
         A: Copy,

@@ -28,8 +28,8 @@ use std::sync::Arc;
 #[derive(Clone, Copy, Debug, PartialEq, Eq)]
 pub struct ProgId(pub u32);
 
-/// Accepted programs by number, and the most recent verdicts on refused images. Clauses see both as lists, and the
-/// number of answers from stored verdicts.
+/// Accepted programs by number, and the most recent verdicts on refused images. In clauses it is the list of programs, the list
+/// of verdicts, and the number of answers from stored verdicts.
 #[derive(Drop)]
 pub struct Registry<A: Allocator = Global> {
     programs: Programs<A>,
@@ -61,7 +61,7 @@ impl<A: Allocator + Copy> Registry<A> {
 }
 
 impl<A: Allocator> Registry<A> {
-    /// The program with a number; it never changes. `None` if the number was not given. Allocates no memory.
+    /// Returns the program with a number, or `None` if no program has it. The program of a number never changes. Allocates no memory.
     pub fn get(&self, id: ProgId) -> Option<&Arc<Verified<A>, A>>
         ensures value { option_map (λ p. arc_value p.now) result ≡ slice_get self.now.programs id.0 }
         ensures programs { ArePrograms self.now.programs }
@@ -78,7 +78,7 @@ impl<A: Allocator> Registry<A> {
         self.verdicts.len()
     }
 
-    /// The number of answers from stored verdicts. It stays at the greatest number. Allocates no memory.
+    /// The number of answers from stored verdicts, which stops at `u64::MAX`. Allocates no memory.
     pub fn recalls(&self) -> u64
         ensures { result ≡ self.now.recent.recalls }
     {
@@ -87,8 +87,8 @@ impl<A: Allocator> Registry<A> {
 }
 
 impl<A: Allocator + Copy> Registry<A> {
-    // Decodes and verifies an image that has neither a number nor a stored verdict. If the verifier refuses it, the
-    // verdict is stored if there is memory for it.
+    // Decodes and verifies an image that has neither a number nor a stored verdict. Stores a verdict of the verifier if there
+    // is memory for it.
     fn judge_new(&mut self, image: &[u8]) -> Result<Verified<A>, RegFault>
         requires { IsUnheard self.old image.now }
         ensures same { OnOk result (self.new ≡ self.old) }
@@ -141,18 +141,17 @@ impl<A: Allocator + Copy> Registry<A> {
 
     /// Returns the number of an image's program, and adds the program if it is new.
     ///
-    /// A known image gets its number again, in constant time on average, and nothing changes. A new image is decoded
-    /// and verified, unless a verdict on it is stored, and gets the next number, from 0.
+    /// A known image gets its number again, in constant time on average, and nothing changes. A new image without a stored
+    /// verdict is decoded and verified; if it is accepted, it gets the next number, from 0.
     ///
     /// # Errors
     /// - `Decode` if the image is not a program.
-    /// - `Verify` if the program is not accepted. The programs are unchanged. The verdict is stored as the most
-    ///   recently used one. If it was stored before, it is the answer, and is counted.
-    /// - `Full` if the program is accepted and new, and there are 4,096 already.
-    /// - `NoMemory` if memory ran out. It is never stored.
+    /// - `Verify` if the program is not accepted. The programs are unchanged. The verdict is stored as the most recently used
+    ///   one. A verdict that was already stored is returned at once, and this answer is counted.
+    /// - `Full` if the program is accepted and new, and there are already 4,096 programs.
+    /// - `NoMemory` if memory ran out. This is never stored as a verdict.
     ///
-    /// After a fault other than `Verify` nothing has changed. If there is no memory to store a verdict, it is
-    /// returned and not stored.
+    /// A fault other than `Verify` changes nothing. If there is no memory to store a verdict, it is only returned.
     pub fn submit(&mut self, image: &[u8]) -> Result<ProgId, RegFault>
         // The result.
         ensures ok { IfOk result (λ id. GivesNumber self.old image.now id.0 self.new) }

@@ -13,7 +13,7 @@ use std::num::NonZeroUsize;
 /// The maximum number of stored verdicts.
 pub const VERDICT_LIMIT: usize = 64;
 
-/// The verifier's faults by image, most recently used first, and the number of answers from here.
+/// The verifier's faults by image, most recently used first, and the number of answers that this table has given.
 #[derive(Drop)]
 pub struct Verdicts<A: Allocator> {
     cache: LruCache<Vec<u8, A>, VerifyFault, DefaultHasher, A>,
@@ -55,14 +55,14 @@ impl<A: Allocator> Verdicts<A> {
         self.cache.len()
     }
 
-    /// The number of answers from here. It stays at the greatest number.
+    /// The number of answers that this table has given. It stops at `u64::MAX`.
     pub fn recalls(&self) -> u64
         ensures { result ≡ self.now.recalls }
     {
         self.recalls
     }
 
-    /// The stored verdict on an image, if there is one. It becomes the most recently used one, and is counted.
+    /// Returns the stored verdict on an image, if there is one. The verdict becomes the most recently used one, and is counted.
     pub fn recall(&mut self, image: &[u8]) -> Option<VerifyFault>
         ensures some { IfSome result (λ fault. Recalls self.old image.now fault self.new) }
         ensures judged { IfSome result (IsJudged image.now) }
@@ -75,7 +75,7 @@ impl<A: Allocator> Verdicts<A> {
         Some(fault)
     }
 
-    /// Stores the verdict on an image without one. If there are 64, it replaces the least recently used one.
+    /// Stores the verdict on an image that has none. If 64 verdicts are stored, it replaces the least recently used one.
     ///
     /// # Errors
     /// `AllocError` if allocation fails; nothing has changed then.

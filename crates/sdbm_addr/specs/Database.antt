@@ -1,4 +1,4 @@
--- A database: how keys hash, the page size, which prefixes are split, and the pairs of each page; and the map that it represents.
+-- A database (its key hashing, page size, split prefixes, and the pairs of each page), and the map that it represents.
 use Rattle.std.specs.Prelude.{◌≡◌, ◌≢◌, ℕ, Bool, true, false, List, [], ◌∷◌, Some, None, unwrap_or, refl}
 use Rattle.std.specs.List.{flat_map}
 use Rattle.std.specs.Ordering.{nat_cmp}
@@ -25,13 +25,13 @@ pub record Database : Type 0 where
 abbrev pub pairs_at : Database → ℕ → List Pair
 pairs_at db n = unwrap_or (map.get db.pages n) []
 
--- the listed pages have pairs, and all keys on a page lead to it
+-- A valid database: its directory is valid, each listed page is valid and has pairs, and each key is on the page that its hash leads to.
 pub record IsDatabase (db : Database) : Type 0 where
   pub directory : IsDirectory db.splits
   pub pages : (n : ℕ) (pairs : List Pair) → map.get db.pages n ≡ Some pairs → (pairs ≢ []) × IsPage db.size pairs
   pub placed : (n : ℕ) (key : List ℕ) → value_of (pairs_at db n) key ≢ None → page_of db.splits (hash_of db.kind key) ≡ n
 
--- all its pairs, page by page
+-- all pairs of a database, page by page
 abbrev pub pairs_of : Database → List Pair
 pairs_of db = flat_map (λ (e : ℕ × List Pair). e.1) (map.entries db.pages)
 
@@ -41,7 +41,7 @@ map_of db = map.from_entries (pairs_of db)
 unfoldable pub empty_database : KeyBytes → PageSize → Database
 empty_database kind size = record { kind = kind; size = size; splits = set.empty; pages = map.empty }
 
--- the pages after page n gets these pairs; an empty list removes it
+-- the result of replacing the pairs of page n; an empty list removes page n
 abbrev pub put_page : FinMap nat_cmp (List Pair) → ℕ → List Pair → FinMap nat_cmp (List Pair)
 put_page pages n [] = map.remove pages n
 put_page pages n (e ∷ es) = map.insert pages n (e ∷ es)
@@ -49,7 +49,7 @@ put_page pages n (e ∷ es) = map.insert pages n (e ∷ es)
 abbrev pub with_page : Database → ℕ → List Pair → Database
 with_page db n pairs = record { kind = db.kind; size = db.size; splits = db.splits; pages = put_page db.pages n pairs }
 
--- encodings, so that a database can be the value of a model
+-- Encodings, which a database needs to be the value of a model.
 
 abbrev pub is_signed : KeyBytes → Bool
 is_signed Signed = true

@@ -43,12 +43,12 @@ abbrev pub hash_prefix : ℕ → ℕ → Word
 hash_prefix zero hash = []
 hash_prefix (suc n) hash = hash_bit n hash ∷ hash_prefix n hash
 
--- h is the length of the shortest prefix that is not split
+-- h is the length of the hash's shortest prefix that is not split
 pub record IsDepth (d : Splits) (hash h : ℕ) : Type 0 where
   pub leaf : set.contains d (hash_prefix h hash) ≡ false
   pub above : (k : ℕ) → k < h → set.contains d (hash_prefix k hash) ≡ true
 
--- that length, searched from h on for at most n more letters
+-- the length of the hash's shortest unsplit prefix with h to h + n - 1 letters, or h + n if all these prefixes are split
 abbrev pub depth_from : Splits → ℕ → ℕ → ℕ → ℕ
 depth_from d hash zero h = h
 depth_from d hash (suc n) h = cond (set.contains d (hash_prefix h hash)) (depth_from d hash n (h + 1)) h

@@ -1,4 +1,4 @@
--- The two files of a database (Yigit, sdbm 1990: the `.dir` and the `.pag` file): which bytes are valid, and which are written.
+-- The two files of a database (Yigit, sdbm 1990: the `.dir` and the `.pag` file): the valid bytes, and the bytes that are written.
 use Rattle.std.specs.Prelude.{◌≡◌, ◌≢◌, ℕ, zero, suc, ◌+◌, ◌*◌, ◌-◌, ◌<◌, ◌≤◌, List, [], ◌++◌, length, slice_range}
 use Rattle.sdbm_addr.specs.declared.PageSize.{PageSize}
 use Rattle.sdbm_addr.specs.Pairs.{page_bytes}
@@ -10,8 +10,8 @@ use Rattle.sdbm_addr.specs.Database.{Database, IsDatabase, pairs_at}
 abbrev pub page_at : PageSize → List ℕ → ℕ → List ℕ
 page_at size bytes n = slice_range bytes (n * page_bytes size) ((n + 1) * page_bytes size)
 
--- The bytes spell `count` whole pages of a database, and the pages after them have no pairs. Pages without pairs are allowed anywhere,
--- also at the end.
+-- The bytes spell the first `count` pages of a database, and no later page has pairs. Pages without pairs are allowed anywhere, even at the
+-- end.
 pub record SpellsPages (db : Database) (bytes : List ℕ) (count : ℕ) : Type 0 where
   pub long : length bytes ≡ count * page_bytes db.size
   pub pages : (n : ℕ) → n < count → Spells db.size (page_at db.size bytes n) (pairs_at db n)
@@ -24,7 +24,7 @@ pub record SpellsDatabase (db : Database) (dir pag : List ℕ) : Type 0 where
   pub count : ℕ
   pub pages : SpellsPages db pag count
 
--- the written pages are the first n: no later page has pairs, and page n - 1 has pairs (own)
+-- n is the number of pages that are written: page n - 1, if there is one, has pairs, and no later page has pairs (our own rule).
 pub record IsPageCount (db : Database) (n : ℕ) : Type 0 where
   pub past : (k : ℕ) → n ≤ k → pairs_at db k ≡ []
   pub last : 0 < n → pairs_at db (n - 1) ≢ []

@@ -51,7 +51,7 @@ abbrev pub offset_limit : PageSize → ℕ
 offset_limit Small = 510
 offset_limit Wide = 4094
 
--- the pairs and the count of offsets fit on a page (pair.c, `fitpair`; index and data may touch)
+-- the pairs and the number of offsets fit on a page (pair.c, `fitpair`); no free byte has to be left
 abbrev pub Fits : PageSize → List Pair → Type 0
 Fits size pairs = sum_by footprint pairs + 2 ≤ page_bytes size
 
@@ -60,7 +60,7 @@ abbrev pub AreSmall : PageSize → List Pair → Type 0
 AreSmall size [] = Unit {0}
 AreSmall size (e ∷ es) = (length e.0 + length e.1 ≤ pair_limit size) × AreSmall size es
 
--- pairs that fit on a page; their keys may be equal
+-- pairs that fit on a page, each within the length limit; their keys may be equal
 pub record IsLaid (size : PageSize) (pairs : List Pair) : Type 0 where
   pub fits : Fits size pairs
   pub small : AreSmall size pairs
@@ -83,7 +83,7 @@ with_pair content key value = record { size = content.size; pairs = content.pair
 abbrev pub without : List ℕ → List Pair → List Pair
 without key = filter (λ e. not (same_key key e.0))
 
--- the pairs without the one of this key, followed by the new pair
+-- the pairs with other keys, followed by the new pair
 abbrev pub stored : List Pair → List ℕ → List ℕ → List Pair
 stored pairs key value = without key pairs ++ (key, value) ∷ []
 
@@ -93,7 +93,7 @@ key_at pairs i = (slice_index_or pairs i ([], [])).0
 abbrev pub value_at : List Pair → ℕ → List ℕ
 value_at pairs i = (slice_index_or pairs i ([], [])).1
 
--- pair i has the key, and the value that a look-up finds
+-- pair i has the key, and also the value that a lookup of the key returns
 pub record IsPlace (pairs : List Pair) (key : List ℕ) (i : ℕ) : Type 0 where
   pub in_range : i < length pairs
   pub has_key : key_at pairs i ≡ key

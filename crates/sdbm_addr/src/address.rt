@@ -4,14 +4,14 @@ ghost use Rattle.sdbm_addr.specs.Hash.{hash_of, byte_weight};
 
 use crate::KeyBytes;
 
-// The powers of 65599 modulo 2^32, from the second to the fourth.
+// 65599^2, 65599^3 and 65599^4, modulo 2^32.
 const SECOND: u32 = 8261505;
 
 const THIRD: u32 = 780587199;
 
 const FOURTH: u32 = 1139564289;
 
-/// The hash of a key: each byte times 65599 to the number of bytes after it, summed modulo 2^32.
+/// Returns the hash of a key: the sum, modulo 2^32, of the weights of its bytes, each multiplied by 65599^n if n bytes follow.
 pub fn hash(key: &[u8], kind: KeyBytes) -> u32
     ensures { result ≡ hash_of kind key.now }
 {
@@ -23,7 +23,7 @@ pub fn hash(key: &[u8], kind: KeyBytes) -> u32
     sum
 }
 
-// The hash of bytes whose number is a multiple of four.
+// Returns the hash of bytes whose length is a multiple of four.
 fn fours(kind: KeyBytes, bytes: &[u8]) -> u32
     requires { length bytes.now % 4 ≡ 0 }
     ensures { result ≡ hash_of kind bytes.now }
@@ -36,7 +36,7 @@ fn fours(kind: KeyBytes, bytes: &[u8]) -> u32
     sum
 }
 
-// The hash of four bytes.
+// Returns the hash of four bytes.
 fn four(kind: KeyBytes, bytes: &[u8]) -> u32
     requires { length bytes.now ≡ 4 }
     ensures { result ≡ hash_of kind bytes.now }
@@ -50,7 +50,7 @@ fn four(kind: KeyBytes, bytes: &[u8]) -> u32
         .wrapping_add(weight(kind, bytes[3]))
 }
 
-/// A mask of the `depth` lowest bits. The depth is at most 31.
+/// Returns a mask of the `depth` lowest bits. The depth is at most 31.
 pub fn mask(depth: u8) -> u32
     requires { depth ≤ 31 }
     ensures { result ≡ 2 ^ depth - 1 }
@@ -58,8 +58,8 @@ pub fn mask(depth: u8) -> u32
     (1u32 << depth) - 1
 }
 
-/// The directory bit of a prefix extended by one letter; `side` is the next bit of the hash. The prefix's own bit is below 2^31 - 1,
-/// as for every word of at most 30 letters.
+/// Returns the number of the directory bit of a prefix that is extended by one letter. `bit` is the bit of the shorter prefix, which is
+/// below 2^31 - 1 for at most 30 letters; `side` is the next bit of the hash.
 pub fn child(bit: u32, side: bool) -> u32
     requires { bit < 2 ^ 31 - 1 }
     ensures { result ≡ 2 * bit + cond side 2 1 }
@@ -67,7 +67,7 @@ pub fn child(bit: u32, side: bool) -> u32
     2 * bit + if side { 2 } else { 1 }
 }
 
-// The weight of a byte in the hash, modulo 2^32.
+// Returns the weight of a byte in the hash, modulo 2^32.
 fn weight(kind: KeyBytes, byte: u8) -> u32
     ensures { result ≡ byte_weight kind byte }
 {

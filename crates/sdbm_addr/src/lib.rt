@@ -1,5 +1,5 @@
-//! Vocabulary shared by the whole store: how keys hash, page sizes, insert and replace, and byte strings. `specs/` defines pages,
-//! directories and databases.
+//! Types that the whole store shares: kinds of key bytes, page sizes, store modes, and byte strings. `specs/` defines pages, directories
+//! and databases.
 #![tactic(auto)]
 
 ghost use Rattle.std.specs.Prelude.{◌≡◌, IfOk};
@@ -13,16 +13,16 @@ pub use address::{child, hash, mask};
 use std::alloc::{AllocError, Allocator};
 use std::marker::Model;
 
-/// How the bytes of a key count in its hash. The original adds a plain `char`, which is signed on most machines.
+/// The way in which the bytes of a key count in its hash. The original adds a plain `char`, which is signed on most machines.
 #[derive(Clone, Copy, Debug, PartialEq, Eq)]
 pub enum KeyBytes {
-    /// A byte from 128 on counts as itself less 256.
+    /// A byte b of 128 or more counts as b - 256.
     Signed,
     /// A byte counts as itself.
     Unsigned,
 }
 
-/// What a store does if its key already exists.
+/// The behavior of a store command if the key exists.
 #[derive(Clone, Copy, Debug, PartialEq, Eq)]
 pub enum Mode {
     /// Refuses the new value.
@@ -103,14 +103,14 @@ impl<A: Allocator> Bytes<A> {
         })
     }
 
-    /// The bytes.
+    /// Borrows the bytes.
     pub fn as_slice(&self) -> &[u8]
         ensures { result.now ≡ self.now }
     {
         self.bytes.as_slice()
     }
 
-    /// The bytes, for overwriting. The length does not change.
+    /// Borrows the bytes for overwriting. Their number does not change.
     pub fn as_mut_slice(&mut self) -> &mut [u8]
         ensures* writes_back { sem 𝓛 (LendsBytes A.row A.Allocator self.entry result) }
         ensures value { result.now ≡ self.old }

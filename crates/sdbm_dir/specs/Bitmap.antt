@@ -1,4 +1,4 @@
--- A directory stored as a list of bytes: bit n is 1 if the word numbered n is split (Yigit, sdbm 1990: the `.dir` file).
+-- A directory stored as a list of bytes: bit n is 1 if and only if word number n is split (Yigit, sdbm 1990: the `.dir` file).
 use Rattle.std.specs.Prelude.{◌≡◌, ℕ, zero, suc, ◌*◌, ◌%◌, ◌^◌, ◌≤◌, cond, List, length}
 use Rattle.std.specs.FinSet as set
 use Rattle.sdbm_addr.specs.Directory.{Splits, IsDirectory}
@@ -14,7 +14,7 @@ splits_below bytes (suc n) = cond (bit_of bytes n) (set.insert (splits_below byt
 unfoldable pub splits_of : List ℕ → Splits
 splits_of bytes = splits_below bytes (8 * length bytes)
 
--- bytes in whole blocks that are a valid directory
+-- bytes in whole blocks that represent a valid directory
 pub record IsBitmap (bytes : List ℕ) : Type 0 where
   pub directory : IsDirectory (splits_of bytes)
   pub short : length bytes ≤ 2 ^ 29

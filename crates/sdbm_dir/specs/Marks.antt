@@ -5,7 +5,7 @@ use Rattle.std.specs.FinSet as set
 use Rattle.sdbm_addr.specs.Directory.{Splits}
 use Rattle.sdbm_dir.specs.Bitmap.{splits_of}
 
--- the split prefixes, and the number of bits that there is room for
+-- the split prefixes, and the number of bits for which the directory has room
 pub record Marks : Type 0 where
   pub splits : Splits
   pub room : ℕ

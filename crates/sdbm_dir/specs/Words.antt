@@ -3,16 +3,16 @@ use Rattle.std.specs.Prelude.{◌≡◌, ℕ, zero, suc, ◌/◌, ◌%◌, ◌-�
 use Rattle.std.specs.FinSet as set
 use Rattle.sdbm_addr.specs.Directory.{Word, Splits}
 
--- the word numbered n, with a bound on its number of letters
+-- word number n, or its last `most` letters if it has more
 abbrev pub word_from : ℕ → ℕ → Word
 word_from zero n = []
 word_from (suc most) zero = []
 word_from (suc most) (suc n) = ((n % 2) == 1) ∷ word_from most (n / 2)
 
--- the word numbered n: the word whose `word_number` is n
+-- the word whose `word_number` is n
 unfoldable pub word_of : ℕ → Word
 word_of n = word_from n n
 
--- a bit whose word may be split: bit 0, or a bit whose parent's word is split
+-- the word of this bit may be split: it is empty (bit 0), or its parent is split
 abbrev pub HasParent : Splits → ℕ → Type 0
 HasParent d bit = (bit ≡ 0) ⊎ (set.contains d (word_of ((bit - 1) / 2)) ≡ true)

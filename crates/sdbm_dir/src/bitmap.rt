@@ -1,4 +1,4 @@
-//! Bit tests on the bytes of a directory, and its blocks.
+//! Tests the bits of a directory's bytes, and divides the bytes into blocks.
 
 ghost use Rattle.std.specs.Prelude.{◌≡◌, ◌<◌, ◌≤◌, ◌+◌, ◌*◌, ◌%◌, ◌^◌, ℕ, length, slice_index_or, IsTrue, ◌↔◌, IfOk};
 ghost use Rattle.sdbm_addr.specs.DirectoryFile.{bit_of, AreDirectoryBytes, HasDeepBit, HasOrphanBit, IsOrphanBit};
@@ -10,13 +10,13 @@ use std::alloc::{AllocError, Allocator};
 /// The size in bytes of a block; a directory grows by whole blocks (the original's `DBLKSIZ`).
 pub const BLOCK_BYTES: usize = 4096;
 
-// The lowest bit of a word of more than 30 letters.
+// The lowest number of a bit whose word has more than 30 letters.
 const DEEP_BIT: u32 = (1 << 31) - 1;
 
-// The number of bytes up to the one that has `DEEP_BIT` as its last bit.
+// The number of bytes up to and including the byte that has `DEEP_BIT` as its last bit.
 const MOST_BYTES: usize = 1 << 28;
 
-/// Reads a bit. Bits after the end are 0.
+/// Returns `true` if a bit is 1. Bits after the end are 0.
 pub fn is_set(bytes: &[u8], bit: u32) -> bool
     ensures { result ≡ bit_of bytes.now bit }
 {
@@ -26,7 +26,7 @@ pub fn is_set(bytes: &[u8], bit: u32) -> bool
     }
 }
 
-/// The length of the bytes without trailing zeros.
+/// Returns the length of the bytes without trailing zeros.
 pub fn end_of(bytes: &[u8]) -> usize
     ensures { IsEnd bytes.now result }
 {
@@ -40,7 +40,7 @@ pub fn end_of(bytes: &[u8]) -> usize
     0
 }
 
-/// Checks for a bit of a word of more than 30 letters. `end` is the length of the bytes without trailing zeros.
+/// Returns `true` if the bit of a word of more than 30 letters is 1. `end` is the length of the bytes without trailing zeros.
 pub fn has_deep_bit(bytes: &[u8], end: usize) -> bool
     requires { IsEnd bytes.now end }
     ensures { IsTrue result ↔ HasDeepBit bytes.now }
@@ -51,8 +51,8 @@ pub fn has_deep_bit(bytes: &[u8], end: usize) -> bool
     is_set(bytes, DEEP_BIT)
 }
 
-/// Checks for a bit that is 1 although its parent is 0. `end` is the length of the bytes without trailing zeros. Only the bits of
-/// bytes other than zero are tested.
+/// Returns `true` if a bit is 1 although its parent is 0. `end` is the length of the bytes without trailing zeros. Bytes that are zero are
+/// skipped.
 pub fn has_orphan_bit(bytes: &[u8], end: usize) -> bool
     requires end { IsEnd bytes.now end }
     requires short { end ≤ 2 ^ 28 }
@@ -66,7 +66,7 @@ pub fn has_orphan_bit(bytes: &[u8], end: usize) -> bool
     false
 }
 
-// The same check for the bits of one byte.
+// Does the check of `has_orphan_bit` for the bits of one byte.
 fn has_orphan_in(bytes: &[u8], index: u32) -> bool
     requires { index < 2 ^ 28 }
     ensures { IsTrue result ↔ ((k : ℕ) × ((k < 8) × IsOrphanBit bytes.now (8 * index + k))) }
@@ -79,7 +79,7 @@ fn has_orphan_in(bytes: &[u8], index: u32) -> bool
     false
 }
 
-// The same check for one bit.
+// Does the check of `has_orphan_bit` for one bit.
 fn is_orphan_bit(bytes: &[u8], bit: u32) -> bool
     ensures { IsTrue result ↔ IsOrphanBit bytes.now bit }
 {
@@ -100,7 +100,7 @@ pub fn whole_blocks<A: Allocator>(alloc: A, bytes: &[u8]) -> Result<Vec<u8, A>, 
     Ok(made)
 }
 
-/// The blocks of a bitmap up to the block of its last nonzero byte.
+/// Returns the blocks of a bitmap up to the block of its last nonzero byte.
 pub fn used_blocks(bytes: &[u8]) -> &[u8]
     requires { IsBitmap bytes.now }
     ensures { AreDirectoryBytes (splits_of bytes.now) result.now }

@@ -2,13 +2,13 @@
 ghost use Rattle.std.specs.Prelude.{◌≡◌, ◌≤◌, ◌*◌};
 ghost use Rattle.sdbm_addr.specs.Directory.{word_number, hash_prefix};
 
-/// The greatest starting depth is 28 letters, seven fours.
+/// The greatest starting depth in units of four letters: 28 letters.
 pub const MOST_FOURS: u8 = 7;
 
-// Digit i, in hexadecimal, is i with its four bits reversed.
+// Hexadecimal digit i, counted from the lowest, is i with its four bits reversed.
 const TURNED: u64 = 0xF7B3_D591_E6A2_C480;
 
-/// The number of bits that are 1, modulo 2^32.
+/// Returns the number of bits that are 1, modulo 2^32.
 pub fn count_of(bytes: &[u8]) -> u32 {
     let mut count = 0u32;
     for byte in bytes {
@@ -17,7 +17,7 @@ pub fn count_of(bytes: &[u8]) -> u32 {
     count
 }
 
-/// The depth near which most places are if `count` prefixes are split, in units of four letters.
+/// Returns a depth, in units of four letters, that is near the depth of most places if `count` prefixes are split.
 pub fn fours_of(count: u32) -> u8 {
     for fours in 0..MOST_FOURS {
         if count >> (4 * fours + 2) == 0 {
@@ -27,7 +27,7 @@ pub fn fours_of(count: u32) -> u8 {
     MOST_FOURS
 }
 
-/// The directory bit of a hash's prefix of `4 * fours` letters.
+/// Returns the number of the directory bit of a hash's prefix of `4 * fours` letters.
 pub fn bit_of_fours(hash: u32, fours: u8) -> u32
     requires { fours ≤ 7 }
     ensures { result ≡ word_number (hash_prefix (4 * fours) hash) }

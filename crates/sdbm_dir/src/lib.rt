@@ -1,4 +1,4 @@
-//! The directory: the split prefixes of hashes, one bit for each, and the place that a hash leads to (Yigit, sdbm 1990: sdbm.c,
+//! The directory: it stores one bit for each split prefix of hashes, and finds the place that a hash leads to (Yigit, sdbm 1990: sdbm.c,
 //! `getpage`).
 #![tactic(auto)]
 
@@ -24,16 +24,16 @@ use std::marker::Model;
 /// The reason why bytes cannot be read as a directory.
 #[derive(Clone, Copy, Debug, PartialEq, Eq)]
 pub enum DirFault {
-    /// A bit is 1 that belongs to no prefix of at most 30 letters: its number is at least 2^31 - 1.
+    /// A bit with a number of at least 2^31 - 1 is 1. No prefix of at most 30 letters has such a bit.
     TooDeep,
-    /// A bit b above 0 is 1 and the bit of its parent, (b - 1) / 2, is 0: a prefix is split, but the prefix that is one letter
-    /// shorter is not.
+    /// A bit b above 0 is 1, and the bit of its parent, (b - 1) / 2, is 0: a prefix is split, but not the prefix that is one letter
+    /// shorter.
     DirOrphan,
     /// The bytes spell a directory, but allocation fails.
     NoMemory,
 }
 
-/// The place of a hash.
+/// The place of a hash: its page, and the position of that page in the directory.
 #[derive(Clone, Copy, Debug, PartialEq, Eq)]
 pub struct Place {
     /// The number of the page.
@@ -44,13 +44,13 @@ pub struct Place {
     pub bit: u32,
 }
 
-/// The split prefixes. The model is their set and the number of bits that there is room for. Bits beyond the room are 0.
+/// A directory. The model is the set of split prefixes and the number of bits for which there is room. Bits beyond the room are 0.
 #[derive(Drop)]
 pub struct Dir<A: Allocator> {
     bits: Vec<u8, A>,
     // Approximate number of bits that are 1.
     count: u32,
-    // The starting depth of a search, in units of four letters, near the depth of most places. It does not affect the result.
+    // The depth at which a search starts, in units of four letters; most places have about this depth. It does not affect the result.
     fours: u8,
 }
 
@@ -80,13 +80,13 @@ impl<A: Allocator> Dir<A> {
         }
     }
 
-    /// Reads the bytes of a `.dir` file: bit b modulo 8, lowest first, of byte b / 8 is 1 if the prefix with number b is split
-    /// (Yigit, sdbm 1990: sdbm.c, `getdbit`). The bytes may have any values and any length; trailing zeros are ignored. Allocates
-    /// the blocks up to the highest bit that is 1.
+    /// Reads the bytes of a `.dir` file. The prefix with number b is split if bit b modulo 8 of byte b / 8 is 1, where bit 0 is the lowest
+    /// (Yigit, sdbm 1990: sdbm.c, `getdbit`). The bytes may have any values and any length; trailing zeros are ignored. Allocates the
+    /// blocks up to the block of the highest bit that is 1.
     ///
     /// # Errors
-    /// `TooDeep` if a bit is 1 whose number is too high; otherwise `DirOrphan` if a bit is 1 whose parent is 0; otherwise
-    /// `NoMemory` if allocation fails.
+    /// `TooDeep` if a bit that is 1 has too high a number; otherwise `DirOrphan` if a bit is 1 and its parent is 0; otherwise `NoMemory` if
+    /// allocation fails.
     pub fn from_bytes(alloc: A, bytes: &[u8]) -> Result<Self, DirFault>
         ensures ok { IfOk result (λ dir. SpellsDirectory bytes.now dir.splits) }
         ensures only { IfOk result (λ dir. (splits : Splits) → SpellsDirectory bytes.now splits → splits ≡ dir.splits) }
@@ -112,8 +112,8 @@ impl<A: Allocator> Dir<A> {
         }
     }
 
-    /// The bytes of the directory's `.dir` file: whole blocks of 4,096 bytes up to the block of the highest bit that is 1; empty if
-    /// every bit is 0. Does not allocate. Takes time in proportion to the room after that bit.
+    /// Borrows the bytes of the directory's `.dir` file: whole blocks of 4,096 bytes, up to the block of the highest bit that is 1. If
+    /// every bit is 0, there are no bytes. Does not allocate. The time is proportional to the room after the highest bit that is 1.
     pub fn bytes(&self) -> &[u8]
         ensures { AreDirectoryBytes self.now.splits result.now }
     {
@@ -128,8 +128,8 @@ impl<A: Allocator> Dir<A> {
         is_set(self.bits.as_slice(), bit)
     }
 
-    /// Makes room for a bit, in whole blocks. This is the only method that allocates, and it does not allocate if there is room. On
-    /// error the directory is unchanged.
+    /// Makes room for a bit, in whole blocks. Does not allocate if there is room already; the other methods never allocate. On error the
+    /// directory is unchanged.
     pub fn grow_for(&mut self, bit: u32) -> Result<(), AllocError>
         ensures splits { self.new.splits ≡ self.old.splits }
         ensures room { OnOk result (bit < self.new.room) }
@@ -160,8 +160,8 @@ impl<A: Allocator> Dir<A> {
         self.fours = fours_of(self.count);
     }
 
-    /// The place of a hash: its shortest unsplit prefix, beginning with the lowest bit. The page number is that prefix, read as a
-    /// number with the same lowest bit as the hash.
+    /// Returns the place of a hash, which is given by its shortest unsplit prefix. A prefix begins with the lowest bit of the hash; the
+    /// page number is the prefix as a number with the same lowest bit.
     pub fn place(&self, hash: u32) -> Place
         ensures depth { IsDepth self.now.splits hash result.depth }
         ensures shallow { result.depth ≤ 31 }
@@ -181,9 +181,9 @@ impl<A: Allocator> Dir<A> {
     }
 }
 
-// Searches that begin at a prefix of any length, whose bit is known.
+// Searches that begin at a prefix of any length. The caller passes the prefix's bit.
 impl<A: Allocator> Dir<A> {
-    // The place of a hash, searched in longer prefixes; all shorter prefixes than `depth` are split.
+    // Searches for the place of a hash among the prefixes of at least `depth` letters; all shorter prefixes are split.
     fn place_below(&self, hash: u32, depth: u8, bit: u32) -> Place
         requires number { bit ≡ word_number (hash_prefix depth hash) }
         requires shallow { depth ≤ 31 }
@@ -204,7 +204,7 @@ impl<A: Allocator> Dir<A> {
         self.place_at(hash, depth, bit)
     }
 
-    // The place of a hash, searched in shorter prefixes; the prefix of length `depth` is not split.
+    // Searches for the place of a hash among the prefixes of at most `depth` letters; the prefix of `depth` letters is not split.
     fn place_above(&self, hash: u32, depth: u8, bit: u32) -> Place
         requires number { bit ≡ word_number (hash_prefix depth hash) }
         requires shallow { depth ≤ 31 }
@@ -229,7 +229,7 @@ impl<A: Allocator> Dir<A> {
         self.place_at(hash, depth, bit)
     }
 
-    // The place of a hash with this depth and this bit.
+    // Returns the place of a hash whose depth and bit are known.
     fn place_at(&self, hash: u32, depth: u8, bit: u32) -> Place
         requires depth { IsDepth self.now.splits hash depth }
         requires shallow { depth ≤ 31 }

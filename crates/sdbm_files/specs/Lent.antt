@@ -1,9 +1,9 @@
--- Borrowed pairs.
+-- Pairs whose bytes are borrowed.
 use Rattle.std.specs.Prelude.{ℕ, List, map}
 use Rattle.std.specs.Borrow.{Bor}
 use Rattle.sdbm_addr.specs.Pairs.{Pair}
 
--- a borrowed pair of a key and a value
+-- the pair of a borrowed key and a borrowed value
 abbrev pub pair_lent : Bor (List ℕ) × Bor (List ℕ) → Pair
 pair_lent lent = (lent.0.now, lent.1.now)
 

@@ -1,4 +1,4 @@
--- The greatest length of a `.pag` that is read or written (own), and the databases within it.
+-- The greatest length of a `.pag` that is read or written (our own rule), and the databases whose `.pag` is within this length.
 use Rattle.std.specs.Prelude.{◌≢◌, ◌<◌, ◌||◌, ℕ, Bool, true, false, nat_lt, List, [], ◌∷◌}
 use Rattle.sdbm_addr.specs.declared.PageSize.{PageSize}
 use Rattle.sdbm_addr.specs.declared.PageSize.TheVariants.{Small, Wide}
@@ -9,7 +9,7 @@ use Rattle.sdbm_addr.specs.Database.{Database, pairs_at}
 abbrev pub pag_limit : ℕ
 pag_limit = 1073741824
 
--- the number of pages within that length
+-- the number of pages in the longest `.pag`
 abbrev pub most_pages : PageSize → ℕ
 most_pages Small = 1048576
 most_pages Wide = 131072
@@ -22,6 +22,6 @@ abbrev pub is_bare : List Pair → Bool
 is_bare [] = true
 is_bare (e ∷ es) = false
 
--- the page ends within the longest `.pag` under its number, or it has no pairs and needs no space there
+-- page e.0 ends within the longest `.pag`, or it has no pairs and needs no space in the file
 abbrev pub has_place : PageSize → ℕ × Content → Bool
 has_place size e = is_bare e.1.pairs || nat_lt e.0 (most_pages size)

@@ -1,4 +1,4 @@
--- Stores that change their page in place, among pages by number.
+-- Store commands that change one of several numbered pages in place.
 use Rattle.std.specs.Prelude.{◌≡◌, ℕ, List, Some, nat_eq as eqb}
 use Rattle.std.specs.Map.{lookup}
 use Rattle.sdbm_addr.specs.declared.Mode.{Mode}
@@ -7,11 +7,11 @@ use Rattle.sdbm_addr.specs.Pairs.{Content, stored}
 use Rattle.sdbm_split.specs.InPlace.{MayStore}
 use Rattle.sdbm_files.specs.Kept.{pages_of}
 
--- the page with this number
+-- `content` is page `number`
 abbrev pub IsUnder : List (ℕ × Content) → ℕ → Content → Type 0
 IsUnder entries number content = lookup (eqb number) entries ≡ Some content
 
--- a pair was stored on the page with a number, without a split
+-- a pair was stored on page `number` without a split
 pub record IsStoredUnder (mode : Mode) (old : List (ℕ × Content)) (number : ℕ) (key value : List ℕ) (new : List (ℕ × Content)) : Type 0 where
   pub page : Content
   pub under : IsUnder old number page

@@ -1,4 +1,4 @@
-//! Displays a fault as its name, followed in brackets by its page number and its cause, if it has them.
+//! Displays a fault as its name, followed in brackets by the page number and the cause, if any.
 use crate::OpenFault;
 use std::error::Error;
 use std::fmt;

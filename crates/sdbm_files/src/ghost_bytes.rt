@@ -1,11 +1,11 @@
-// Bytes that exist only for contracts: they relate a value to all bytes that it was made from, without storing these.
+// Bytes that exist only for contracts. They relate a value to the bytes from which it was made, and are not stored.
 ghost use Rattle.std.specs.Prelude.{◌≡◌, ◌++◌, ℕ, List, []};
 ghost use Rattle.std.specs.Coded.{coded_list, coded_ℕ};
 ghost use base.Fml.{ftrue};
 
 use std::marker::Model;
 
-/// A ghost list of bytes. It has no size at run time and owns nothing.
+/// A list of bytes for contracts. It has no size at run time and owns nothing.
 pub(crate) struct GhostBytes {
     pub(crate) ghost bytes: { List ℕ } by { coded_list coded_ℕ },
 }
@@ -15,14 +15,14 @@ impl Model for GhostBytes {
 }
 
 impl GhostBytes {
-    /// No bytes.
+    /// Returns the empty list.
     pub(crate) fn none() -> GhostBytes
         ensures { result.bytes ≡ [] }
     {
         GhostBytes {}
     }
 
-    /// These bytes appended to the previous ones.
+    /// Returns this list with the bytes appended.
     pub(crate) fn more(&self, bytes: &[u8]) -> GhostBytes
         ensures { result.bytes ≡ self.now.bytes ++ bytes.now }
     {

@@ -1,4 +1,4 @@
-//! The two files of a database as one value: the directory from `.dir`, and the pages from `.pag` that have pairs, by number.
+//! The two files of a database as one value: the directory of `.dir`, and the pages of `.pag` that have pairs, by number.
 #![tactic(auto)]
 
 ghost use Rattle.std.specs.Prelude.{◌≡◌, ◌≢◌, ◌<◌, ◌≤◌, ◌+◌, ◌%◌, ◌^◌, [], length, true, false, IfOk, OnOk, IfErr, OnErr, IfSome};
@@ -46,8 +46,8 @@ use std::marker::Model;
 pub use widening::widen;
 pub use writing::WriteFault;
 
-/// A database. The model is how its keys hash, its page size, the split prefixes, and the pairs of each page. Every pair is on the page
-/// that its key leads to. Pages without pairs are not stored.
+/// A database. The model is the way in which its keys hash, its page size, the split prefixes, and the pairs of each page. Every pair is on
+/// the page that its key leads to. Pages without pairs are not stored.
 #[derive(Drop)]
 pub struct Image<A: Allocator> {
     alloc: A,
@@ -71,7 +71,7 @@ impl<A: Allocator> Model for Image<A> {
 }
 
 impl<A: Allocator + Copy> Image<A> {
-    /// A database without pairs or splits. Does not allocate.
+    /// Makes a database without pairs or splits. Does not allocate.
     pub fn empty(alloc: A, kind: KeyBytes, size: PageSize) -> Self
         ensures { result ≡ empty_database kind size }
     {
@@ -84,14 +84,13 @@ impl<A: Allocator + Copy> Image<A> {
         }
     }
 
-    /// Reads the bytes of `.dir` and `.pag` (Yigit, sdbm 1990). The caller gives the way keys hash and the page size, because the files
-    /// do not record them. The bytes may have any values. Free bytes of pages are ignored, and so are pages without pairs and zeros of
-    /// `.dir` at the end.
+    /// Reads the bytes of `.dir` and `.pag` (Yigit, sdbm 1990). The files do not record how keys hash and how large pages are, so the
+    /// caller passes both. The bytes may have any values. Free bytes, pages without pairs and zeros at the end of `.dir` are ignored.
     ///
     /// # Errors
     /// `PagLength` if `.pag` is not a whole number of pages; otherwise `Page` with the lowest number of an invalid page, and its fault;
-    /// otherwise `Dir` with the fault of `.dir`, if its bytes are not a directory; otherwise `Misplaced` with the lowest number of a
-    /// page with a key that leads to another page. `NoMemory` if allocation fails before that.
+    /// otherwise `Dir` with the fault of `.dir`, if its bytes spell no directory; otherwise `Misplaced` with the lowest number of a page
+    /// with a key that leads to another page. `NoMemory` if an allocation fails before such a fault is found.
     pub fn open(
         alloc: A,
         dir: &[u8],
@@ -116,8 +115,8 @@ impl<A: Allocator + Copy> Image<A> {
         Image::open_parsed(alloc, dir, &read, kind)
     }
 
-    /// Like `open`, for a `.pag` that was read in pieces, with pages of either size. If its page size is that of the database, its pages
-    /// are shared until the database changes them; otherwise all bytes are copied and parsed again. `pag` does not change.
+    /// Like `open`, for a `.pag` that was read in pieces, with pages of either size. If `pag` has the page size of the database, both share
+    /// the pages until the database changes them; otherwise all bytes are copied and parsed again. `pag` does not change.
     ///
     /// # Errors
     /// Those of `open`.
@@ -147,7 +146,7 @@ impl<A: Allocator + Copy> Image<A> {
         Image::open(alloc, dir, bytes.as_slice(), kind, size)
     }
 
-    // `open_read` if the pages that were read have the page size of the database.
+    // Does the work of `open_read` if `pag` has the page size of the database.
     fn open_parsed(
         alloc: A,
         dir: &[u8],
@@ -188,21 +187,21 @@ impl<A: Allocator + Copy> Image<A> {
         })
     }
 
-    /// How keys hash.
+    /// Returns the way in which keys hash.
     pub fn key_bytes(&self) -> KeyBytes
         ensures { result ≡ self.now.kind }
     {
         self.kind
     }
 
-    /// The page size.
+    /// Returns the page size.
     pub fn page_size(&self) -> PageSize
         ensures { result ≡ self.now.size }
     {
         self.size
     }
 
-    /// The page with a number, or `None` if it has no pairs.
+    /// Borrows the page with this number, or returns `None` if the page has no pairs.
     pub fn page(&self, number: u32) -> Option<&SharedPage<A>>
         ensures pairs { option_map (λ p. p.now.pairs) result ≡ map.get self.now.pages number }
         ensures size { IfSome result (λ p. p.now.size ≡ self.now.size) }
@@ -211,7 +210,7 @@ impl<A: Allocator + Copy> Image<A> {
         self.pages.get(&number)
     }
 
-    /// The place of a key.
+    /// Returns the place of a key.
     pub fn place(&self, key: &[u8]) -> Place
         ensures depth { IsDepth self.now.splits (hash_of self.now.kind key.now) result.depth }
         ensures shallow { result.depth ≤ 31 }
@@ -223,9 +222,9 @@ impl<A: Allocator + Copy> Image<A> {
         self.dir.place(hash(key, self.kind))
     }
 
-    /// Installs a plan for the page of a place: its leaf under the number of that page, its twins, and its bits. All memory is allocated
-    /// first; a plan without splits allocates only if the place has no page. If allocation fails, the database is unchanged and the plan
-    /// is returned.
+    /// Installs a plan for the page of a place: replaces this page by the leaf, adds the twins, and marks the bits. All memory is allocated
+    /// first; a plan without splits allocates only if the place has no page yet. If allocation fails, the database is unchanged and the
+    /// plan is returned.
     pub fn install(&mut self, place: Place, plan: Plan<A>) -> Result<(), (AllocError, Plan<A>)>
         requires { IsInstallable self.old place.page plan.leaf plan.twins.items plan.bits.items }
         ensures ok { OnOk result (self.new ≡ installed self.old place.page plan.leaf plan.twins.items plan.bits.items) }
@@ -248,7 +247,7 @@ impl<A: Allocator + Copy> Image<A> {
         Ok(())
     }
 
-    // `install` for a plan without splits. Allocates only if the place has no page.
+    // Installs a plan without splits. Allocates only if the place has no page yet.
     fn install_leaf(&mut self, place: Place, plan: Plan<A>) -> Result<(), (AllocError, Plan<A>)>
         requires installable { IsInstallable self.old place.page plan.leaf plan.twins.items plan.bits.items }
         requires twins { plan.twins.items ≡ [] }
@@ -264,8 +263,8 @@ impl<A: Allocator + Copy> Image<A> {
         }
     }
 
-    /// Overwrites the value of pair `i` of a page with a value of the same length. Returns `false` and changes nothing if the page has
-    /// another owner. Does not allocate.
+    /// Overwrites the value of pair `i` of page `number` with a value of the same length. Returns `false` and changes nothing if the page
+    /// has another owner. Does not allocate.
     pub fn write_record(&mut self, number: u32, i: usize, value: &[u8]) -> bool
         requires inside { i < length (pairs_at self.old number) }
         requires long { length value.now ≡ length (value_at (pairs_at self.old number) i) }
@@ -276,9 +275,8 @@ impl<A: Allocator + Copy> Image<A> {
         write_record(&mut self.pages, number, i, value)
     }
 
-    /// Stores a pair by changing the page with a number in place. Returns `false` and changes nothing if there is no page with the
-    /// number, if the key of an insert exists, if the pair does not fit together with the pairs of other keys, or if the page has another
-    /// owner. Does not allocate.
+    /// Stores a pair by changing page `number` in place. Returns `false` and changes nothing if this page does not exist, if it has another
+    /// owner, if the key of an insert exists, or if the pair does not fit without a split. Does not allocate.
     pub fn store_pair(&mut self, number: u32, key: &[u8], value: &[u8], mode: Mode) -> bool
         requires small { length key.now + length value.now ≤ pair_limit self.old.size }
         requires installable { MayStore mode (content_at self.old number) key.now value.now
@@ -291,7 +289,7 @@ impl<A: Allocator + Copy> Image<A> {
         store_pair(&mut self.pages, number, key, value, mode)
     }
 
-    /// The number of pairs.
+    /// Returns the number of pairs.
     pub fn count(&self) -> usize
         ensures { result ≡ map.len (map_of self.now) }
     {
@@ -308,8 +306,8 @@ impl<A: Allocator + Copy> Image<A> {
         Ok(pairs)
     }
 
-    /// Borrows all pairs from their pages, sorted by the bytes of their keys. Copies no bytes. Returns an error if allocation of the list
-    /// fails.
+    /// Borrows all pairs from their pages, sorted by the bytes of their keys. Copies no keys and no values. Returns an error if the list
+    /// cannot be allocated.
     pub fn lend_pairs(&self) -> Result<Vec<(&[u8], &[u8]), A>, AllocError>
         ensures pairs { IfOk result (λ lent. pairs_lent lent.items ≡ map.entries (map_of self.now)) }
         ensures database { IsDatabase self.now }

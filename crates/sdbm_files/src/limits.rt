@@ -1,4 +1,4 @@
-//! The limit on the length of a `.pag`, and the pages that are within it.
+//! The limit on the length of a `.pag`, and the test whether a page is within the limit.
 ghost use Rattle.std.specs.Prelude.{◌≡◌};
 ghost use Rattle.sdbm_files.specs.Limits.{pag_limit, most_pages, has_place};
 
@@ -19,7 +19,7 @@ fn most_pages(size: PageSize) -> u32
     }
 }
 
-/// Returns `true` if the page fits into the longest `.pag` under this number: it ends within the limit, or it has no pairs.
+/// Returns `true` if the page may have this number in a `.pag`: the page ends within the limit, or it has no pairs.
 pub fn has_place<A: Allocator + Copy>(size: PageSize, number: u32, page: &SharedPage<A>) -> bool
     ensures { result ≡ has_place size (number, page.now) }
 {

@@ -1,4 +1,4 @@
-//! Checks and conversions for opening a database from the bytes of both files.
+//! Checks and conversions that open a database from the bytes of both files.
 ghost use Rattle.std.specs.Prelude.{◌≡◌, ◌<◌, ◌↔◌, ℕ, IsTrue, IfOk, IfErr, IfSome, IfNone};
 ghost use Rattle.sdbm_addr.specs.declared.PageSize.{PageSize};
 ghost use Rattle.sdbm_addr.specs.DirectoryFile.{SpellsDirectory};
@@ -14,16 +14,17 @@ use sdbm_page::{Page, PageFault};
 use std::alloc::{AllocError, Allocator};
 use std::collections::HashMap;
 
-/// The reason why the bytes of two files are not a database. The faults are tested in this order; a failed allocation ends the test.
+/// The reason why the bytes of two files do not open as a database. The faults are tested in this order; a failed allocation ends the
+/// tests.
 #[derive(Clone, Copy, Debug, PartialEq, Eq)]
 pub enum OpenFault {
     /// The length of `.pag` is not a multiple of the page size.
     PagLength,
-    /// The page with this number, the lowest invalid one, has this fault. The fault is never `NoMemory`.
+    /// The page with this number is the lowest invalid one, and has this fault, which is never `NoMemory`.
     Page(usize, PageFault),
-    /// The bytes of `.dir` are not a directory. The fault is never `NoMemory`.
+    /// The bytes of `.dir` spell no directory. The fault is never `NoMemory`.
     Dir(DirFault),
-    /// A key on the page with this number leads to another page. It is the lowest such number.
+    /// The page with this number is the lowest one that has a key which leads to another page.
     Misplaced(usize),
     /// Allocation fails.
     NoMemory,
@@ -41,7 +42,7 @@ pub fn read_dir<A: Allocator + Copy>(alloc: A, bytes: &[u8]) -> Result<Dir<A>, O
     }
 }
 
-/// The lowest number below `count` of a page with a key that leads to another page, or `None`.
+/// Returns the lowest number below `count` of a page that has a key which leads to another page, or `None` if there is no such page.
 pub fn misplaced<A: Allocator>(
     dir: &Dir<A>,
     kind: KeyBytes,
@@ -59,7 +60,7 @@ pub fn misplaced<A: Allocator>(
     None
 }
 
-// Returns `true` if each key of the page with this number leads to it.
+// Returns `true` if each key of page `number` leads to this page.
 fn leads_here<A: Allocator>(
     dir: &Dir<A>,
     kind: KeyBytes,
@@ -74,8 +75,8 @@ fn leads_here<A: Allocator>(
     }
 }
 
-/// Returns `true` if each key of a page leads to this number. If the first key does, its depth gives the number of lowest bits of the
-/// hash that lead to the page, and it is enough to compare these bits of the remaining hashes.
+/// Returns `true` if each key of a page leads to page `number`. The depth of the first key is the number of lowest hash bits that lead to
+/// the page, so only these bits of the other hashes are compared.
 pub fn keys_lead<A: Allocator>(dir: &Dir<A>, kind: KeyBytes, number: usize, page: &Page<A>) -> bool
     ensures { IsTrue result ↔ LeadTo kind dir.now.splits number page.now.pairs }
 {
@@ -95,7 +96,7 @@ pub fn keys_lead<A: Allocator>(dir: &Dir<A>, kind: KeyBytes, number: usize, page
     true
 }
 
-/// Shares the same pages under the same numbers.
+/// Makes a map of the same pages under the same numbers. The pages are shared, not copied.
 pub fn copy_pages<A: Allocator + Copy>(
     alloc: A,
     pages: &Numbered<A>,

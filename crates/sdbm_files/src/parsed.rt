@@ -27,16 +27,16 @@ pub type Raw<A> = HashMap<usize, Vec<u8, A>, BuildHasherDefault<FoldHasher>, A>;
 pub struct Parsed<A: Allocator> {
     /// The pages that have pairs.
     pub pages: Numbered<A>,
-    /// The bytes of pages that are not canonical, and of pages that were not parsed, except those that are all zeros.
+    /// The bytes of pages that were not parsed, or whose bytes are not canonical. Pages of zeros are left out.
     pub raw: Raw<A>,
     /// The number of pages that were parsed.
     pub count: usize,
-    /// The page after those, if it is invalid, and its fault. No later page is parsed.
+    /// The first page that was not parsed, if it is invalid, and its fault. No later page is parsed.
     pub bad: Option<(usize, PageFault)>,
 }
 
 impl<A: Allocator + Copy> Parsed<A> {
-    /// No pages.
+    /// Makes a result without pages.
     pub fn new(alloc: A) -> Self
         ensures pages { result.pages.entries ≡ [] }
         ensures raw { result.raw.entries ≡ [] }
@@ -51,8 +51,8 @@ impl<A: Allocator + Copy> Parsed<A> {
         }
     }
 
-    /// Adds the next page, which has this number, and parses it unless a page before it was invalid. If allocation fails, the pages are
-    /// unchanged.
+    /// Adds the page with this number, which is the next one, and parses it unless an earlier page was invalid. If allocation fails, no
+    /// page is added.
     pub fn take(
         &mut self,
         alloc: A,
@@ -101,7 +101,7 @@ impl<A: Allocator + Copy> Parsed<A> {
         Ok(())
     }
 
-    /// The bytes of the page with a number: the stored bytes, or the canonical bytes of the page if none are stored.
+    /// Borrows the bytes of page `number`: the bytes stored for it, or else its canonical bytes.
     pub fn bytes(&self, number: usize, size: PageSize) -> &[u8]
         requires { AreSized size self.now.pages.entries }
         ensures { result.now ≡ known_under size self.now.pages.entries (raw_under self.now.raw.entries) number }
@@ -129,7 +129,7 @@ fn keep_bytes<A: Allocator + Copy>(
     Ok(())
 }
 
-// Copies bytes that differ from the page's canonical bytes, and makes room to store the copy.
+// Copies bytes if they differ from the canonical bytes `own`, and makes room to store the copy.
 fn copy_foreign<A: Allocator + Copy>(
     alloc: A,
     raw: &mut Raw<A>,
@@ -148,7 +148,7 @@ fn copy_foreign<A: Allocator + Copy>(
     Ok(Some(copy))
 }
 
-// Stores bytes under a number, if there are any.
+// Stores the copy of a page's bytes under a number, if there is a copy.
 fn put_bytes<A: Allocator + Copy>(raw: &mut Raw<A>, number: usize, copy: Option<Vec<u8, A>>)
     requires { IfSome copy (λ _. 0 < spare raw.old) }
     ensures { HasRaw (raw_under raw.old.entries) (raw_under raw.new.entries) number (bytes_in copy) }
@@ -161,7 +161,7 @@ fn put_bytes<A: Allocator + Copy>(raw: &mut Raw<A>, number: usize, copy: Option<
     };
 }
 
-// Stores a page under a number, if there is one.
+// Stores a page under a number if there is a page.
 fn insert_page<A: Allocator + Copy>(
     pages: &mut Numbered<A>,
     number: usize,
@@ -179,7 +179,8 @@ fn insert_page<A: Allocator + Copy>(
     }
 }
 
-/// Reads a page: `None` if it has no pairs, or the fault if the bytes are not a page. Returns an error if allocation fails.
+/// Reads the bytes of a page. Returns the page, `None` if the page has no pairs, or the fault if the bytes spell no page; or an error if
+/// allocation fails.
 pub fn read_page<A: Allocator + Copy>(
     alloc: A,
     bytes: &[u8],
@@ -199,14 +200,14 @@ pub fn read_page<A: Allocator + Copy>(
     }
 }
 
-// Returns `true` if bytes are not the canonical bytes of a page.
+// Returns `true` if the bytes differ from the canonical bytes `own`.
 fn differs(own: &[u8], bytes: &[u8]) -> bool
     ensures { result ≡ false → own.now ≡ bytes.now }
 {
     own != bytes
 }
 
-// The canonical bytes of a page.
+// Returns the canonical bytes of a page; for `None`, those of a page without pairs.
 fn own_bytes<A: Allocator>(page: &Option<SharedPage<A>>, size: PageSize) -> &[u8]
     requires { IfSome page.now (λ content. content.size ≡ size) }
     ensures { result.now ≡ bytes_of_page size (pairs_of_page page.now) }
@@ -217,7 +218,7 @@ fn own_bytes<A: Allocator>(page: &Option<SharedPage<A>>, size: PageSize) -> &[u8
     }
 }
 
-// The canonical bytes of the page with a number.
+// Returns the canonical bytes of page `number`.
 fn bytes_under<A: Allocator>(pages: &Numbered<A>, number: usize, size: PageSize) -> &[u8]
     requires { AreSized size pages.now.entries }
     ensures { result.now ≡ bytes_of_page size (pairs_under pages.now.entries number) }

@@ -1,4 +1,4 @@
-//! A database restricted to one page, and the numbers of its pages.
+//! Opens a single page of a database, and lists the numbers of pages.
 ghost use Rattle.std.specs.Prelude.{◌≡◌, ◌≢◌, ◌↔◌, ℕ, [], length, nat_eq, IsTrue, IfOk, IfSome, IfNone};
 ghost use Rattle.std.specs.List.{All, Contains};
 ghost use Rattle.std.specs.List.Sorted.{IsStrictlyIncreasing};
@@ -22,10 +22,10 @@ use std::alloc::{AllocError, Allocator};
 use std::collections::HashMap;
 
 impl<A: Allocator + Copy> Image<A> {
-    /// Opens a database restricted to one page, from the bytes of `.dir` and the number and the bytes of the page. All other pages have
-    /// no pairs. This is enough for a command on one key. The time depends only on the given bytes, not on the page number. Returns
-    /// `None` if no database has that directory and that page: the bytes of `.dir` are not a directory, those of the page are not a
-    /// page, or a key on it leads to another page.
+    /// Opens a single page of a database, from the bytes of `.dir` and the number and the bytes of the page. This is enough for a command
+    /// on one key. In the result, all other pages have no pairs. The time depends only on the given bytes, not on the page number. Returns
+    /// `None` if no database has this directory and this page: the bytes of `.dir` spell no directory, the bytes of the page spell no page,
+    /// or a key on the page leads to another page.
     ///
     /// # Errors
     /// `AllocError` if allocation fails.
@@ -67,7 +67,7 @@ impl<A: Allocator + Copy> Image<A> {
         }))
     }
 
-    /// The numbers of the pages that have pairs, in ascending order.
+    /// Returns the numbers of the pages that have pairs, in ascending order.
     ///
     /// # Errors
     /// `AllocError` if allocation fails.
@@ -82,7 +82,7 @@ impl<A: Allocator + Copy> Image<A> {
     }
 }
 
-// Returns `true` if there is no page, or if each of its keys leads to this number.
+// Returns `true` if there is no page, or if each key of the page leads to page `number`.
 fn leads_there<A: Allocator>(
     dir: &Dir<A>,
     kind: KeyBytes,
@@ -97,7 +97,7 @@ fn leads_there<A: Allocator>(
     }
 }
 
-// A map with one page under its number.
+// Makes a map with at most one page, under its number.
 fn one_page<A: Allocator + Copy>(
     alloc: A,
     number: u32,
@@ -116,7 +116,7 @@ fn one_page<A: Allocator + Copy>(
     }
 }
 
-// The numbers of all pages.
+// Returns the numbers of all pages, in no particular order.
 fn copy_numbers<A: Allocator + Copy>(alloc: A, pages: &Pages<A>) -> Result<Vec<u32, A>, AllocError>
     ensures copy { IfOk result (λ numbers. numbers.items ≡ keys pages.now) }
     ensures unique { IsUnique nat_eq pages.now }

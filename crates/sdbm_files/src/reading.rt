@@ -9,12 +9,12 @@ use sdbm_addr::PageSize;
 use std::alloc::{AllocError, Allocator};
 use std::marker::Model;
 
-/// The size of a block in bytes. A save compares and writes whole blocks.
+/// The size of a block in bytes. A save compares and writes whole blocks of `.pag`.
 pub const BLOCK: usize = 1024;
 
-/// The part of a `.pag` file that was read so far. The model is its page size and all its bytes. It stores the pages that have pairs,
-/// the bytes of pages that are not canonical, and the bytes after the last whole page, so a hole takes no memory. `Image::open_read`
-/// opens the database over the same pages.
+/// The part of a `.pag` file that was read so far. The model is the page size and all bytes that were read. Only the pages that have pairs,
+/// the bytes of pages that are not canonical, and the bytes after the last whole page are stored, so a hole takes no memory.
+/// `Image::open_read` makes a database that shares these pages.
 #[derive(Drop)]
 pub struct ReadPages<A: Allocator> {
     alloc: A,
@@ -38,7 +38,7 @@ impl<A: Allocator> Model for ReadPages<A> {
 impl<A: Allocator + Copy> ReadPages<A> {
     ghost use Rattle.sdbm_files.specs.Reading.{with_piece, IsPartlyRead, IsBlock};
 
-    /// A file with pages of a size, with nothing read yet. Does not allocate.
+    /// Makes a `ReadPages` of which nothing is read yet. Does not allocate.
     pub fn new(alloc: A, size: PageSize) -> Self
         ensures { result ≡ record { size = size; bytes = [] } }
     {
@@ -52,14 +52,14 @@ impl<A: Allocator + Copy> ReadPages<A> {
         }
     }
 
-    /// The page size.
+    /// Returns the page size.
     pub fn page_size(&self) -> PageSize
         ensures { result ≡ self.now.size }
     {
         self.size
     }
 
-    /// The number of bytes that were read.
+    /// Returns the number of bytes that were read.
     pub fn len(&self) -> usize
         ensures { result ≡ length self.now.bytes }
     {
@@ -80,11 +80,11 @@ impl<A: Allocator + Copy> ReadPages<A> {
         self.len % self.size.bytes() == 0
     }
 
-    /// Reads the next piece of the file; the bytes before it must be whole pages. Allocates memory for the pages of the piece that have
-    /// pairs, for the bytes of pages that are not canonical, and for the bytes after the last whole page. Pages of zeros need none.
+    /// Reads the next piece of the file. The bytes read before must be whole pages. Allocates memory for pages that have pairs, for the
+    /// bytes of pages that are not canonical, and for the bytes after the last whole page. Pages of zeros need no memory.
     ///
     /// # Errors
-    /// `AllocError` if allocation fails. The first pages of the piece may then be read already.
+    /// `AllocError` if allocation fails. Some pages at the start of the piece may then be read already.
     pub fn push(&mut self, piece: &[u8]) -> Result<(), AllocError>
         requires whole { length self.old.bytes % page_bytes self.old.size ≡ 0 }
         requires short { length self.old.bytes + length piece.now < 2 ^ 63 }
@@ -129,8 +129,8 @@ impl<A: Allocator + Copy> ReadPages<A> {
         Ok(())
     }
 
-    /// Block `index` of the file, 1,024 bytes from byte `1024 * index` on, for comparison with another file. A block that reaches beyond
-    /// the end of the file may be shorter, or empty; its missing bytes count as zeros. Does not allocate.
+    /// Borrows block `index` of the file, the 1,024 bytes from byte `1024 * index` on, for a comparison with another file. At the end of
+    /// the file a block may be shorter, or empty; the missing bytes count as zeros. Does not allocate.
     pub fn block(&self, index: usize) -> &[u8]
         ensures { IsBlock self.now.bytes index result.now }
     {
@@ -138,7 +138,7 @@ impl<A: Allocator + Copy> ReadPages<A> {
         part(self.page(index / blocks), index % blocks * BLOCK)
     }
 
-    /// Copies all bytes that were read, so that they can be parsed again with the other page size. The pages read do not change.
+    /// Copies all bytes that were read, which allows parsing with the other page size. The pages do not change.
     ///
     /// # Errors
     /// `AllocError` if allocation fails.
@@ -152,7 +152,7 @@ impl<A: Allocator + Copy> ReadPages<A> {
         Ok(copy)
     }
 
-    // The bytes read so far of the page with a number.
+    // Borrows the bytes of page `number` that were read so far.
     fn page(&self, number: usize) -> &[u8]
         ensures { result.now ≡ page_at self.now.size self.now.bytes number }
     {
@@ -167,7 +167,7 @@ impl<A: Allocator + Copy> ReadPages<A> {
     }
 }
 
-// The bytes from `start` on, at most one block.
+// Borrows the bytes from `start` on, but at most one block.
 fn part(bytes: &[u8], start: usize) -> &[u8]
     ensures short { length result.now ≤ 1024 }
     ensures reads { (i : ℕ) → i < 1024 → get_or result.now i 0 ≡ get_or bytes.now (start + i) 0 }

@@ -1,4 +1,4 @@
--- Lists of calls on the three files, made in order, and the images that a crash leaves before, between and during them.
+-- Lists of calls that are made in order on the three files, and the images that a crash leaves before, between and during the calls.
 use Rattle.std.specs.Prelude.{◌≤◌, ◌≡◌, ◌⊎◌, List, [], ◌∷◌, length}
 use Rattle.sdbm_saves.specs.Disk.{Image, content}
 use Rattle.sdbm_saves.specs.Acts.{Act, write, resize, sync, clear, acted, seen_after, LeftBy, LeftAfter}
@@ -14,23 +14,24 @@ abbrev pub CanDo : List Act → Image → Type 0
 CanDo [] seen = Unit {0}
 CanDo (act ∷ acts) seen = CanCall act seen × CanDo acts (acted act seen)
 
--- the images that a crash may leave before, during or after these calls
+-- the images that a crash may leave before, during or after the calls
 abbrev pub AnyMoment : List Act → Image → (Image → Type 0) → Image → Type 0
 AnyMoment [] seen may_leave c = may_leave c
 AnyMoment (act ∷ acts) seen may_leave c = may_leave c ⊎ AnyMoment acts (acted act seen) (LeftBy act seen may_leave) c
 
--- These calls may be made in order, a crash at any time during them leaves P, and the images that are read and left after them satisfy Q.
+-- The calls may be made in order. A crash at any time during the calls leaves only images that satisfy P. After the calls, the image that
+-- is read and the images that a crash may leave satisfy Q.
 pub record Does (acts : List Act) (seen : Image) (may_leave : Image → Type 0) (P : Image → Type 0) (Q : Image → (Image → Type 0) → Type 0) : Type 0 where
   pub can : CanDo acts seen
   pub any_moment : (c : Image) → AnyMoment acts seen may_leave c → P c
   pub after : Q (seen_after acts seen) (LeftAfter acts seen may_leave)
 
--- The images that may be read after a process was killed during a call. The call was done in part. The result depends only on the image
--- that was read before, not on the images that a crash may leave.
+-- An image that may be read after a process was killed during a call, so that the call was done in part. It depends only on the image that
+-- was read before, not on the images that a crash may leave.
 abbrev pub Partly : Act → Image → Image → Type 0
 Partly act seen c = LeftBy act seen (λ d. d ≡ seen) c
 
--- the images that may be read after a process was killed at some time during these calls
+-- an image that may be read after a process was killed before, during or after one of the calls
 abbrev pub Killed : List Act → Image → Image → Type 0
 Killed [] seen c = c ≡ seen
 Killed (act ∷ acts) seen c = (c ≡ seen) ⊎ (Partly act seen c ⊎ Killed acts (acted act seen) c)

@@ -1,8 +1,8 @@
--- A log of saves in the redo file: a header of 4,096 bytes, then records, one after the other, over zeros. Each record contains the plan of
--- a save. A complete record is committed. The plans are applied to the data files without a sync, so a crash may leave a mix of old and new
--- bytes there. Applying all plans of the log again repairs them (a redo log: Gray and Reuter, Transaction Processing 1993, chapter 9). Byte
--- 0 is the commit byte (mark): 1 while there are records. The eight bytes after it are "sdbmlog1". A file whose byte 0 is 1 and that
--- continues with different bytes is the committed plan of a single save (specs/Redo.antt of sdbm_saves).
+-- A log of saves in the redo file: a header of 4,096 bytes, then records, one after another, then zeros. Each record contains the plan of a
+-- save, which is committed once the record is complete. Plans are applied to the data files without a sync, so a crash may leave a mix of
+-- old and new bytes in the data files. Applying all plans of the log again repairs the data files (a redo log: Gray and Reuter, Transaction
+-- Processing 1993, chapter 9). Byte 0 is the commit byte (mark), which is 1 while there are records. The next eight bytes are "sdbmlog1".
+-- If byte 0 is 1 and other bytes follow, the file is the committed plan of a single save (specs/Redo.antt of sdbm_saves).
 use Rattle.std.specs.Prelude.{Bool, true, false, if◌then◌else◌, ◌==◌, ◌⊎◌, ◌-◌, ◌*◌, ◌/◌, ◌%◌, Option, MatchOption, ◌<◌, ◌≤◌, ◌≡◌, ◌≢◌, ◌^◌, ℕ, zero, suc, ◌+◌, List, [], ◌∷◌, ◌++◌, length, take, drop, replicate, get_or}
 use Rattle.std.specs.Borrow.{Bor}
 use Rattle.sdbm_saves.specs.declared.disk.DiskFile.TheVariants.{Pages, Directory}
@@ -10,13 +10,13 @@ use Rattle.sdbm_saves.specs.Disk.{Image, written}
 use Rattle.sdbm_saves.specs.Drafts.{spelled}
 use Rattle.sdbm_saves.specs.Redo.{number_at, data_file, count_of, changes_of, new_length, old_length, files, renewed_files, stands_for, CanEnd, IsPlan, Knows, EndsWith}
 
--- the number of bytes that are not zero
+-- the number of nonzero bytes
 abbrev pub nonzero : List ℕ → ℕ
 nonzero [] = 0
 nonzero (zero ∷ bytes) = nonzero bytes
 nonzero (suc b ∷ bytes) = suc (nonzero bytes)
 
--- a number below 255^4 as four bytes that are not zero, and back
+-- a number below 255^4 as four nonzero bytes, and the number that four such bytes represent
 abbrev pub digits : ℕ → List ℕ
 digits n = suc (n % 255) ∷ suc (n / 255 % 255) ∷ suc (n / 65025 % 255) ∷ suc (n / 16581375 % 255) ∷ []
 
@@ -27,9 +27,9 @@ weight_at log = (get_or log 0 0 - 1) + 255 * (get_or log 1 0 - 1) + 65025 * (get
 abbrev pub size_at : List ℕ → ℕ
 size_at log = weight_at (drop 4 log)
 
--- The record of a plan: its weight, the length of the plan, and the plan. The weight is the number of bytes after it that are not zero. The
--- weight and the length have four bytes each, which are not zero. A record is written over zeros, so it is complete exactly if it has that
--- weight.
+-- The record of a plan: its weight, the length of the plan, and the plan. The weight is the number of nonzero bytes after it. The weight
+-- and the length have four nonzero bytes each. A record is written over zeros, so it is complete if and only if the number of its nonzero
+-- bytes is the weight.
 abbrev pub body_of : List ℕ → List ℕ
 body_of plan = digits (length plan) ++ plan
 
@@ -59,12 +59,12 @@ abbrev pub after_records : ℕ → List ℕ → List ℕ
 after_records zero log = log
 after_records (suc n) log = after_records n (later_records log)
 
--- the end of the complete records at the start of these bytes
+-- the end of the complete records at the start of the bytes
 abbrev pub end_in : List ℕ → ℕ
 end_in log = length log - length (after_records (number_in log) log)
 
--- These bytes may be a record whose write a crash interrupted, followed by zeros. If its weight is complete, at most that number of bytes
--- after it are not zero. If its length is complete, only zeros follow the plan.
+-- The bytes may be a record whose write a crash interrupted, followed by zeros. If the weight is complete, it is at least the number of
+-- nonzero bytes after it. If the length is complete, only zeros follow the plan.
 pub record MayBeTorn (rest : List ℕ) : Type 0 where
   pub weight : nonzero (take 4 rest) ≡ 4 → nonzero (drop 4 rest) ≤ weight_at rest
   pub size : nonzero (take 4 (drop 4 rest)) ≡ 4 → nonzero (drop (8 + size_at rest) rest) ≡ 0
@@ -74,12 +74,12 @@ abbrev pub AreRecords : ℕ → List ℕ → Type 0
 AreRecords zero log = log ≡ []
 AreRecords (suc n) log = (is_whole log ≡ true) × ((8 + size_at log ≤ length log) × AreRecords n (later_records log))
 
--- the first n records have plans
+-- the first n records contain plans
 abbrev pub ArePlans : ℕ → List ℕ → Type 0
 ArePlans zero log = Unit {0}
 ArePlans (suc n) log = (8 + size_at log ≤ length log) × (IsPlan (first_plan log) × ArePlans n (later_records log))
 
--- A plan joined with the next one: the old lengths of the first, the new lengths of the next, and the changes of both.
+-- A plan joined with the next plan: the old lengths of the first plan, the new lengths of the next plan, and the changes of both.
 abbrev pub joined : List ℕ → List ℕ → List ℕ
 joined first next = written 8 (take 8 (drop 8 next)) (written 24 (spelled (count_of first + count_of next)) first) ++ changes_of next
 
@@ -93,7 +93,7 @@ abbrev pub log_plan : ℕ → List ℕ → List ℕ
 log_plan zero log = []
 log_plan (suc n) log = joined_all (first_plan log) n (later_records log)
 
--- n plans, joined as `first`, and the next one
+-- the next plan, joined with the n plans before it, whose joined plan is `first`
 abbrev pub next_plan : ℕ → List ℕ → List ℕ → List ℕ
 next_plan zero first next = next
 next_plan (suc n) first next = joined first next
@@ -106,11 +106,11 @@ records_of redo = drop 4096 redo
 abbrev pub is_signed : List ℕ → Bool
 is_signed redo = if number_at redo 1 == 1835164787 then number_at redo 5 == 828862316 else false
 
--- a redo file is a log with records
+-- a redo file is a log that may have records: its commit byte is 1
 abbrev pub is_log : List ℕ → Bool
 is_log redo = if get_or redo 0 0 == 1 then is_signed redo else false
 
--- an empty log of this length
+-- an empty log of `len` bytes
 abbrev pub empty_log : ℕ → List ℕ
 empty_log len = 0 ∷ 115 ∷ 100 ∷ 98 ∷ 109 ∷ 108 ∷ 111 ∷ 103 ∷ 49 ∷ replicate (len - 9) 0
 
@@ -125,7 +125,7 @@ number_of image = number_by (is_log image.redo) image.redo
 abbrev pub plan_of : Image → List ℕ
 plan_of image = log_plan (number_of image) (records_of image.redo)
 
--- both data files after n plans, joined as `plan`
+-- the result of applying n plans, whose joined plan is `plan`, to both data files
 abbrev pub with_plan : ℕ → List ℕ → Image → List ℕ × List ℕ
 with_plan zero plan image = files image
 with_plan (suc n) plan image = renewed_files plan image
@@ -134,14 +134,14 @@ abbrev pub KnownBy : ℕ → List ℕ → Image → Type 0
 KnownBy zero plan image = Unit {0}
 KnownBy (suc n) plan image = IsPlan plan × Knows plan (files image)
 
--- The plans of a log can be applied again: each complete record has a plan, together they know the data files, and the bytes after them may
--- be a record that was never committed.
+-- The plans of a log can be applied again: each complete record contains a plan, the joined plan knows the data files, and the bytes after
+-- the complete records may be a record that was never committed.
 pub record CanReplay (image : Image) : Type 0 where
   pub plans : ArePlans (number_of image) (records_of image.redo)
   pub known : KnownBy (number_of image) (plan_of image) image
   pub rest : MayBeTorn (after_records (number_of image) (records_of image.redo))
 
--- the data files that an image represents, in any state that a crash may leave
+-- the data files that an image represents, even if a crash left the image
 abbrev pub files_by : Bool → Image → List ℕ × List ℕ
 files_by true image = with_plan (number_of image) (plan_of image) image
 files_by false image = stands_for image
@@ -157,12 +157,12 @@ CanRecoverBy false image = CanEnd image
 abbrev pub CanRecover : Image → Type 0
 CanRecover image = CanRecoverBy (is_log image.redo) image
 
--- an image represents these files and can be recovered
+-- the image represents these files and can be recovered
 abbrev pub Holds : List ℕ × List ℕ → Image → Type 0
 Holds both image = (files_of image ≡ both) × CanRecover image
 
--- The log that a crash may leave, compared with the log that is read. Records, commit byte and signature are the same, except that the
--- commit byte may be 0 while there are no records. The bytes of the header after the signature may be any.
+-- The log that a crash may leave, compared with the log that is read. The records and the signature are the same. The commit byte is the
+-- same, or 0 if there are no records. The other bytes of the header may be any.
 pub record IsKeptLog (read left : List ℕ) : Type 0 where
   pub records : records_of left ≡ records_of read
   pub signed : (i : ℕ) → 1 ≤ i → i < 9 → get_or left i 0 ≡ get_or read i 0
@@ -171,20 +171,21 @@ pub record IsKeptLog (read left : List ℕ) : Type 0 where
 abbrev pub KeepsLog : Image → (Image → Type 0) → Type 0
 KeepsLog seen may_leave = (c : Image) → may_leave c → IsKeptLog seen.redo c.redo
 
--- No save is under way: the commit byte that is read is not 1, and a crash leaves the same data files and no commit byte of 1.
+-- No save is in progress: the commit byte that is read is not 1, and a crash leaves the data files as they are and a commit byte that is
+-- not 1.
 pub record IsAtRest (seen : Image) (may_leave : Image → Type 0) : Type 0 where
   pub unmarked : get_or seen.redo 0 0 ≢ 1
   pub left_unmarked : (c : Image) → may_leave c → get_or c.redo 0 0 ≢ 1
   pub kept : (c : Image) → may_leave c → files c ≡ files seen
 
--- Between two saves: the log is durable, the image that is read represents its own data files, and each image that a crash leaves
+-- Between two saves, the log is durable, the image that is read represents its own data files, and each image that a crash may leave
 -- represents the same files.
 pub record IsDurable (seen : Image) (may_leave : Image → Type 0) : Type 0 where
   pub kept : KeepsLog seen may_leave
   pub now : Holds (files seen) seen
   pub holds : (c : Image) → may_leave c → Holds (files seen) c
 
--- the records end at this offset, and only zeros follow
+-- the bytes are complete records up to offset `end`, and zeros after that
 pub record HasRecords (end : ℕ) (log : List ℕ) : Type 0 where
   pub number : ℕ
   pub records : List ℕ
@@ -194,13 +195,13 @@ pub record HasRecords (end : ℕ) (log : List ℕ) : Type 0 where
   pub ends : end ≡ length records
   pub zeros : nonzero slack ≡ 0
 
--- No length shrinks from one plan to the next, and their changes together are few enough for one plan.
+-- No plan shortens a file, neither `first` nor `next`, and both plans together have few enough changes for one plan.
 pub record Grows (first next : List ℕ) : Type 0 where
   pub so_far : (g : ℕ) → old_length (data_file g) first ≤ new_length (data_file g) first
   pub on : (g : ℕ) → new_length (data_file g) first ≤ new_length (data_file g) next
   pub few : count_of first + count_of next < 2 ^ 32
 
--- a plan may follow n plans, joined as `first`
+-- `next` may follow n plans, whose joined plan is `first`
 abbrev pub CanFollow : ℕ → List ℕ → List ℕ → Type 0
 CanFollow zero first next = Unit {0}
 CanFollow (suc n) first next = Grows first next
@@ -210,13 +211,13 @@ pub record IsGrowing (plan : List ℕ) : Type 0 where
   pub pages : old_length Pages plan ≤ new_length Pages plan
   pub directory : old_length Directory plan ≤ new_length Directory plan
 
--- a growing plan may follow n plans, joined as `first`, which have this number of changes
+-- a plan that shortens no file may follow n plans, whose joined plan `first` has `count` changes
 abbrev pub MayGrow : ℕ → List ℕ → ℕ → Type 0
 MayGrow zero first count = Unit {0}
 MayGrow (suc n) first count = ((g : ℕ) → old_length (data_file g) first ≤ new_length (data_file g) first) × (count_of first ≡ count)
 
--- A save is committed and its plan is not yet applied. The plan is the last in the log, and the log is durable. The image that is read and
--- each image that a crash leaves represent the files with the plan applied.
+-- A save is committed, and its plan is not applied yet. The plan is the last in the log, and the log is durable. The image that is read and
+-- each image that a crash may leave represent the files with the plan applied.
 pub record IsCommitted (plan : List ℕ) (seen : Image) (may_leave : Image → Type 0) : Type 0 where
   pub kept : KeepsLog seen may_leave
   pub some : 1 ≤ number_of seen
@@ -224,18 +225,18 @@ pub record IsCommitted (plan : List ℕ) (seen : Image) (may_leave : Image → T
   pub now : Holds (renewed_files plan seen) seen
   pub holds : (c : Image) → may_leave c → Holds (renewed_files plan seen) c
 
--- the plan of a log in the form that code uses: `None` if there are no records
+-- `plan` is the joined plan of the log, or `None` if there are no records
 abbrev pub IsPlanOf : Image → Option (Bor (List ℕ)) → Type 0
 IsPlanOf image plan = MatchOption plan (number_of image ≡ 0) (λ p. (1 ≤ number_of image) × (p.now ≡ plan_of image))
 
--- a redo file is a log whose records end at this offset; if the commit byte is 0, it has no records
+-- the redo file is a log whose records end at offset `end`; if the commit byte is 0, it has no records
 pub record IsLogFile (end : ℕ) (redo : List ℕ) : Type 0 where
   pub signed : is_signed redo ≡ true
   pub mark : ((end ≡ 0) × (get_or redo 0 0 ≡ 0)) ⊎ (get_or redo 0 0 ≡ 1)
   pub place : HasRecords end (records_of redo)
 
--- A log can take the next record: its records end at this offset in this room after the header, and their plans have this number of
--- changes.
+-- The log is ready for the next record: it has `room` bytes after the header, its records end at offset `end` of these bytes, and the plans
+-- of the records have `count` changes.
 pub record IsReady (end room count : ℕ) (seen : Image) (may_leave : Image → Type 0) : Type 0 where
   pub durable : IsDurable seen may_leave
   pub file : IsLogFile end seen.redo

@@ -11,11 +11,11 @@ unfoldable pub words_bytes : List ℕ → List ℕ
 words_bytes [] = []
 words_bytes (word ∷ words) = to_le_bytes w64 word ++ words_bytes words
 
--- the word at this index
+-- the word with this index
 abbrev pub word_at : ℕ → List ℕ → ℕ
 word_at index bytes = from_le_bytes w64 (take 8 (drop (8 * index) bytes))
 
--- a hint, after a word that is 1 if there is a hint
+-- the words of an optional hint: 1 and the numbers of the hint, or 12 zeros
 abbrev pub applied_words : Option AppliedHint → List ℕ
 applied_words None = replicate 12 0
 applied_words (Some applied) =
@@ -29,6 +29,6 @@ notes_words notes = 3563595725229155443 ∷ notes.saves ∷ applied_words notes.
 abbrev pub notes_bytes : Notes → List ℕ
 notes_bytes notes = words_bytes (notes_words notes) ++ to_le_bytes w64 (hash_of Unsigned (words_bytes (notes_words notes)))
 
--- each number of the notes fits in 8 bytes
+-- each number of the notes is below 2^64
 abbrev pub AreWords : Notes → Type 0
 AreWords notes = (i : ℕ) → get_or (notes_words notes) i 0 < 2 ^ 64

@@ -8,13 +8,13 @@ use Rattle.sdbm_log.specs.Protocol.{commit_acts, apply_acts, close_acts, clear_a
 use Rattle.sdbm_log.specs.declared.log.Log.{Log}
 use Rattle.sdbm_log.specs.declared.records.LogFiles.{LogFiles}
 
--- A log can take the record of a plan without being emptied: the plan shortens no file, and the record fits.
+-- The log can take the record of a plan without being emptied: the plan shortens no file, and the record fits.
 pub record CanTake (log : Log) (plan : List ℕ) : Type 0 where
   pub growing : IsGrowing plan
   pub room : log.end + (8 + length plan) ≤ log.room
   pub few : log.count + count_of plan < 2 ^ 32
 
--- The log is unchanged.
+-- The log has room, so there are no calls, and the log is unchanged.
 pub record IsAsBefore (log next : Log) (plan : List ℕ) (acts : List Act) : Type 0 where
   pub nothing : acts ≡ []
   pub same : next ≡ log
@@ -28,7 +28,7 @@ pub record IsCleared (log next : Log) (plan : List ℕ) (acts : List Act) : Type
   pub end : next.end ≡ 0
   pub count : next.count ≡ 0
 
--- The log is closed and replaced by a longer one, because the record is longer than its room.
+-- The log is closed and replaced by a longer log, because the old one is too short for the record.
 pub record IsStarted (log next : Log) (plan : List ℕ) (acts : List Act) : Type 0 where
   pub short : log.room < 8 + length plan
   pub started : acts ≡ close_acts ++ start_acts (4096 + next.room)
@@ -37,19 +37,19 @@ pub record IsStarted (log next : Log) (plan : List ℕ) (acts : List Act) : Type
   pub end : next.end ≡ 0
   pub count : next.count ≡ 0
 
--- Calls that make room for the record of a plan, and the log after them.
+-- The calls make room for the record of a plan; `next` is the log after these calls.
 pub record MakesRoom (log next : Log) (plan : List ℕ) (acts : List Act) : Type 0 where
   pub how : IsAsBefore log next plan acts ⊎ (IsCleared log next plan acts ⊎ IsStarted log next plan acts)
   pub fits : next.end + (8 + length plan) ≤ next.room
   pub few : next.count + count_of plan < 2 ^ 32
 
--- The calls of a save after its commit, and the log after them. If a file gets shorter, the log is emptied.
+-- The calls of a save after its commit, and the log after these calls. If a file gets shorter, the log is emptied.
 abbrev pub IsApplied : Log → Log → List ℕ → List Act → Type 0
 IsApplied old next plan acts =
     (IsGrowing plan × ((acts ≡ apply_acts plan) × (next ≡ record { end = old.end + (8 + length plan); room = old.room; count = old.count + count_of plan })))
     ⊎ ((IsGrowing plan → ⊥) × ((acts ≡ apply_acts plan ++ (close_acts ++ clear_acts (old.end + (8 + length plan)))) × (next ≡ record { end = 0; room = old.room; count = 0 })))
 
--- the calls of a save: those that commit it, and those that apply it
+-- the calls of a save: `commit` commits it, and `apply` applies its plan
 pub record AreSaveCalls (log next : Log) (plan : List ℕ) (commit apply : List Act) : Type 0 where
   pub making : List Act
   pub mid : Log
@@ -57,26 +57,27 @@ pub record AreSaveCalls (log next : Log) (plan : List ℕ) (commit apply : List 
   pub commits : commit ≡ making ++ commit_acts mid.end (record_of plan)
   pub applies : IsApplied mid next plan apply
 
--- three files that were read
+-- the image of three files that were read
 abbrev pub image_in : LogFiles → Image
 image_in found = record { pages = found.pages.now; directory = found.directory.now; redo = found.redo.now }
 
--- The files that were read of an image: the redo file, and both data files if the commit byte is 1.
+-- The files were read from this image. If the commit byte is not 1, the data files need not have been read.
 pub record Reads (found : LogFiles) (image : Image) : Type 0 where
   pub redo : image.redo ≡ found.redo.now
   pub both : get_or found.redo.now 0 0 ≡ 1 → files image ≡ (found.pages.now, found.directory.now)
 
--- A plan turns the data files into those that the three files represent. It is all plans of a log, or the committed plan of a single save.
+-- The plan turns the data files into those that the image represents. It is the joined plan of a log, or the committed plan of a single
+-- save.
 abbrev pub IsRedoPlan : Image → List ℕ → Type 0
 IsRedoPlan image plan =
     ((is_log image.redo ≡ true) × ((1 ≤ number_of image) × (plan ≡ plan_of image)))
     ⊎ ((is_log image.redo ≡ false) × ((get_or image.redo 0 0 ≡ 1) × (plan ≡ drop 1 image.redo)))
 
--- The redo file has no plan to be applied.
+-- The redo file has no plan that must be applied.
 abbrev pub HasNoPlan : Image → Type 0
 HasNoPlan image = ((is_log image.redo ≡ true) × (number_of image ≡ 0)) ⊎ (get_or image.redo 0 0 ≢ 1)
 
--- The calls that recover the files: they apply the plans of the log, or of the committed save, and clear the commit byte.
+-- The calls that recover the files: apply the plans of the log or the plan of the committed save, and clear the commit byte.
 abbrev pub redo_acts : ℕ → List ℕ → List Act
 redo_acts zero plan = []
 redo_acts (suc n) plan = apply_acts plan
@@ -88,11 +89,11 @@ recover_by false image = apply_acts (drop 1 image.redo) ++ close_acts
 abbrev pub recover_acts : Image → List Act
 recover_acts image = if get_or image.redo 0 0 == 1 then recover_by (is_log image.redo) image else []
 
--- the calls that only recover the files
+-- the calls that recover the files without opening a log
 abbrev pub AreRecoverCalls : Image → List Act → Type 0
 AreRecoverCalls image acts = acts ≡ settle_acts ++ recover_acts image
 
--- the redo file is a log that can be reused, and these calls empty it
+-- the redo file is a log that can be reused, and the calls empty it
 pub record IsReused (redo : List ℕ) (room : ℕ) (acts : List Act) : Type 0 where
   pub signed : is_signed redo ≡ true
   pub mark : get_or redo 0 0 ≤ 1
@@ -100,11 +101,11 @@ pub record IsReused (redo : List ℕ) (room : ℕ) (acts : List Act) : Type 0 wh
   pub near : room ≤ 4000000000
   pub how : ((acts ≡ []) × (nonzero (records_of redo) ≡ 0)) ⊎ ((n : ℕ) × (acts ≡ clear_acts n) × ((n ≤ room) × (nonzero (drop n (records_of redo)) ≡ 0)))
 
--- calls that make the redo file an empty log with this room
+-- the calls make the redo file an empty log with this room
 abbrev pub IsRestart : List ℕ → ℕ → List Act → Type 0
 IsRestart redo room acts = IsReused redo room acts ⊎ ((acts ≡ start_acts (4096 + room)) × (4096 + room ≤ 4000000000))
 
--- the calls that open a log, and its room afterwards
+-- the calls open a log, which has this room afterwards
 pub record AreOpenCalls (image : Image) (room : ℕ) (acts : List Act) : Type 0 where
   pub last : List Act
   pub restart : IsRestart image.redo room last

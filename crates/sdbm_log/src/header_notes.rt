@@ -50,21 +50,21 @@ pub struct BootId {
     pub second: u64,
 }
 
-/// The state of a data file. It changes if the file is changed or replaced.
+/// The state of a data file. It is different after the file is changed or replaced.
 #[derive(Clone, Copy, PartialEq, Eq)]
 pub struct FileState {
     /// The number of the device.
     pub device: u64,
     /// The number of the inode on the device.
     pub inode: u64,
-    /// Its length in bytes.
+    /// The length of the file in bytes.
     pub len: u64,
-    /// The time of its last change (`ctime`), in nanoseconds since 1970.
+    /// The time of the file's last change (`ctime`), in nanoseconds since 1970.
     pub changed: u64,
 }
 
 impl Notes {
-    /// The notes as bytes, for `NOTES_START`. `from_bytes` reads them back.
+    /// Returns the notes as bytes, which belong at `NOTES_START`. `from_bytes` reads them back.
     pub fn bytes(&self) -> [u8; NOTES_LEN]
         ensures is { result ≡ notes_bytes self.now }
         ensures words { AreWords self.now }
@@ -76,7 +76,7 @@ impl Notes {
         bytes
     }
 
-    // The words before the hash.
+    // Returns the words before the hash.
     fn words(&self) -> [u64; WORDS]
         ensures { result ≡ notes_words self.now }
     {
@@ -86,7 +86,7 @@ impl Notes {
         }
     }
 
-    /// The notes that these bytes represent. `None` if they do not represent notes.
+    /// Returns the notes that these bytes represent, or `None` if they represent no notes.
     pub fn from_bytes(bytes: &[u8]) -> Option<Notes>
         ensures some { IfSome result (λ notes. notes_bytes notes ≡ bytes.now) }
         ensures read { (notes : Notes) → AreWords notes → notes_bytes notes ≡ bytes.now → result ≡ Some notes }
@@ -102,7 +102,7 @@ impl Notes {
     }
 }
 
-// The words of notes that have a hint.
+// Returns the words of notes that have a hint.
 fn applied_words(saves: u64, applied: &AppliedHint) -> [u64; WORDS]
     ensures { (notes : Notes) → notes.saves ≡ saves → notes.applied ≡ Some applied.now → result ≡ notes_words notes }
 {
@@ -124,7 +124,7 @@ fn applied_words(saves: u64, applied: &AppliedHint) -> [u64; WORDS]
     ]
 }
 
-// Overwrites the first bytes with words.
+// Writes words over the first bytes, low byte first.
 fn spell_words(words: &[u64], bytes: &mut [u8])
     requires { 8 * length words.now ≤ length bytes.old }
     ensures small { (i : ℕ) → get_or words.now i 0 < 2 ^ 64 }
@@ -135,7 +135,7 @@ fn spell_words(words: &[u64], bytes: &mut [u8])
     }
 }
 
-// The only notes that can have these bytes.
+// Returns the only notes that may have these bytes. The caller checks whether they have these bytes.
 fn parse(bytes: &[u8]) -> Notes
     requires { length bytes.now ≡ 120 }
     ensures { (notes : Notes) → AreWords notes → notes_bytes notes ≡ bytes.now → result ≡ notes }
@@ -162,7 +162,7 @@ fn parse(bytes: &[u8]) -> Notes
     }
 }
 
-// The state of a file in four words.
+// Reads the state of a file from four words.
 fn state(bytes: &[u8], at: usize) -> FileState
     requires { 8 * at + 32 ≤ length bytes.now }
     ensures device { result.device ≡ word_at at bytes.now }
@@ -178,7 +178,7 @@ fn state(bytes: &[u8], at: usize) -> FileState
     }
 }
 
-// The word at this index.
+// Returns the word with this index.
 fn word(bytes: &[u8], index: usize) -> u64
     requires { 8 * index + 8 ≤ length bytes.now }
     ensures { result ≡ word_at index bytes.now }
@@ -195,9 +195,9 @@ fn is_same(one: &[u8], other: &[u8]) -> bool
     one == other
 }
 
-/// Returns whether notes say that all records of a log are applied. `now` has the end of its records (`records_end`), the current boot, and
-/// the current states of both data files. After the next save the records have a different end, so the hint of the earlier save does not
-/// match. Write notes without a hint before the log is emptied: later records may end at the same place.
+/// Returns `true` if the notes say that all records of a log are applied. `now` has the end of the log's records (`records_end`), the
+/// current boot, and the current states of both data files. The next save changes the end of the records, so an old hint no longer matches.
+/// Before the log is emptied, write notes without a hint: later records may end at the same offset.
 pub fn says_applied(notes: &Notes, now: &AppliedHint) -> bool
     ensures { IsTrue result ↔ notes.now.applied ≡ Some now.now }
 {

@@ -1,4 +1,4 @@
-// Checks whether a plan of many changes knows the data files, in time that grows with the length of the plan.
+// Checks whether a plan of many changes knows the data files, in time that is on average proportional to the length of the plan.
 ghost use Rattle.std.specs.Prelude.{◌≡◌, ◌⊎◌, ◌<◌, ◌≤◌, ◌+◌, ◌↔◌, ℕ, List, length, get_or, true, nat_eq, IsTrue, OnOk, IfOk};
 ghost use Rattle.std.specs.HashSet.{contains};
 ghost use Rattle.sdbm_saves.specs.Redo.{file_of, offset_of, size_of, span_of, rest_of, IsPlan, IsChangeOf, IsBetween, Offers, HasByte, Knows};
@@ -9,11 +9,12 @@ use std::alloc::{AllocError, Global};
 use std::collections::HashSet;
 use std::hash::{BuildHasherDefault, FoldHasher};
 
-// Offsets in one data file.
+// A set of offsets in one data file.
 type Places = HashSet<usize, BuildHasherDefault<FoldHasher>, Global>;
 
-// Returns whether a plan knows the files. The places whose byte a change itself does not have are collected in a set. A log that changes
-// the same bytes over and over has many of them, and a search through all changes for each of them would be slow.
+// Returns `true` if a plan knows the files. First collects all offsets at which some change does not have the file's byte, then removes
+// those at which another change has it. A log that changes the same bytes again and again has many such offsets, and a search through all
+// changes for each of them would be slow.
 pub(crate) fn knows(alloc: Global, plan: &[u8], both: Contents<'_>) -> Result<bool, AllocError>
     requires { IsPlan plan.now }
     ensures { IfOk result (λ known. IsTrue known ↔ Knows plan.now (both.entry.pages.now, both.entry.directory.now)) }
@@ -30,14 +31,14 @@ pub(crate) fn knows(alloc: Global, plan: &[u8], both: Contents<'_>) -> Result<bo
     knows_file(alloc, plan, DiskFile::Directory, both.directory)
 }
 
-// Returns whether a length is one of two, or between them.
+// Returns `true` if a length is one of two lengths or between them.
 fn is_between(one: usize, other: usize, len: usize) -> bool
     ensures { IsTrue result ↔ IsBetween one other len }
 {
     one.min(other) <= len && len <= one.max(other)
 }
 
-// Returns whether a plan knows one of the files: if a change does not have the byte at a place that it covers, another change must have it.
+// Returns `true` if a plan knows the bytes of one file: at each offset that changes cover, some change has the file's byte.
 fn knows_file(alloc: Global, plan: &[u8], file: DiskFile, bytes: &[u8]) -> Result<bool, AllocError>
     requires { IsPlan plan.now }
     ensures { IfOk result (λ known. IsTrue known ↔ KnowsFile plan.now file bytes.now) }
@@ -47,7 +48,7 @@ fn knows_file(alloc: Global, plan: &[u8], file: DiskFile, bytes: &[u8]) -> Resul
     Ok(places.is_empty())
 }
 
-// The places of a file that some change covers without having their byte.
+// Returns the offsets of a file at which some change does not have the file's byte.
 fn lacking(alloc: Global, plan: &[u8], file: DiskFile, bytes: &[u8]) -> Result<Places, AllocError>
     requires { IsPlan plan.now }
     ensures all { IfOk result (λ places. (change : List ℕ) → IsChangeOf plan.now change → file_of change ≡ file → (i : ℕ) → i < size_of change
@@ -64,7 +65,7 @@ fn lacking(alloc: Global, plan: &[u8], file: DiskFile, bytes: &[u8]) -> Result<P
     Ok(places)
 }
 
-// Adds the places of a file whose byte a change does not have.
+// Adds the offsets of a file at which a change does not have the file's byte.
 fn add_lacking(
     places: &mut Places,
     change: &[u8],
@@ -87,7 +88,7 @@ fn add_lacking(
     Ok(())
 }
 
-// Adds the place of one byte of a change, if the change does not have the byte.
+// Adds the offset of one byte of a change if the change does not have the file's byte there.
 fn add_place(
     places: &mut Places,
     change: &[u8],
@@ -110,7 +111,7 @@ fn add_place(
     }
 }
 
-// Removes the places of a file whose byte some change has.
+// Removes the offsets of a file at which some change has the file's byte.
 fn strike(places: &mut Places, plan: &[u8], file: DiskFile, bytes: &[u8])
     requires { IsPlan plan.now }
     ensures only { (at : ℕ) → contains nat_eq places.new at ≡ true → (contains nat_eq places.old at ≡ true) × (HasByte plan.now file at (get_or bytes.now at 0) → ⊥) }
@@ -124,7 +125,7 @@ fn strike(places: &mut Places, plan: &[u8], file: DiskFile, bytes: &[u8])
     }
 }
 
-// Removes the places of a file whose byte a change has.
+// Removes the offsets of a file at which this change has the file's byte.
 fn strike_own(places: &mut Places, change: &[u8], file: DiskFile, bytes: &[u8])
     requires whole { span_of change.now ≤ length change.now }
     ensures only { (at : ℕ) → contains nat_eq places.new at ≡ true → (contains nat_eq places.old at ≡ true) × (Offers change.now file at (get_or bytes.now at 0) → ⊥) }
@@ -139,7 +140,7 @@ fn strike_own(places: &mut Places, change: &[u8], file: DiskFile, bytes: &[u8])
     }
 }
 
-// Removes the place of one byte of a change, if the change has the byte.
+// Removes the offset of one byte of a change if the change has the file's byte there.
 fn strike_place(places: &mut Places, change: &[u8], index: usize, bytes: &[u8])
     requires whole { span_of change.now ≤ length change.now }
     requires covered { index < size_of change.now }
@@ -153,7 +154,7 @@ fn strike_place(places: &mut Places, change: &[u8], index: usize, bytes: &[u8])
     places.remove(&at);
 }
 
-// Returns whether a change has this byte, old or new, at this index.
+// Returns `true` if `byte` is the new or the old byte of a change at this index.
 fn has(change: &[u8], index: usize, byte: u8) -> bool
     requires whole { span_of change.now ≤ length change.now }
     requires covered { index < size_of change.now }
@@ -165,7 +166,7 @@ fn has(change: &[u8], index: usize, byte: u8) -> bool
     data[index] == byte || was[index] == byte
 }
 
-// The file of a change.
+// Returns the file of a change.
 fn file_of(change: &[u8]) -> DiskFile
     requires { 1 ≤ length change.now }
     ensures { result ≡ file_of change.now }
@@ -177,7 +178,7 @@ fn file_of(change: &[u8]) -> DiskFile
     }
 }
 
-// The bytes after the first change.
+// Returns the bytes after the first change.
 fn rest_of(changes: &[u8]) -> &[u8]
     requires { span_of changes.now ≤ length changes.now }
     ensures { result.now ≡ rest_of changes.now }

@@ -1,6 +1,6 @@
-//! A log of saves. A save appends one record to the redo file and syncs it once, which commits it. Then both data files are written in
-//! place without a sync. A checkpoint syncs them and empties the log. The functions here return lists of steps, and the caller makes the
-//! calls, for example with `make_steps` on a disk. Nothing here opens, locks or names files.
+//! A log of saves. A save appends one record to the redo file and syncs this file once, which commits the save. Then both data files are
+//! written in place without a sync. A checkpoint syncs the data files and empties the log. The functions here return lists of steps, and
+//! the caller makes the calls, for example with `make_steps` on a disk. Nothing here opens, locks or names files.
 #![tactic(auto)]
 
 mod header_notes;

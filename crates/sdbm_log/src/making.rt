@@ -1,4 +1,4 @@
-// Makes steps on a disk.
+// Makes the calls of steps on a disk.
 ghost use Rattle.std.specs.Prelude.{◌≡◌, ◌⊎◌, ◌≤◌, List, ℕ, length, take, drop, replicate, OnOk, IfOk};
 ghost use Rattle.sdbm_saves.specs.Acts.{acted, seen_after, LeftBy, LeftAfter};
 ghost use Rattle.sdbm_saves.specs.Disk.{Image, content, put, written, Torn, Within, Follows, Through, LeavesOnly, HasCause};
@@ -9,11 +9,11 @@ use crate::steps::Step;
 use sdbm_saves::{Disk, DiskError, DiskFile};
 use std::alloc::{AllocError, Global};
 
-/// Makes steps on a disk, in order. Allocates the zeros that are written.
+/// Makes the calls of steps on a disk, in order. Allocates the zeros that are written.
 ///
 /// # Errors
 ///
-/// The error of the first call that fails, after which no call is made, or `Memory`.
+/// The error of the first call that fails; no later call is made. `Memory` if allocation fails.
 pub fn make_steps<D: Disk>(
     alloc: Global,
     disk: &mut D,
@@ -25,7 +25,7 @@ pub fn make_steps<D: Disk>(
     ensures seen { OnOk result (D.seen disk.new ≡ seen_after (acts_of bytes.now steps.now) (D.seen disk.old)) }
     ensures left { OnOk result ((c : Image) → D.may_leave disk.new c → LeftAfter (acts_of bytes.now steps.now) (D.seen disk.old) (D.may_leave disk.old) c) }
 
-    // A crash during the call leaves what a crash during these calls leaves.
+    // A crash during `make_steps` leaves only images that a crash may leave before, during or after the calls of the steps.
     ensures any_moment { LeavesOnly D.moment D.left_since disk.old disk.new (AnyMoment (acts_of bytes.now steps.now) (D.seen disk.old) (D.may_leave disk.old)) }
 
     // `Failed` is returned only if the disk has failed.
@@ -37,7 +37,7 @@ pub fn make_steps<D: Disk>(
     Ok(())
 }
 
-// Makes one step.
+// Makes the call of one step.
 fn make_step<D: Disk>(
     alloc: Global,
     disk: &mut D,
@@ -64,7 +64,7 @@ fn make_step<D: Disk>(
     }
 }
 
-// Returns a part of a buffer, as far as the buffer has it.
+// Returns `len` bytes of a buffer from `from` on, or fewer if the buffer ends before.
 pub(crate) fn part(bytes: &[u8], from: usize, len: usize) -> &[u8]
     ensures { result.now ≡ take len (drop from bytes.now) }
 {

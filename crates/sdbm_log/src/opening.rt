@@ -34,10 +34,10 @@ pub struct OpenSteps {
     pub log: Log,
 }
 
-/// The steps that open a log of at least `room` bytes. They sync the files that were read, recover them if the commit byte of the redo file
-/// is 1, and make the redo file an empty log. A closed log is reused. Otherwise the redo file becomes a log, and its bytes are written so
-/// that the disk has room for it. The bytes of the data files are needed only if the commit byte is 1. If a step fails, make no further
-/// step, and open the files again.
+/// Returns the steps that open a log of at least `room` bytes. The steps sync the files that were read, recover them if the commit byte of
+/// the redo file is 1, and make the redo file an empty log. A log of suitable length is reused; any other redo file is overwritten with
+/// zeros, so that the disk has room for the log. The bytes of the data files are needed only if the commit byte is 1. If a step fails, make
+/// no further step, and open the files again.
 ///
 /// # Errors
 ///
@@ -64,7 +64,7 @@ pub fn open_steps<C: Crashes>(
     Ok(steps_for(alloc, files, plan, room)?)
 }
 
-// The steps that open a log, given the plan to be applied.
+// Returns the steps that open a log, given the plan that must be applied, if any.
 fn steps_for(
     alloc: Global,
     files: LogFiles<'_>,
@@ -95,7 +95,7 @@ fn steps_for(
     })
 }
 
-// Adds the steps that recover the files, and appends the plan that they apply to the buffer.
+// Adds the steps that recover the files, and appends the plan that these steps apply to the buffer.
 fn push_recover(
     steps: &mut Vec<Step>,
     bytes: &mut Vec<u8>,
@@ -154,7 +154,7 @@ fn push_restart(steps: &mut Vec<Step>, redo: &[u8], room: usize) -> Result<usize
     Ok(redo.len() - HEADER)
 }
 
-// Returns whether a redo file is a log that can be reused: its header is complete, and its room is at least `room` and not far too large.
+// Returns `true` if a redo file is a log that can be reused: it has a signature and enough room, and is not longer than `MOST_BYTES`.
 fn is_reusable(redo: &[u8], room: usize) -> bool
     requires small { room ≤ 1073741824 }
     ensures { IsTrue result → (is_signed redo.now ≡ true) × ((get_or redo.now 0 0 ≤ 1) × ((4096 + room ≤ length redo.now) × (length redo.now ≤ 4000000000))) }
@@ -165,8 +165,8 @@ fn is_reusable(redo: &[u8], room: usize) -> bool
     byte_at(redo, 0) <= 1 && is_signed(redo)
 }
 
-/// The steps that recover the files of an interrupted save. They sync the files that were read, apply the plans of the redo file to both
-/// data files, and clear its commit byte. Afterwards the redo file has no meaning.
+/// Returns the steps that recover the files after an interrupted save. The steps sync the files that were read, apply the plans of the redo
+/// file to both data files, and clear the commit byte. Afterwards the other bytes of the redo file have no meaning.
 ///
 /// # Errors
 ///
@@ -186,7 +186,7 @@ pub fn recover_steps<C: Crashes>(alloc: Global, files: LogFiles<'_>) -> Result<R
     Ok(recover_for(alloc, files, plan)?)
 }
 
-// The steps that recover the files, given the plan to be applied.
+// Returns the steps that recover the files, given the plan that must be applied, if any.
 fn recover_for(
     alloc: Global,
     files: LogFiles<'_>,
@@ -205,7 +205,7 @@ fn recover_for(
     Ok(ReadSteps { bytes, steps })
 }
 
-/// The steps that close a log: they sync both data files, then clear the commit byte. They write no bytes of a buffer.
+/// Returns the steps that close a log: sync both data files, then clear the commit byte. The steps need no buffer.
 ///
 /// # Errors
 ///

@@ -1,4 +1,4 @@
-// Computes the data files that the three files represent, for a reader that may not write them.
+// Computes the data files that the three files represent, for a reader that may not write to the files.
 ghost use Rattle.std.specs.Prelude.{◌≡◌, IfOk, IfErr, IfSome, IsNone};
 ghost use Rattle.sdbm_saves.specs.Acts.{seen_after};
 ghost use Rattle.sdbm_saves.specs.Disk.{Image};
@@ -13,7 +13,7 @@ use crate::records::{LogFault, LogFiles, plan_of};
 use crate::steps::{Step, push_apply};
 use std::alloc::{AllocError, Global};
 
-/// The steps that turn copies of the data files into those that the three files represent.
+/// Steps that turn copies of the data files into the data files that the three files represent.
 #[derive(Drop)]
 pub struct ReadSteps {
     /// The bytes that the steps write.
@@ -21,8 +21,8 @@ pub struct ReadSteps {
     pub steps: Vec<Step>,
 }
 
-/// The steps that turn copies of the data files, in memory, into those that the three files represent. The list is empty if the redo file
-/// has no plan. The bytes of the data files are needed only if the commit byte of the redo file is 1.
+/// Returns the steps that turn copies of the data files, in memory, into the data files that the three files represent. There are no steps
+/// if the redo file has no plan. The bytes of the data files are needed only if the commit byte of the redo file is 1.
 ///
 /// # Errors
 ///
@@ -38,7 +38,7 @@ pub fn read_steps(alloc: Global, found: LogFiles<'_>) -> Result<ReadSteps, LogFa
     Ok(steps_of(alloc, found, plan)?)
 }
 
-// The steps that apply a plan.
+// Returns the steps that apply a plan, or no steps without a plan.
 fn steps_of(
     alloc: Global,
     found: LogFiles<'_>,

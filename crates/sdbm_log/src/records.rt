@@ -1,4 +1,4 @@
-// The records of a log, and their plans joined into one plan.
+// The records of a log, and the plans of the records joined into one plan.
 ghost use Rattle.std.specs.Prelude.{◌≡◌, ◌-◌, ◌≤◌, ◌+◌, ◌++◌, ◌↔◌, ℕ, ◌∷◌, [], ◌<◌, ◌^◌, length, take, drop, get_or, true, false, IsTrue, OnOk, IfOk, IfSome, IsNone, IfErr};
 ghost use Rattle.sdbm_saves.specs.Redo.{number_at, count_of, IsPlan, Knows};
 ghost use Rattle.sdbm_saves.specs.Disk.{written};
@@ -17,12 +17,12 @@ const SDBM: usize = 1835164787;
 
 const LOG1: usize = 828862316;
 
-/// Why an interrupted run cannot be recovered.
+/// The reason why an interrupted run cannot be recovered.
 #[derive(Clone, Copy, Debug, PartialEq, Eq)]
 pub enum LogFault {
     /// Out of memory.
     NoMemory,
-    /// A plan in the redo file is incomplete, or the plans do not belong to these data files.
+    /// A plan in the redo file is invalid, or the plans do not know these data files.
     Foreign,
     /// A record in the log is damaged in a way that no crash can cause.
     Damaged,
@@ -38,7 +38,7 @@ impl From<AllocError> for LogFault {
     }
 }
 
-/// Returns whether a redo file is a log with records: byte 0 is 1, and "sdbmlog1" follows.
+/// Returns `true` if a redo file is a log that may have records: byte 0 is 1, and "sdbmlog1" follows.
 pub fn is_log(redo: &[u8]) -> bool
     ensures { result ≡ is_log redo.now }
 {
@@ -48,7 +48,7 @@ pub fn is_log(redo: &[u8]) -> bool
     is_signed(redo)
 }
 
-/// The number of bytes after the header of a redo file that are used. Only zeros follow them.
+/// Returns the number of bytes after the header of a redo file, up to the last nonzero byte.
 pub(crate) fn used_room(redo: &[u8]) -> usize
     ensures inside { result ≤ length (records_of redo.now) }
     ensures rest { nonzero (drop result (records_of redo.now)) ≡ 0 }
@@ -63,7 +63,7 @@ pub(crate) fn used_room(redo: &[u8]) -> usize
     0
 }
 
-/// The end of the complete records of a log, counted from the end of the header. `Log` has the same value.
+/// Returns the end of the complete records of a log, counted from the end of the header. This is `end` of `Log`.
 pub fn records_end(redo: &[u8]) -> usize
     ensures is { result ≡ end_in (records_of redo.now) }
     ensures log { (end : ℕ) → HasRecords end (records_of redo.now) → result ≡ end }
@@ -73,7 +73,7 @@ pub fn records_end(redo: &[u8]) -> usize
     log.len() - rest.len()
 }
 
-// Returns whether the signature of a log follows byte 0.
+// Returns `true` if the signature of a log follows byte 0.
 pub(crate) fn is_signed(redo: &[u8]) -> bool
     ensures { result ≡ is_signed redo.now }
 {
@@ -107,13 +107,13 @@ pub struct LogFiles<'a> {
     pub redo: &'a [u8],
 }
 
-/// The plan that turns the data files into those that the three files represent: all plans of a log joined into one, or the committed plan
-/// of a single save. `None` if there is nothing to apply.
+/// Returns the plan that turns the data files into those that the three files represent: all plans of a log joined into one, or the
+/// committed plan of a single save. Returns `None` if there is nothing to apply.
 ///
 /// # Errors
 ///
-/// If the files cannot be recovered: `Foreign` if the redo file has no valid plan, or its plan does not know the data files, and `Damaged`
-/// if a record is damaged. `NoMemory` if allocation fails.
+/// `Foreign` if the redo file has no valid plan, or its plan does not know the data files; `Damaged` if a record is damaged. In both cases
+/// the files cannot be recovered. `NoMemory` if allocation fails.
 pub fn plan_of(alloc: Global, files: LogFiles<'_>) -> Result<Option<Vec<u8>>, LogFault>
     ensures some { IfOk result (λ found_plan. IfSome found_plan (λ plan. IsRedoPlan (image_in files.entry) plan.items × CanRecover (image_in files.entry))) }
     ensures plan { IfOk result (λ found_plan. IfSome found_plan (λ plan. IsPlan plan.items)) }
@@ -127,7 +127,7 @@ pub fn plan_of(alloc: Global, files: LogFiles<'_>) -> Result<Option<Vec<u8>>, Lo
     plan_of_log(alloc, files)
 }
 
-// Like `plan_of`, if the redo file is not a log.
+// Does the work of `plan_of` if the redo file is not a log.
 fn old_plan(alloc: Global, files: LogFiles<'_>) -> Result<Option<Vec<u8>>, LogFault>
     requires { is_log files.redo.now ≡ false }
     ensures some { IfOk result (λ found_plan. IfSome found_plan (λ plan. IsRedoPlan (image_in files.entry) plan.items × CanRecover (image_in files.entry))) }
@@ -149,7 +149,7 @@ fn old_plan(alloc: Global, files: LogFiles<'_>) -> Result<Option<Vec<u8>>, LogFa
     Ok(Some(plan.to_vec(alloc)?))
 }
 
-// Both data files.
+// Borrows the bytes of both data files.
 fn contents<'a>(files: LogFiles<'a>) -> Contents<'a>
     ensures pages { result.pages.now ≡ files.entry.pages.now }
     ensures directory { result.directory.now ≡ files.entry.directory.now }
@@ -160,7 +160,7 @@ fn contents<'a>(files: LogFiles<'a>) -> Contents<'a>
     }
 }
 
-// Like `plan_of`, if the redo file is a log.
+// Does the work of `plan_of` if the redo file is a log.
 fn plan_of_log(alloc: Global, files: LogFiles<'_>) -> Result<Option<Vec<u8>>, LogFault>
     requires { is_log files.redo.now ≡ true }
     ensures some { IfOk result (λ found_plan. IfSome found_plan (λ plan. IsRedoPlan (image_in files.entry) plan.items × CanRecover (image_in files.entry))) }
@@ -191,14 +191,14 @@ fn plan_of_log(alloc: Global, files: LogFiles<'_>) -> Result<Option<Vec<u8>>, Lo
     Ok(Some(plan))
 }
 
-// The bytes of a redo file after the header.
+// Returns the bytes of a redo file after the header.
 fn records_of(redo: &[u8]) -> &[u8]
     ensures { result.now ≡ records_of redo.now }
 {
     &redo[redo.len().min(HEADER)..]
 }
 
-// The number of complete records at the start of a log.
+// Returns the number of complete records at the start of a log.
 fn wholes(log: &[u8]) -> usize
     ensures { result ≡ number_in log.now }
 {
@@ -212,7 +212,7 @@ fn wholes(log: &[u8]) -> usize
     log.len()
 }
 
-// The bytes after the first `count` records of a log.
+// Returns the bytes after the first `count` records of a log.
 fn after_records(count: usize, log: &[u8]) -> &[u8]
     ensures { result.now ≡ after_records count log.now }
 {
@@ -223,15 +223,14 @@ fn after_records(count: usize, log: &[u8]) -> &[u8]
     rest
 }
 
-// Returns whether these bytes may be a record whose write a crash interrupted.
+// Returns `true` if these bytes may be a record whose write a crash interrupted.
 fn may_be_torn(rest: &[u8]) -> bool
     ensures { IsTrue result ↔ MayBeTorn rest.now }
 {
     may_have_weight(rest) && may_have_size(rest)
 }
 
-// Returns whether the number of nonzero bytes after the weight of a record is at most the weight. Returns `true` if the weight is
-// incomplete.
+// Returns `true` if the weight of a record is incomplete, or if at most that number of bytes after the weight are nonzero.
 fn may_have_weight(rest: &[u8]) -> bool
     ensures { IsTrue result ↔ (nonzero (take 4 rest.now) ≡ 4 → nonzero (drop 4 rest.now) ≤ weight_at rest.now) }
 {
@@ -244,7 +243,7 @@ fn may_have_weight(rest: &[u8]) -> bool
     nonzero(&rest[4..]) <= weight(rest)
 }
 
-// Returns whether only zeros follow the plan of a record. Returns `true` if the length of the plan is incomplete.
+// Returns `true` if the length of the plan of a record is incomplete, or if only zeros follow the plan.
 fn may_have_size(rest: &[u8]) -> bool
     ensures { IsTrue result ↔ (nonzero (take 4 (drop 4 rest.now)) ≡ 4 → nonzero (drop (8 + size_at rest.now) rest.now) ≡ 0) }
 {
@@ -257,7 +256,7 @@ fn may_have_size(rest: &[u8]) -> bool
     nonzero(after_first(rest)) == 0
 }
 
-// Returns whether a log starts with a complete record.
+// Returns `true` if a log starts with a complete record.
 fn is_whole(log: &[u8]) -> bool
     ensures { result ≡ is_whole log.now }
 {
@@ -271,7 +270,7 @@ fn is_whole(log: &[u8]) -> bool
     nonzero(&log[4..end]) == weight(log)
 }
 
-// The weight of the first record of a log.
+// Returns the weight of the first record of a log.
 #[tactic(auto, unfolding(crate::specs::Log::weight_at))]
 fn weight(log: &[u8]) -> usize
     ensures is { result ≡ weight_at log.now }
@@ -283,7 +282,7 @@ fn weight(log: &[u8]) -> usize
         + 16581375 * usize::from(byte_at(log, 3)).saturating_sub(1)
 }
 
-// The length of the plan of the first record of a log.
+// Returns the length of the plan of the first record of a log.
 fn size(log: &[u8]) -> usize
     ensures is { result ≡ size_at log.now }
     ensures small { result < 2 ^ 32 }
@@ -291,7 +290,7 @@ fn size(log: &[u8]) -> usize
     weight(&log[log.len().min(4)..])
 }
 
-// The number of bytes that are not zero.
+// Returns the number of nonzero bytes.
 fn nonzero(bytes: &[u8]) -> usize
     ensures is { result ≡ nonzero bytes.now }
     ensures few { result ≤ length bytes.now }
@@ -303,7 +302,7 @@ fn nonzero(bytes: &[u8]) -> usize
     count
 }
 
-// 1 for a byte that is not zero, otherwise 0.
+// Returns 1 for a nonzero byte, otherwise 0.
 fn nonzero_byte(byte: u8) -> usize
     ensures is { result ≡ nonzero (byte ∷ []) }
     ensures small { result ≤ 1 }
@@ -311,7 +310,7 @@ fn nonzero_byte(byte: u8) -> usize
     if byte == 0 { 0 } else { 1 }
 }
 
-// The bytes after the first record of a log, which may be incomplete.
+// Returns the bytes after the first record of a log. The record may be incomplete.
 fn after_first(log: &[u8]) -> &[u8]
     ensures { result.now ≡ later_records log.now }
 {
@@ -319,7 +318,7 @@ fn after_first(log: &[u8]) -> &[u8]
     &log[start..]
 }
 
-// Returns whether the first `count` records of a log have plans.
+// Returns `true` if the first `count` records of a log contain plans.
 fn are_plans(count: usize, log: &[u8]) -> bool
     ensures { IsTrue result ↔ ArePlans count log.now }
 {
@@ -333,7 +332,7 @@ fn are_plans(count: usize, log: &[u8]) -> bool
     true
 }
 
-// Returns whether the first record of a log has a plan.
+// Returns `true` if the first record of a log contains a plan.
 fn has_plan(log: &[u8]) -> bool
     ensures { IsTrue result ↔ (8 + size_at log.now ≤ length log.now) × IsPlan (first_plan log.now) }
 {
@@ -343,7 +342,7 @@ fn has_plan(log: &[u8]) -> bool
     is_plan(first_plan(log))
 }
 
-// The first plan of a log.
+// Returns the plan of the first record of a log.
 fn first_plan(log: &[u8]) -> &[u8]
     requires { 8 + size_at log.now ≤ length log.now }
     ensures { result.now ≡ first_plan log.now }
@@ -352,7 +351,7 @@ fn first_plan(log: &[u8]) -> &[u8]
     &log[8..8 + size]
 }
 
-// The bytes after the first record of a log.
+// Returns the bytes after the first record of a log.
 fn later_records(log: &[u8]) -> &[u8]
     requires { 8 + size_at log.now ≤ length log.now }
     ensures { result.now ≡ later_records log.now }
@@ -361,7 +360,7 @@ fn later_records(log: &[u8]) -> &[u8]
     &log[8 + size..]
 }
 
-// The plans of the first `count` records of a log, joined into one plan.
+// Joins the plans of the first `count` records of a log into one plan.
 fn joined_plan<A: Allocator>(alloc: A, count: usize, log: &[u8]) -> Result<Vec<u8, A>, AllocError>
     requires some { 1 ≤ count }
     requires whole { ArePlans count log.now }
@@ -387,7 +386,7 @@ fn join<A: Allocator>(plan: &mut Vec<u8, A>, next: &[u8]) -> Result<(), AllocErr
     Ok(())
 }
 
-// Updates the head of a plan for the joined plan.
+// Updates the head of a plan to that of the joined plan.
 fn write_head<A: Allocator>(plan: &mut Vec<u8, A>, next: &[u8])
     requires plan { 28 ≤ length plan.old.items }
     requires next { 28 ≤ length next.now }
@@ -419,7 +418,7 @@ pub(crate) fn push_record(bytes: &mut Vec<u8>, plan: &[u8]) -> Result<(), AllocE
     bytes.extend_from_slice(plan)
 }
 
-// A number as four bytes that are not zero.
+// Returns a number as four nonzero bytes.
 fn digits(number: usize) -> [u8; 4]
     ensures { result ≡ digits number }
 {

@@ -12,8 +12,8 @@ ghost use Rattle.sdbm_log.specs.LogRuns.{LogRun, Found, Mean, AreMade, LeaveFile
 
 use std::marker::Brand;
 
-/// The images that a crash may leave after n runs of a list; 0 is before the first run. No code can know them, so the law is proved for all
-/// sets of images.
+/// The images that a crash may leave after n runs of a list; n = 0 is before the first run. No code can know these images, so the law is
+/// proved for all sets of images.
 pub trait Crashes {
     ghost may_leave: { ℕ → Image → Type 0 };
 }
@@ -30,17 +30,17 @@ impl Crashes for Brand {
 /// between two runs. The law holds if the files before the first run can be recovered, and each run satisfies the contracts of this crate
 /// (`IsRun`).
 ///
-/// Every image that is read after a run, and every image that a crash may leave then, can be recovered. After a save that returned, it
-/// represents the saved files. After an interrupted save, it represents the saved files or the files that the run read. After a run that
-/// saves nothing, it represents the files that the run read, or if that run was interrupted, the same files as before it. Several saves of
-/// one process are several runs.
+/// Every image that is read after a run, and every image that a crash may leave then, can be recovered. After a save that returned, such an
+/// image represents the saved files. After an interrupted save, it represents the saved files or the files that the run read. After a run
+/// that saves nothing, it represents the files that the run read or, if the run was interrupted, files that were possible before the run.
+/// Several saves of one process are several runs.
 pub fn all_runs<C: Crashes>()
     ensures { (runs : List LogRun) (seen : Image) (was : List (List ℕ × List ℕ)) → Mean was (Found seen (C.may_leave 0)) → AreMade runs seen C.may_leave → LeaveFiles runs seen C.may_leave was }
 {}
 
-/// The promises of the lists of this crate, as the contract of this function, which does nothing. They hold for every program that makes
-/// the calls of a save, of an opening, of a recovery or of closing on files that meet the requirements of the list, and for all images that
-/// a crash might have left of these files before.
+/// The promises of this crate's lists of calls, as the contract of this function, which does nothing. The promises hold for every program
+/// that makes the calls of such a list on files that meet the requirements of the list. They hold for all images that a crash might have
+/// left of these files before.
 pub fn all_lists<C: Crashes>()
     ensures saves { (log next : Log) (plan : List ℕ) (commit apply : List Act) (seen : Image) (n : ℕ) → IsPlan plan → length plan < 4000000000 → AreSaveCalls log next plan commit apply
         → IsReady log.end log.room log.count seen (C.may_leave n) → Knows plan (files seen) → IsSave plan commit apply next.end next.room next.count seen (Found seen (C.may_leave n)) }

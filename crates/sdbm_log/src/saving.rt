@@ -20,7 +20,7 @@ use std::alloc::{AllocError, Global};
 // The plans of a log have fewer changes than this in total.
 const CHANGE_LIMIT: usize = 1 << 32;
 
-// A log that is extended for a record gets a multiple of this many bytes.
+// The room of a longer log is a multiple of this number of bytes.
 const PIECE: usize = 1 << 20;
 
 /// The steps of a save.
@@ -36,9 +36,9 @@ pub struct SaveSteps {
     pub log: Log,
 }
 
-/// The steps that save a plan. A record after the existing records and one sync commit the save. Then it is applied to both data files
-/// without a sync. If the log has no room for the record, or a file gets shorter, the log is emptied first. If a file gets shorter, the log
-/// is emptied afterwards too. If a step fails, make no further step, and open the files again.
+/// Returns the steps that save a plan. The steps write a record after the existing records and sync once, which commits the save; then they
+/// apply the plan to both data files without a sync. If the log has no room for the record, or if a file gets shorter, the log is emptied
+/// first. If a file gets shorter, the log is emptied afterwards too. If a step fails, make no further step, and open the files again.
 ///
 /// # Errors
 ///
@@ -79,7 +79,7 @@ pub fn save_steps<C: Crashes>(alloc: Global, log: Log, plan: &[u8]) -> Result<Sa
     })
 }
 
-// Adds the steps that make room in a log for the record of a plan, and returns the log after them.
+// Adds the steps that make room in a log for the record of a plan. Returns the log after these steps.
 fn push_room(commit: &mut Vec<Step>, log: Log, plan: &[u8]) -> Result<Log, AllocError>
     requires plan { IsPlan plan.now }
     requires short { length plan.now < 3000000000 }
@@ -108,7 +108,7 @@ fn push_room(commit: &mut Vec<Step>, log: Log, plan: &[u8]) -> Result<Log, Alloc
     })
 }
 
-// Returns whether a log can take the record of a plan without being emptied.
+// Returns `true` if a log can take the record of a plan without being emptied.
 fn has_room(log: Log, plan: &[u8]) -> bool
     requires plan { 28 ≤ length plan.now }
     requires short { length plan.now < 3000000000 }
@@ -121,7 +121,7 @@ fn has_room(log: Log, plan: &[u8]) -> bool
     log.count < CHANGE_LIMIT && log.count + number(plan, 24) < CHANGE_LIMIT
 }
 
-// Returns whether a plan shortens no file.
+// Returns `true` if a plan shortens no file.
 fn is_growing(plan: &[u8]) -> bool
     requires { 28 ≤ length plan.now }
     ensures { IsTrue result ↔ IsGrowing plan.now }
@@ -129,7 +129,7 @@ fn is_growing(plan: &[u8]) -> bool
     number(plan, 16) <= number(plan, 8) && number(plan, 20) <= number(plan, 12)
 }
 
-// Adds the steps of a save after its commit, and returns the log after them. The buffer has the plan in its record.
+// Adds the steps of a save after its commit. Returns the log after these steps. The buffer contains the record of the plan.
 fn push_rest(apply: &mut Vec<Step>, log: Log, plan: &[u8]) -> Result<Log, AllocError>
     requires plan { IsPlan plan.now }
     requires short { length plan.now < 3000000000 }

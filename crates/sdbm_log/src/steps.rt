@@ -1,4 +1,4 @@
-// Steps: calls on the three files, made by the caller.
+// Steps: calls on the three files, which the caller of this crate makes.
 ghost use Rattle.std.specs.Prelude.{◌≡◌, ◌<◌, ◌≤◌, ◌+◌, ◌^◌, ◌++◌, ◌∷◌, ℕ, List, [], length, drop, OnOk};
 ghost use Rattle.sdbm_saves.specs.Redo.{file_of, offset_of, data_of, span_of, rest_of, count_of, changes_of, IsPlan};
 ghost use Rattle.sdbm_saves.specs.Acts.{write};
@@ -9,7 +9,7 @@ use crate::log::HEADER;
 use sdbm_saves::{DiskFile, number};
 use std::alloc::{AllocError, Global};
 
-/// A call on one of the three files. The bytes of writes are in a separate buffer.
+/// A call on one of the three files. The bytes that calls write are in a separate buffer.
 #[derive(Clone, Copy, Debug, PartialEq, Eq)]
 pub enum Step {
     /// Writes `len` bytes of the buffer, from `from` on, at this offset.
@@ -61,7 +61,7 @@ pub(crate) fn push_settle(steps: &mut Vec<Step>) -> Result<(), AllocError>
     ])
 }
 
-// Adds the steps that commit the record in the buffer, after the existing records, which end at `end`.
+// Adds the steps that commit the record in the buffer. The existing records end at `end`.
 pub(crate) fn push_commit(steps: &mut Vec<Step>, end: usize, len: usize) -> Result<(), AllocError>
     requires { end ≤ 4000000000 }
     ensures { OnOk result ((record_bytes : List ℕ) → length record_bytes ≡ len
@@ -88,7 +88,7 @@ pub(crate) fn push_commit(steps: &mut Vec<Step>, end: usize, len: usize) -> Resu
     ])
 }
 
-// Adds the steps that apply a plan, which is in the buffer from `from` on.
+// Adds the steps that apply a plan. The plan begins at `from` in the buffer.
 pub(crate) fn push_apply(steps: &mut Vec<Step>, plan: &[u8], from: usize) -> Result<(), AllocError>
     requires plan { IsPlan plan.now }
     requires short { length plan.now < 2 ^ 63 }
@@ -128,7 +128,7 @@ fn push_changes(steps: &mut Vec<Step>, plan: &[u8], from: usize) -> Result<(), A
     Ok(())
 }
 
-// The size of a change in bytes.
+// Returns the size of a change in bytes.
 fn span_of(change: &[u8]) -> usize
     requires { span_of change.now ≤ length change.now }
     ensures { result ≡ span_of change.now }
@@ -137,7 +137,7 @@ fn span_of(change: &[u8]) -> usize
     9 + (size + size)
 }
 
-// The changes after the first one.
+// Returns the changes after the first one.
 fn rest_of(change: &[u8]) -> &[u8]
     requires { span_of change.now ≤ length change.now }
     ensures { result.now ≡ rest_of change.now }
@@ -145,7 +145,7 @@ fn rest_of(change: &[u8]) -> &[u8]
     &change[span_of(change)..]
 }
 
-// Adds the step that writes the first of some changes, which are in the buffer from `from` on.
+// Adds the step that writes the first change in `change`, which begins at `from` in the buffer.
 fn push_change(steps: &mut Vec<Step>, change: &[u8], from: usize) -> Result<(), AllocError>
     requires whole { span_of change.now ≤ length change.now }
     requires near { from ≤ 2 ^ 63 + 4096 }
@@ -164,7 +164,7 @@ fn push_change(steps: &mut Vec<Step>, change: &[u8], from: usize) -> Result<(), 
     }
 }
 
-// The file of the first of some changes.
+// Returns the file of the first change in `change`.
 fn file_of(change: &[u8]) -> DiskFile
     requires { 1 ≤ length change.now }
     ensures { result ≡ file_of change.now }
@@ -198,7 +198,7 @@ pub(crate) fn push_close(steps: &mut Vec<Step>) -> Result<(), AllocError>
     ])
 }
 
-// Adds the steps that overwrite the first bytes of the records of a closed log with zeros.
+// Adds the steps that overwrite the first `len` bytes after the header of a closed log with zeros.
 pub(crate) fn push_clear(steps: &mut Vec<Step>, len: usize) -> Result<(), AllocError>
     ensures { OnOk result ((bytes : List ℕ) → acts_of bytes steps.new.items ≡ acts_of bytes steps.old.items ++ clear_acts len) }
 {
@@ -214,7 +214,7 @@ pub(crate) fn push_clear(steps: &mut Vec<Step>, len: usize) -> Result<(), AllocE
     ])
 }
 
-// Adds the steps that make the redo file an empty log of this length.
+// Adds the steps that make the redo file an empty log of `len` bytes.
 pub(crate) fn push_start(steps: &mut Vec<Step>, len: usize) -> Result<(), AllocError>
     requires { 9 ≤ len }
     ensures { OnOk result ((rest : List ℕ) → acts_of (with_head rest) steps.new.items ≡ acts_of (with_head rest) steps.old.items ++ start_acts len) }

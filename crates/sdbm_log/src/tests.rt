@@ -1,4 +1,4 @@
-// Logs as bytes.
+// Tests of logs, as bytes and on a disk in memory.
 
 use crate::making::part;
 use crate::records::push_record;
@@ -11,7 +11,7 @@ use std::alloc::{AllocError, Global};
 use std::marker::Brand;
 use std::test::Fail;
 
-// A plan that changes one of the four bytes of `.pag`, which was 0.
+// Makes a plan that changes one of the four bytes of `.pag`, which was 0 before.
 fn plan(alloc: Global, at: usize, byte: u8) -> Result<Vec<u8>, AllocError> {
     let mut plan = Vec::from_slice(alloc, b"sdbmred2")?;
     plan.extend_from_slice(&spelled(4))?;
@@ -36,7 +36,7 @@ fn record(alloc: Global, at: usize, byte: u8) -> Result<Vec<u8>, AllocError> {
     Ok(bytes)
 }
 
-// The records of two saves. A crash has left the bytes of the second record before `cut`, except the byte at `hole`.
+// Makes the records of two saves. A crash has left the bytes of the second record before `cut`, except the byte at `hole`.
 fn log(alloc: Global, cut: usize, hole: usize) -> Result<Vec<u8>, AllocError> {
     let mut log = record(alloc, 1, 7)?;
     let second = record(alloc, 2, 9)?;
@@ -50,7 +50,7 @@ fn log(alloc: Global, cut: usize, hole: usize) -> Result<Vec<u8>, AllocError> {
     Ok(log)
 }
 
-// Files with these bytes in the log, and a commit byte of 1.
+// Makes files with these bytes in the log, and a commit byte of 1.
 fn found(alloc: Global, pages: &[u8], log: &[u8]) -> Result<Found, AllocError> {
     let mut redo = Vec::from_slice(alloc, b"\x01sdbmlog1")?;
     redo.resize(4096, 0)?;
@@ -71,7 +71,7 @@ fn files_of(found: &Found) -> LogFiles<'_> {
     }
 }
 
-// Returns whether files with these bytes of `.pag` and of the log represent these pages.
+// Returns `true` if files with these bytes of `.pag` and of the log represent the pages `meant`.
 fn reads(alloc: Global, pages: &[u8], log: &[u8], meant: &[u8]) -> Result<bool, AllocError> {
     let found = found(alloc, pages, log)?;
     let Ok(plan) = plan_of(alloc, files_of(&found)) else {
@@ -98,7 +98,7 @@ fn a_log_with_no_records_means_the_files(rt: HostRuntime) -> Result<(), Fail> {
     Ok(())
 }
 
-// Any part of both plans is applied to the data files.
+// Any part of both plans may already be applied to the data files.
 #[test]
 fn records_mean_both_plans(rt: HostRuntime) -> Result<(), Fail> {
     let both = log(rt.alloc(), 99, 99)?;
@@ -109,7 +109,7 @@ fn records_mean_both_plans(rt: HostRuntime) -> Result<(), Fail> {
     Ok(())
 }
 
-// The last byte of a record that is not zero is the last but one.
+// The last byte of a record is zero, so the record is complete without it.
 #[test]
 fn a_torn_last_record_is_as_if_never_written(rt: HostRuntime) -> Result<(), Fail> {
     let second = record(rt.alloc(), 2, 9)?;
@@ -124,13 +124,13 @@ fn a_torn_last_record_is_as_if_never_written(rt: HostRuntime) -> Result<(), Fail
     Ok(())
 }
 
-// The fault in the recovery of files with these bytes of `.pag` and of the log.
+// Returns the fault of recovering files with these bytes of `.pag` and of the log.
 fn fault_of(alloc: Global, pages: &[u8], log: &[u8]) -> Result<Option<LogFault>, AllocError> {
     let found = found(alloc, pages, log)?;
     Ok(plan_of(alloc, files_of(&found)).err())
 }
 
-// The records of two saves. This byte of the first record is lost.
+// Makes the records of two saves, without the byte at `hole` of the first record.
 fn damaged(alloc: Global, hole: usize) -> Result<Vec<u8>, AllocError> {
     let first = record(alloc, 1, 7)?;
     let mut damaged = Vec::new(alloc);
@@ -145,7 +145,7 @@ fn damaged(alloc: Global, hole: usize) -> Result<Vec<u8>, AllocError> {
     Ok(damaged)
 }
 
-// A byte of its weight, of its length, or the first byte of its plan.
+// The damaged byte is in the weight, in the length, or the first byte of the plan.
 #[test]
 fn a_record_that_is_damaged_before_another_is_refused(rt: HostRuntime) -> Result<(), Fail> {
     for hole in 0..9 {
@@ -164,7 +164,7 @@ fn other_files_are_foreign(rt: HostRuntime) -> Result<(), Fail> {
     Ok(())
 }
 
-// Both saves change the byte 1 of `.pag`.
+// Both saves change byte 1 of `.pag`.
 #[test]
 fn a_byte_that_two_saves_change_may_be_that_of_each(rt: HostRuntime) -> Result<(), Fail> {
     let mut both = record(rt.alloc(), 1, 7)?;
@@ -304,7 +304,7 @@ impl Memory {
         Ok(())
     }
 
-    // Makes the first steps of a list.
+    // Makes the first `count` steps of a list.
     fn make(
         &mut self,
         alloc: Global,
@@ -344,7 +344,7 @@ impl Memory {
         Ok(opened.log)
     }
 
-    // The steps for a reader.
+    // Returns the steps for a reader.
     fn read(&self, alloc: Global) -> Result<ReadSteps, AllocError> {
         match read_steps(alloc, files_of(&self.files)) {
             Ok(read) => Ok(read),
@@ -352,7 +352,7 @@ impl Memory {
         }
     }
 
-    // Saves a byte of the pages, which was 0, and makes the first steps of the save.
+    // Saves a byte of the pages, which was 0, but makes only the first `count` steps of the save.
     fn save(
         &mut self,
         alloc: Global,
@@ -374,7 +374,7 @@ impl Memory {
     }
 }
 
-// All steps of a save.
+// More than the number of steps of a save.
 const ALL: usize = 99;
 
 #[test]

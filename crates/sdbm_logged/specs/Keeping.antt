@@ -9,7 +9,7 @@ use Rattle.sdbm_logged.specs.declared.keeping.Keeper.{Keeper}
 abbrev pub bytes_of : DataBytes → List ℕ × List ℕ
 bytes_of both = (both.pages.items, both.directory.items)
 
--- the log can take the next record, and these are the bytes of the data files
+-- the log is ready for the next record, and the keeper has the bytes of the data files
 pub record IsKept (keeper : Keeper) (seen : Image) (may_leave : Image → Type 0) : Type 0 where
   pub ready : IsReady keeper.log.end keeper.log.room keeper.log.count seen may_leave
   pub files : files seen ≡ bytes_of keeper.files

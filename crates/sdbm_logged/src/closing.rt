@@ -9,7 +9,7 @@ use sdbm_saves::{Disk, DiskError};
 use std::alloc::Global;
 use std::marker::Brand;
 
-/// Closes a log: syncs both data files, then clears the commit byte. Its records are invalid afterwards.
+/// Closes a log: syncs both data files, then clears the commit byte. Afterwards the records of the log are invalid.
 ///
 /// # Errors
 ///

@@ -1,14 +1,14 @@
-// Why a log could not be opened.
+// The reasons why a log could not be opened.
 ghost use Rattle.std.specs.Prelude.{◌≡◌};
 ghost use Rattle.sdbm_logged.specs.declared.fault.OpenFault.TheVariants as fault;
 
 use sdbm_log::LogFault;
 use sdbm_saves::DiskError;
 
-/// Why a log could not be opened.
+/// The reason why a log could not be opened.
 #[derive(Clone, Copy, Debug, PartialEq, Eq)]
 pub enum OpenFault {
-    /// The files cannot be recovered, or memory ran out. No call was made.
+    /// The files cannot be recovered, or allocation fails. No call was made.
     Files(LogFault),
     /// A call of the disk failed. Open the files again.
     Disk(DiskError),

@@ -27,7 +27,7 @@ pub struct DataBytes {
 }
 
 impl DataBytes {
-    /// Borrows the bytes.
+    /// Borrows the bytes of both files.
     pub fn contents(&self) -> Contents<'_>
         ensures pages { result.pages.now ≡ self.now.pages.items }
         ensures directory { result.directory.now ≡ self.now.directory.items }
@@ -38,7 +38,7 @@ impl DataBytes {
         }
     }
 
-    /// Returns the bytes after a plan.
+    /// Returns the result of applying a plan to the bytes of both files.
     ///
     /// # Errors
     ///
@@ -65,7 +65,7 @@ impl DataBytes {
         lay_in(self.directory.as_mut_slice(), DiskFile::Directory, plan);
     }
 
-    // Returns whether a plan keeps the lengths of the files.
+    // Returns `true` if a plan keeps the lengths of the files.
     fn keeps_lengths(&self, plan: &[u8]) -> bool
         requires plan { IsPlan plan.now }
         ensures pages { IsTrue result → length self.now.pages.items ≡ new_length Pages plan.now }
@@ -85,17 +85,17 @@ pub struct Keeper {
 /// The outcome of a save in a log that stays open.
 #[derive(Clone, Copy, Debug, PartialEq, Eq)]
 pub enum NextSave {
-    /// The log has no room for the record, or the files get different lengths, or may need new blocks of the disk. Nothing was done: close
+    /// The log has no room for the record, or a data file gets another length or may need new blocks of the disk. Nothing was done: close
     /// the log and open it again.
     Full,
-    /// The save is durable, and the log can take the next one.
+    /// The save is durable, and the log is ready for the next save.
     Done,
     /// The save is durable, but a data file or the log could not be written: open the files again.
     Pending(DiskError),
 }
 
-/// Saves a plan that knows the files of a database at rest. `redo` has the bytes of its redo file. The save opens a log of at least `room`
-/// bytes, which stays open. Returns the outcome and the log. The log can take the next record if the outcome is `Done`.
+/// Saves a plan that knows the files of a database at rest. `redo` has the bytes of the redo file. The save opens a log of at least `room`
+/// bytes, which stays open. Returns the outcome and the log. After `Done`, the log is ready for the next save.
 ///
 /// # Errors
 ///
@@ -119,7 +119,8 @@ pub fn save_first<D: Disk>(
     // After `Ok`, a crash leaves the files with the plan applied.
     ensures durable { OnOk result ((c : Image) → D.may_leave disk.new c → Holds (renewed_files plan.now (D.seen disk.old)) c) }
 
-    // A crash during the call leaves what it might have left before, or the files that were read, with or without the plan applied.
+    // A crash during the call leaves an image that it might have left before, or the files that were read, with or without the plan
+    // applied.
     ensures any_moment { LeavesOnly D.moment D.left_since disk.old disk.new
         (λ c. D.may_leave disk.old c ⊎ (Holds (files (D.seen disk.old)) c ⊎ Holds (renewed_files plan.now (D.seen disk.old)) c)) }
 
@@ -132,7 +133,7 @@ pub fn save_first<D: Disk>(
     Ok((saved, log))
 }
 
-/// Saves a plan that knows the data files, in an open log. It needs one sync.
+/// Saves a plan that knows the data files, in an open log, with one sync.
 ///
 /// # Errors
 ///
@@ -175,7 +176,7 @@ pub fn save_next<D: Disk>(
     }
 }
 
-// Returns whether a log can take the record of a plan with one sync, and the files need no new blocks for it.
+// Returns `true` if a log has room for the record of a plan, and the plan needs no new blocks of the disk.
 fn can_take(log: Log, plan: &[u8]) -> bool
     requires plan { IsPlan plan.now }
     ensures { IsTrue result → length plan.now < 3000000000 }
@@ -187,7 +188,7 @@ fn can_take(log: Log, plan: &[u8]) -> bool
     len <= log.room && log.end <= log.room - len
 }
 
-/// A disk whose log stays open. It does not have the bytes of the data files.
+/// A disk whose log stays open. Unlike `KeptDisk`, it does not have the bytes of the data files.
 #[derive(Drop)]
 pub struct LoggedDisk<D: Disk> {
     disk: D,
@@ -206,7 +207,7 @@ impl<D: Disk> Model for LoggedDisk<D> {
 }
 
 impl<D: Disk> LoggedDisk<D> {
-    /// A disk and its open log.
+    /// Combines a disk and its open log.
     pub fn new(disk: D, log: Log) -> LoggedDisk<D>
         requires { IsReady log.end log.room log.count (D.seen disk) (D.may_leave disk) }
         ensures { result ≡ (disk, log) }
@@ -214,7 +215,7 @@ impl<D: Disk> LoggedDisk<D> {
         LoggedDisk { disk, log }
     }
 
-    /// The disk and its log.
+    /// Returns the disk and its log.
     pub fn into_parts(self) -> (D, Log)
         ensures ready { IsReady result.1.end result.1.room result.1.count (D.seen result.0) (D.may_leave result.0) }
         ensures parts { result ≡ self }
@@ -243,7 +244,7 @@ impl<D: Disk> Model for KeptDisk<D> {
 }
 
 impl<D: Disk> KeptDisk<D> {
-    /// A disk and the keeper of its files.
+    /// Combines a disk and the keeper of its files.
     pub fn new(disk: D, keeper: Keeper) -> KeptDisk<D>
         requires { IsKept keeper (D.seen disk) (D.may_leave disk) }
         ensures { result ≡ (disk, keeper) }
@@ -259,7 +260,7 @@ impl<D: Disk> KeptDisk<D> {
         self.keeper.files.contents()
     }
 
-    /// The disk and the keeper.
+    /// Returns the disk and the keeper.
     pub fn into_parts(self) -> (D, Keeper)
         ensures kept { IsKept result.1 (D.seen result.0) (D.may_leave result.0) }
         ensures parts { result ≡ self }

@@ -1,4 +1,4 @@
-// A save in a log that is open for this save alone.
+// Saves with a log that is open for one save only.
 ghost use Rattle.std.specs.Prelude.{◌≡◌, ◌≢◌, ◌⊎◌, ◌<◌, ◌≤◌, length, get_or, OnOk, IfOk};
 ghost use Rattle.sdbm_saves.specs.Disk.{Image, Through, LeavesOnly, HasCause};
 ghost use Rattle.sdbm_saves.specs.Redo.{files, renewed_files, IsPlan, Knows, StaysUnmarked};
@@ -19,22 +19,22 @@ use std::alloc::Global;
 // The length of the header of a log, in bytes.
 const HEADER: usize = 4096;
 
-// Minimum room of a new log in bytes, so that later saves can reuse it.
+// The minimum room of a new log in bytes, which allows later saves to reuse the log.
 const LEAST_ROOM: usize = 28_672;
 
 // A log with more room than this, in bytes, is removed after the save.
 const MOST_ROOM: usize = 258_048;
 
-// The most room, in bytes, with which a log is opened before its save. For a longer record `save_by` makes a longer log.
+// The greatest room, in bytes, of a log that is opened for a save. For a longer record, `save_by` makes a longer log.
 const LONGEST: usize = 1 << 30;
 
-/// Saves a plan that was made from the current files (it knows them), when no save is pending (the files are at rest). `redo` has the
-/// bytes of the redo file. The save opens a log, commits the plan,
-/// applies it to both data files, and closes the log. If the plan may need new blocks of the disk, the room is checked first.
+/// Saves a plan that knows the current files; the commit byte of the redo file must not be 1. `redo` has the bytes of the redo file. The
+/// save opens a log, commits the plan, applies it to both data files, and closes the log. If the plan may need new blocks of the disk, the
+/// save first checks whether the disk has room.
 ///
-/// `Done` means that the database is at rest again. The redo file then stays as an empty log that the next save can reuse, unless it is
-/// long or other users could not use it. `Pending` means that the save is durable, but something failed after the commit: open the files
-/// again, which finishes the save.
+/// `Done` means that the database is at rest again. The redo file then stays as an empty log that the next save can reuse, but a long log,
+/// or one that other users could not use, is removed. `Pending` means that the save is durable, but a call failed after the commit: open
+/// the files again, which finishes the save.
 ///
 /// # Errors
 ///
@@ -57,7 +57,8 @@ pub fn save_once<D: Disk>(
     // After `Ok`, a crash leaves the files with the plan applied.
     ensures durable { OnOk result ((c : Image) → D.may_leave disk.new c → Holds (renewed_files plan.now (D.seen disk.old)) c) }
 
-    // A crash during the call leaves what it might have left before, or the files that were read, with or without the plan applied.
+    // A crash during the call leaves an image that it might have left before, or the files that were read, with or without the plan
+    // applied.
     ensures any_moment { LeavesOnly D.moment D.left_since disk.old disk.new
         (λ c. D.may_leave disk.old c ⊎ (Holds (files (D.seen disk.old)) c ⊎ Holds (renewed_files plan.now (D.seen disk.old)) c)) }
 
@@ -72,8 +73,8 @@ pub fn save_once<D: Disk>(
     }
 }
 
-/// Opens a log for a save of this plan, with at least `least` bytes of room. The files must be those of a database at rest, and `redo` the
-/// bytes of its redo file. If the plan may need new blocks of the disk, the room is checked first.
+/// Opens a log for a save of this plan, with at least `least` bytes of room. The commit byte of the redo file must not be 1, and `redo` has
+/// the bytes of this file. If the plan may need new blocks of the disk, first checks whether the disk has room.
 ///
 /// # Errors
 ///
@@ -131,7 +132,7 @@ fn open_rest<D: Disk>(
     }
 }
 
-// Closes the log of a single save, then clears its records or removes it.
+// Closes the log of a single save, then clears the records of the log or removes the log.
 fn end_once<D: Disk>(alloc: Global, disk: &mut D, log: Log) -> LogSave
     requires ready { IsReady log.end log.room log.count (D.seen disk.old) (D.may_leave disk.old) }
 
@@ -200,7 +201,7 @@ fn remove<D: Disk>(disk: &mut D) -> Result<(), DiskError>
     disk.clear()
 }
 
-// Writes zeros after the header of a closed log, which then has room for `room` bytes.
+// Changes the room of a closed log to `room` bytes and writes zeros after its header.
 fn write_zeros<D: Disk>(disk: &mut D, room: usize, zeros: &[u8]) -> Result<(), DiskError>
     requires rest { IsAtRest (D.seen disk.old) (D.may_leave disk.old) }
     requires near { room ≤ 4000000000 }

@@ -14,12 +14,12 @@ use sdbm_saves::Disk;
 use std::alloc::Global;
 use std::marker::Brand;
 
-/// Opens the log of files that were read: syncs them, recovers them if the commit byte of the redo file is 1, and makes the redo file an
-/// empty log of at least `room` bytes. The bytes of the data files are needed only if the commit byte is 1.
+/// Opens the log of files that were read. Syncs the files, recovers them if the commit byte of the redo file is 1, and makes the redo file
+/// an empty log of at least `room` bytes. The bytes of the data files are needed only if the commit byte is 1.
 ///
 /// # Errors
 ///
-/// `Files` if the files cannot be recovered, or if allocation of the steps fails; no call was made then. `Disk` if a call fails: open the
+/// `Files` if the files cannot be recovered, or if the steps cannot be allocated; no call was made then. `Disk` if a call fails: open the
 /// files again.
 pub fn open_log<D: Disk>(
     alloc: Global,
@@ -33,7 +33,7 @@ pub fn open_log<D: Disk>(
     ensures ready { IfOk result (λ log. IsReady log.end log.room log.count (D.seen disk.new) (D.may_leave disk.new)) }
     ensures same { OnOk result (files (D.seen disk.new) ≡ files_of (D.seen disk.old)) }
 
-    // A crash during the call leaves what it might have left before, or files that represent the same data and can be recovered.
+    // A crash during the call leaves an image that it might have left before, or files that represent the same data and can be recovered.
     ensures any_moment { LeavesOnly D.moment D.left_since disk.old disk.new (λ c. D.may_leave disk.old c ⊎ Holds (files_of (D.seen disk.old)) c) }
 
     ensures foreign { IfErr result (λ why. why ≡ fault.Files Foreign → CanRecover (image_in found.entry) → ⊥) }

@@ -9,14 +9,14 @@ use sdbm_saves::{Disk, DiskError, DiskFile, file_of, number, rest_of, was_of};
 /// The allocation unit of a file system, in bytes. If the real unit differs, the room that is tried is too small or too large.
 const DISK_BLOCK: usize = 4096;
 
-/// Maximum number of blocks that are tried. A redo file with more bytes than that is never read.
+/// The greatest number of blocks that are tried. A longer redo file is never read.
 const MOST: usize = 658_000;
 
-// Checks before a save whether the disk has room for it. A save that is committed and then finds a full disk leaves its files half done for
-// programs that do not know the log. If the changes of the plan may need new blocks, a new redo file gets that number of blocks, and those
-// of a log of `len` bytes. A zero is written into each block, and the file is removed. So its commit byte is never 1, and the data files
-// are not touched. Another program may take the room in between. If no change needs a block, nothing is done. Returns the bytes of the redo
-// file afterwards. The data files stay unchanged even if the disk fails.
+// Checks before a save whether the disk has room for it. If a committed save finds the disk full, the data files are half written, which
+// programs that do not know the log cannot repair. The check makes a new redo file that is large enough for the changes of the plan and for
+// a log of `len` bytes, writes a zero into each of its blocks, and removes the file. So the commit byte is never 1, and the data files are
+// not touched, even if the disk fails. Another program may take the room before the save. If no change needs a new block, nothing is done.
+// Returns the bytes that the redo file has afterwards.
 pub(crate) fn try_room<'a, D: Disk>(
     disk: &mut D,
     redo: &'a [u8],
@@ -41,14 +41,14 @@ pub(crate) fn try_room<'a, D: Disk>(
     Ok(&[])
 }
 
-// Returns whether the changes of a plan may need new blocks of the disk.
+// Returns `true` if the changes of a plan may need new blocks of the disk.
 pub(crate) fn wants_blocks(plan: &[u8]) -> bool
     requires { IsPlan plan.now }
 {
     blocks_wanted(plan) > 0
 }
 
-// The number of blocks that the changes of a plan may need and the files do not have.
+// Returns the number of new blocks that the changes of a plan may need.
 fn blocks_wanted(plan: &[u8]) -> usize
     requires { IsPlan plan.now }
 {
@@ -72,7 +72,7 @@ fn try_blocks<D: Disk>(disk: &mut D, blocks: usize) -> Result<(), DiskError>
     disk.clear()
 }
 
-// Writes a zero into each block of the redo file, which has this number of blocks.
+// Writes a zero into each block of the redo file, which has `blocks` blocks.
 fn fill<D: Disk>(disk: &mut D, blocks: usize) -> Result<(), DiskError>
     requires few { blocks ≤ 2 ^ 40 }
     requires long { length (D.seen disk.old).redo ≡ blocks * 4096 }
@@ -87,8 +87,8 @@ fn fill<D: Disk>(disk: &mut D, blocks: usize) -> Result<(), DiskError>
     Ok(())
 }
 
-// The number of blocks that the changes of one file may need and the file does not have. It is an estimate: a page of zeros may be a hole
-// or not. No contract specifies it or depends on it.
+// Returns the number of new blocks that the changes of one file may need. The number is an estimate, because a page of zeros may be a hole
+// or not. No contract specifies the number or depends on it.
 fn new_blocks(plan: &[u8], file: DiskFile) -> usize
     requires { IsPlan plan.now }
 {
@@ -108,7 +108,7 @@ fn new_blocks(plan: &[u8], file: DiskFile) -> usize
     blocks
 }
 
-// Returns whether a change may need blocks that its file does not have: past its end, or in a possible hole.
+// Returns `true` if a change may need new blocks: it reaches past the end of its file, or it writes into a possible hole.
 fn wants_room(plan: &[u8], change: &[u8]) -> bool
     requires header { 28 ≤ length plan.now }
     requires whole { span_of change.now ≤ length change.now }

@@ -1,4 +1,4 @@
-// A save in an open log.
+// Saves in an open log.
 ghost use Rattle.std.specs.Prelude.{◌≡◌, ◌⊎◌, ◌<◌, ◌≤◌, length, IfOk};
 ghost use Rattle.sdbm_saves.specs.Disk.{Image, LeavesOnly, HasCause};
 ghost use Rattle.sdbm_saves.specs.Redo.{files, renewed_files, IsPlan, Knows};
@@ -17,7 +17,7 @@ pub const PLAN_LIMIT: usize = 3_000_000_000;
 /// The outcome of a save that is committed.
 #[derive(Clone, Copy, Debug, PartialEq, Eq)]
 pub enum LogSave {
-    /// Both data files are written, and the log can take the next save.
+    /// Both data files are written, and the log is ready for the next save.
     Done,
     /// The save is durable, but a data file or the log could not be written: open the files again.
     Pending(DiskError),

@@ -1,4 +1,4 @@
-// Makes the files of a database at rest durable.
+// Makes the three files of a database durable.
 ghost use Rattle.std.specs.Prelude.{◌≡◌, ◌≢◌, get_or, OnOk};
 ghost use Rattle.sdbm_saves.specs.Disk.{LeavesOnly, HasCause};
 ghost use Rattle.sdbm_log.specs.Log.{IsAtRest};

@@ -1,4 +1,4 @@
--- The bytes of a page in either kind of storage.
+-- The bytes of a page in both kinds of storage.
 use Rattle.std.specs.Prelude.{ℕ, List}
 use Rattle.std.specs.Vec as vec
 use Rattle.sdbm_page.specs.Small.{small_with}
@@ -10,11 +10,11 @@ module _ {A : Type 0} where
   held_items (Small small) = small.bytes
   held_items (Wide v) = v.items
 
-  -- after a part was overwritten from a place on
+  -- the result of writing `ws` over the bytes from index `at` on
   abbrev pub held_with_part : Held A → ℕ → List ℕ → Held A
   held_with_part (Small small) at ws = Small (small_with small at ws)
   held_with_part (Wide v) at ws = Wide (vec.with_items_from v at ws)
 
-  -- after all bytes were overwritten
+  -- the result of writing `ws` over the bytes from the first one on
   abbrev pub held_with_all : Held A → List ℕ → Held A
   held_with_all h = held_with_part h 0

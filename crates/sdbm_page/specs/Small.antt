@@ -5,10 +5,10 @@ use Rattle.sdbm_page.specs.Edits.{written_from}
 use Rattle.sdbm_page.specs.contracts.small.SmallBytes.{the_row}
 use Rattle.sdbm_page.specs.declared.small.SmallBytes.{SmallBytes}
 
--- the bytes overwritten with a part from a place on
+-- the result of writing `part` over the bytes from index `at` on
 abbrev pub small_with : SmallBytes → ℕ → List ℕ → SmallBytes
 small_with small at part = record { bytes = written_from (length small.bytes) small.bytes at part }
 
--- the bytes end with the part written through r from a place on
+-- when the borrow `r` ends, the bytes from index `at` on are those written through `r`
 abbrev pub lends_some : MutBor SmallBytes → ℕ → MutBor (List ℕ) → Fml
 lends_some small at r = Lends the_row (Array u8 0) small r (small_with small.now at)

@@ -1,5 +1,5 @@
-//! Storage for the bytes of a page. A small page stores them inline, so a reader that has found the page need not wait for other memory
-//! to be loaded; a wide page stores them in a separate allocation.
+//! Storage for the bytes of a page. A small page stores its bytes inline, so reading the page needs no second memory access; a wide page
+//! stores its bytes in a separate allocation.
 ghost use Rattle.std.specs.Prelude.{◌≡◌, ◌≤◌, length, replicate, slice_range, IfOk};
 ghost use Rattle.std.specs.Borrow.{sem};
 ghost use Rattle.sdbm_addr.specs.Pairs.{page_bytes};
@@ -46,7 +46,7 @@ impl<A: Allocator> Held<A> {
         }
     }
 
-    /// The bytes.
+    /// Borrows the bytes.
     pub fn as_slice(&self) -> &[u8]
         ensures value { result.now ≡ held_items self.now }
     {
@@ -56,7 +56,7 @@ impl<A: Allocator> Held<A> {
         }
     }
 
-    /// The bytes, for writing.
+    /// Borrows the bytes for writing.
     pub fn as_mut_slice(&mut self) -> &mut [u8]
         ensures* writes_back { sem 𝓛 (held_lends_all A.row A.Allocator self.entry result) }
         ensures value { result.now ≡ held_items self.old }
@@ -65,7 +65,7 @@ impl<A: Allocator> Held<A> {
         self.slice_mut(0, all)
     }
 
-    /// The bytes from `start` to `end`, for writing.
+    /// Borrows the bytes from `start` to `end` for writing.
     pub fn slice_mut(&mut self, start: usize, end: usize) -> &mut [u8]
         requires order { start ≤ end }
         requires inside { end ≤ length (held_items self.old) }

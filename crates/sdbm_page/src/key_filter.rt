@@ -1,4 +1,4 @@
-//! A Bloom filter over keys: for most keys it shows at once that no equal key was added before.
+//! A Bloom filter over keys. For most keys, it shows without a comparison that no equal key was added before.
 ghost use Rattle.std.specs.Prelude.{◌≡◌, ◌≤◌, ◌*◌, ◌↔◌, ℕ, List, length, replicate, IsTrue};
 ghost use Rattle.sdbm_page.specs.Marks.{IsNoted, words_stirred, stirred, marks_of};
 
@@ -7,7 +7,7 @@ use byteorder::{ByteOrder, LittleEndian};
 /// The multiplier for each part of a key: odd, without a pattern in its bits.
 const FACTOR: u64 = 0x9E37_79B9_7F4A_7C15;
 
-/// The bits set by the keys added so far. A key sets up to two bits in one of the words; equal keys set the same bits.
+/// The bits that the added keys set. A key sets one or two bits in one of the words; equal keys set the same bits.
 #[derive(Drop)]
 pub struct KeyFilter {
     words: [u64; 256],
@@ -21,7 +21,7 @@ impl KeyFilter {
         KeyFilter { words: [0; 256] }
     }
 
-    /// Adds a key and returns `true` if its bits were set already. If they were not, no equal key was added before.
+    /// Adds a key. Returns `true` if its bits were set already; otherwise no equal key was added before.
     pub fn note(&mut self, key: &[u8]) -> bool
         ensures told { IsTrue result ↔ IsNoted self.old.words key.now }
         ensures noted { IsNoted self.new.words key.now }
@@ -36,7 +36,7 @@ impl KeyFilter {
     }
 }
 
-// The hash of a key: first its words of eight bytes, then the remaining bytes.
+// Returns the hash of a key, computed from its words of eight bytes and then from its remaining bytes.
 #[tactic(auto, unfolding(crate::specs::Marks::stirred))]
 fn stirred(key: &[u8]) -> u64
     ensures { result ≡ stirred key.now }
@@ -51,7 +51,7 @@ fn stirred(key: &[u8]) -> u64
     sum
 }
 
-// The hash of the first `words` words of eight bytes.
+// Returns the hash of the first `words` words of eight bytes.
 fn words_stirred(key: &[u8], words: usize) -> u64
     requires { 8 * words ≤ length key.now }
     ensures { result ≡ words_stirred key.now words }
@@ -64,7 +64,7 @@ fn words_stirred(key: &[u8], words: usize) -> u64
     sum
 }
 
-// The two bits that a hash sets in its word; they may coincide.
+// Returns the two bits that a hash sets in its word. The two bits may be the same.
 #[tactic(auto, unfolding(crate::specs::Marks::marks_of))]
 fn marks(sum: u64) -> u64
     ensures { result ≡ marks_of sum }

@@ -10,13 +10,13 @@ use crate::layout::Layout;
 use crate::sorted::are_apart_sorted;
 use sdbm_addr::PageSize;
 
-// The least number of keys for which the Bloom filter costs less than comparing every two keys.
+// The least number of keys for which the Bloom filter costs less than comparing each key with all others.
 const MARKED: usize = 16;
 
-// The greatest number of keys that may hit the filter. With more hits the filter decides little, and all keys are sorted.
+// The greatest number of keys that may hit the filter. With more hits the filter saves little, so all keys are sorted instead.
 const DOUBTED: usize = 16;
 
-/// Checks that no key occurs twice in bytes with a valid layout. The cost is at most that of sorting the keys.
+/// Checks that all keys in bytes with a valid layout are distinct. The cost is at most that of sorting the keys.
 pub fn has_distinct_keys(bytes: &[u8], size: PageSize, layout: Layout) -> bool
     requires long { length bytes.now ≡ page_bytes size }
     requires layout { IsLayout size bytes.now layout.count layout.low }
@@ -40,7 +40,7 @@ fn are_apart(bytes: &[u8], count: usize) -> bool
     }
 }
 
-// The same check: compares each key with all keys before it.
+// Checks that the keys are distinct by comparing each key with all keys before it.
 fn are_apart_one_by_one(bytes: &[u8], count: usize) -> bool
     requires { AreInside bytes.now count }
     ensures { IsTrue result ↔ AreApart bytes.now count }
@@ -53,7 +53,8 @@ fn are_apart_one_by_one(bytes: &[u8], count: usize) -> bool
     true
 }
 
-// The same check: compares a key with the keys before it only if it hits the filter. Returns `None` after too many hits.
+// Checks that the keys are distinct, but compares a key with the keys before it only if it hits the filter. Returns `None` after too many
+// hits.
 fn are_apart_by_marks(bytes: &[u8], count: usize) -> Option<bool>
     requires { AreInside bytes.now count }
     ensures { IfSome result (λ told. IsTrue told ↔ AreApart bytes.now count) }

@@ -39,9 +39,9 @@ use tails::{is_key, tail_of};
 /// The reason why bytes cannot be read as a page. The faults are tested in this order.
 #[derive(Clone, Copy, Debug, PartialEq, Eq)]
 pub enum PageFault {
-    /// The count of offsets is odd, or higher than a page of the size allows.
+    /// The number of offsets is odd, or higher than the page size allows.
     Count,
-    /// An offset is above the one before it, a pair is larger than the limit, or the pairs reach into the index.
+    /// An offset is above the previous offset, a pair is larger than the limit, or the pairs reach into the index.
     Offsets,
     /// A key occurs twice.
     DoubleKey,
@@ -55,7 +55,7 @@ pub const COUNT_BYTES: usize = 2;
 /// The length in bytes of the two offsets of a pair.
 pub const PAIR_OFFSETS: usize = 4;
 
-/// Returns `true` if the bytes, those of a page of the size, spell the page without pairs, like the zeros of a hole.
+/// Returns `true` if the bytes of a page spell the page without pairs. The zeros of a hole spell this page.
 pub fn spells_empty(bytes: &[u8], size: PageSize) -> bool
     requires { length bytes.now ≡ page_bytes size }
     ensures { IsTrue result ↔ Spells size bytes.now [] }
@@ -63,8 +63,8 @@ pub fn spells_empty(bytes: &[u8], size: PageSize) -> bool
     number_at(bytes, 0) == 0
 }
 
-/// A page. The model is its size and the list of its pairs. The pairs always fit, and each is small enough; callers that add pairs
-/// keep the keys distinct. Free bytes are zero.
+/// A page. The model is its size and the list of its pairs. The pairs always fit, and each pair is within the length limit. Callers that
+/// add pairs keep the keys distinct. Free bytes are zero.
 #[derive(Drop)]
 pub struct Page<A: Allocator> {
     size: PageSize,
@@ -93,8 +93,8 @@ impl<A: Allocator> Page<A> {
         Ok(Page { size, bytes })
     }
 
-    /// Reads the bytes of a page of the size. Free bytes may have any values; they are zero in the page. Nothing is copied before all
-    /// tests pass.
+    /// Reads the bytes of a page. Free bytes may have any values; in the returned page they are zero. Nothing is copied before all tests
+    /// pass.
     ///
     /// # Errors
     /// `Count`, `Offsets` or `DoubleKey`, the first that applies; otherwise `NoMemory` if allocation fails.
@@ -116,21 +116,21 @@ impl<A: Allocator> Page<A> {
         Ok(page)
     }
 
-    /// The size of the page.
+    /// Returns the size of the page.
     pub fn page_size(&self) -> PageSize
         ensures { result ≡ self.now.size }
     {
         self.size
     }
 
-    /// The bytes of the page in the file; free bytes are zero.
+    /// Borrows the bytes that the page has in the file; free bytes are zero.
     pub fn bytes(&self) -> &[u8]
         ensures { result.now ≡ bytes_of_page self.now.size self.now.pairs }
     {
         self.bytes.as_slice()
     }
 
-    /// The number of pairs.
+    /// Returns the number of pairs.
     pub fn len(&self) -> usize
         ensures count { result ≡ length self.now.pairs }
         ensures laid { IsLaid self.now.size self.now.pairs }
@@ -145,7 +145,7 @@ impl<A: Allocator> Page<A> {
         self.len() == 0
     }
 
-    /// The key of pair `i`. Requires `i` below `len`.
+    /// Borrows the key of pair `i`. Requires `i` below `len`.
     pub fn key(&self, i: usize) -> &[u8]
         requires { i < length self.now.pairs }
         ensures { result.now ≡ key_at self.now.pairs i }
@@ -153,7 +153,7 @@ impl<A: Allocator> Page<A> {
         key_in(self.bytes.as_slice(), i)
     }
 
-    /// The value of pair `i`. Requires `i` below `len`.
+    /// Borrows the value of pair `i`. Requires `i` below `len`.
     pub fn record(&self, i: usize) -> &[u8]
         requires { i < length self.now.pairs }
         ensures { result.now ≡ value_at self.now.pairs i }
@@ -161,7 +161,8 @@ impl<A: Allocator> Page<A> {
         value_in(self.bytes.as_slice(), i)
     }
 
-    /// The value of pair `i`, for overwriting in place. Requires `i` below `len`. Its length and the rest of the page do not change.
+    /// Borrows the value of pair `i` for overwriting in place. Requires `i` below `len`. The length of the value and the rest of the page
+    /// stay the same.
     pub fn record_mut(&mut self, i: usize) -> &mut [u8]
         requires { i < length self.old.pairs }
         ensures* writes_back { sem 𝓛 (LendsValue A.row A.Allocator self.entry i result) }
@@ -171,7 +172,7 @@ impl<A: Allocator> Page<A> {
         self.bytes.slice_mut(start, end)
     }
 
-    /// The index of the pair with the key, or `None` if the key is absent. If several pairs have the key, it is the first one.
+    /// Returns the index of the first pair with the key, or `None` if no pair has the key.
     pub fn find(&self, key: &[u8]) -> Option<usize>
         ensures found { IfSome result (λ i. IsPlace self.now.pairs key.now i) }
         ensures absent { IfNone result (value_of self.now.pairs key.now ≡ None) }
@@ -182,7 +183,7 @@ impl<A: Allocator> Page<A> {
         }
     }
 
-    /// Returns `true` if a pair of `need` bytes fits on the page, with its two offsets, next to the existing pairs and the count.
+    /// Returns `true` if one more pair of `need` bytes fits on the page, together with its two offsets.
     pub fn fits(&self, need: usize) -> bool
         ensures { IsTrue result ↔ (sum_by footprint self.now.pairs + need + 4 + 2 ≤ page_bytes self.now.size) }
     {
@@ -193,7 +194,7 @@ impl<A: Allocator> Page<A> {
         need <= free - PAIR_OFFSETS
     }
 
-    /// Like `fits`, in place of pair `i`, which must be below `len`.
+    /// Returns `true` if a pair of `need` bytes fits on the page after pair `i` is removed. Requires `i` below `len`.
     pub fn fits_instead(&self, i: usize, need: usize) -> bool
         requires { i < length self.now.pairs }
         ensures { IsTrue result ↔ (sum_by footprint (remove self.now.pairs i) + need + 4 + 2 ≤ page_bytes self.now.size) }
@@ -201,7 +202,7 @@ impl<A: Allocator> Page<A> {
         need <= self.free() + self.taken(i) - PAIR_OFFSETS
     }
 
-    /// The bytes that pair `i` takes on the page: its key, its value and its two offsets. Requires `i` below `len`.
+    /// Returns the number of bytes that pair `i` takes on the page: its key, its value and its two offsets. Requires `i` below `len`.
     pub fn taken(&self, i: usize) -> usize
         requires { i < length self.now.pairs }
         ensures taken { result ≡ footprint (key_at self.now.pairs i, value_at self.now.pairs i) }
@@ -211,14 +212,14 @@ impl<A: Allocator> Page<A> {
         self.key(i).len() + self.record(i).len() + PAIR_OFFSETS
     }
 
-    /// The free bytes of the page: all except the count, the offsets and the pairs.
+    /// Returns the number of free bytes: all bytes except the count, the offsets and the pairs.
     pub fn free(&self) -> usize
         ensures { result + sum_by footprint self.now.pairs + 2 ≡ page_bytes self.now.size }
     {
         self.low() - (PAIR_OFFSETS * self.len() + COUNT_BYTES)
     }
 
-    /// Appends a pair. It must fit on the page and be small enough, and its key must be absent.
+    /// Appends a pair. The pair must fit on the page and be within the length limit, and its key must be absent.
     pub fn add(&mut self, key: &[u8], value: &[u8])
         requires fits { sum_by footprint self.old.pairs + footprint (key.now, value.now) + 2 ≤ page_bytes self.old.size }
         requires small { length key.now + length value.now ≤ pair_limit self.old.size }
@@ -244,7 +245,7 @@ impl<A: Allocator> Page<A> {
 
 // Conversion from bytes.
 impl<A: Allocator> Page<A> {
-    // The page of bytes with a valid layout, with free bytes cleared. The keys may be equal.
+    // Makes a page from bytes with a valid layout; clears the free bytes. Keys may be equal.
     fn cleared(alloc: A, bytes: &[u8], size: PageSize, layout: Layout) -> Result<Self, AllocError>
         requires long { length bytes.now ≡ page_bytes size }
         requires layout { IsLayout size bytes.now layout.count layout.low }
@@ -258,7 +259,7 @@ impl<A: Allocator> Page<A> {
 
 // Searches for a key.
 impl<A: Allocator> Page<A> {
-    // `find` for a key of at least eight bytes; `tail` is the number in the last eight.
+    // Searches like `find` for a key of at least eight bytes; `tail` is the number in its last eight bytes.
     fn find_by_tail(&self, key: &[u8], tail: u64) -> Option<usize>
         requires { IsTail key.now tail }
         ensures found { IfSome result (λ i. IsPlace self.now.pairs key.now i) }
@@ -275,7 +276,7 @@ impl<A: Allocator> Page<A> {
         None
     }
 
-    // `find` for any key.
+    // Searches like `find` for a key of any length.
     fn find_by_key(&self, key: &[u8]) -> Option<usize>
         ensures found { IfSome result (λ i. IsPlace self.now.pairs key.now i) }
         ensures absent { IfNone result (value_of self.now.pairs key.now ≡ None) }
@@ -291,14 +292,14 @@ impl<A: Allocator> Page<A> {
 
 // Positions of pairs.
 impl<A: Allocator> Page<A> {
-    // The position of the first byte of the last pair; without pairs, the length of the page.
+    // Returns the position of the first byte of the last pair; without pairs, the length of the page.
     fn low(&self) -> usize
         ensures { IsLow self.now result }
     {
         end_at(self.bytes.as_slice(), self.len())
     }
 
-    // The position at which pair `i` ends, and the position at which its value starts.
+    // Returns the position at which pair `i` ends, and the position at which its value starts.
     fn extent(&self, i: usize) -> (usize, usize)
         requires { i < length self.now.pairs }
         ensures { IsExtent self.now i result.0 result.1 }
@@ -307,7 +308,7 @@ impl<A: Allocator> Page<A> {
         (end_at(bytes, i), value_start(bytes, i))
     }
 
-    // The start and the end of the value of pair `i`.
+    // Returns the start and the end of the value of pair `i`.
     fn value_range(&self, i: usize) -> (usize, usize)
         requires { i < length self.now.pairs }
         ensures { IsValueRange self.now i result.0 result.1 }

@@ -9,8 +9,8 @@ use crate::fields::key_in;
 // One more than the greatest number of keys on a wide page.
 const ROOM: usize = 2048;
 
-/// Checks that no two of the first `count` pairs have the same key: after sorting, equal keys are neighbors. The slices are stored on
-/// the stack; nothing is allocated.
+/// Checks that no two of the first `count` pairs have the same key: after sorting, equal keys are neighbors. The list of keys is on the
+/// stack; nothing is allocated.
 pub fn are_apart_sorted(bytes: &[u8], count: usize) -> bool
     requires inside { AreInside bytes.now count }
     requires few { count ≤ 2048 }

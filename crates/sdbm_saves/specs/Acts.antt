@@ -1,4 +1,4 @@
--- The files after a record of calls, and after a crash.
+-- The files after a list of recorded calls, and the images that a crash may leave then.
 use Rattle.std.specs.Prelude.{◌≡◌, ◌≤◌, ℕ, List, [], ◌∷◌, ◌++◌, length, take, Result, Ok, Err}
 use Rattle.std.proofs.Common.{sym, subst, arith}
 use Rattle.std.proofs.lemmas.List.{take_all}
@@ -15,13 +15,14 @@ pub data Act : Type 0 where
   sync : DiskFile → Act
   clear : Act
 
--- The record after a call. The call is added unless the call ran out of memory. If the disk failed, the call was begun, so it is added.
+-- The record after a call. A call that ran out of memory was not begun and is not added; every other call is added, even if the disk
+-- failed.
 abbrev pub Notes : {T : Type 0} → Act → List Act → List Act → Result T DiskError → Type 0
 Notes act old new (Ok x) = new ≡ old ++ act ∷ []
 Notes act old new (Err Failed) = new ≡ old ++ act ∷ []
 Notes act old new (Err Memory) = new ≡ old
 
--- the files as read after a call
+-- the image that is read after a call
 abbrev pub acted : Act → Image → Image
 acted (write file at bytes) image = put file (written at bytes (content file image)) image
 acted (resize file len) image = put file (resized len (content file image)) image
@@ -32,7 +33,7 @@ abbrev pub seen_after : List Act → Image → Image
 seen_after [] image = image
 seen_after (act ∷ acts) image = seen_after acts (acted act image)
 
--- what a crash may leave after a call, given what it might leave before
+-- the images that a crash may leave after a call, if `before` are those that it may leave before the call
 abbrev pub LeftBy : Act → Image → (Image → Type 0) → Image → Type 0
 LeftBy (write file at bytes) image before c = (d : Image) × before d × Within file (Torn at bytes) d c
 LeftBy (resize file len) image before c = (d : Image) × before d × Within file (TornLength len) d c
@@ -43,7 +44,7 @@ abbrev pub LeftAfter : List Act → Image → (Image → Type 0) → Image → T
 LeftAfter [] image before c = before c
 LeftAfter (act ∷ acts) image before c = LeftAfter acts (acted act image) (LeftBy act image before) c
 
--- what a crash might have left at the time after the first t calls, or later
+-- an image that a crash might have left after the first t calls or later
 pub record LeftSince (acts : List Act) (image : Image) (before : Image → Type 0) (t : ℕ) (c : Image) : Type 0 where
   pub moment : ℕ
   pub later : t ≤ moment

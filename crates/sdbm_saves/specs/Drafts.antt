@@ -1,4 +1,4 @@
--- The bytes of a plan built from changes. `Redo` defines what they mean.
+-- The bytes of a plan that is built from changes. `Redo.antt` defines the meaning of these bytes.
 use Rattle.std.specs.Prelude.{◌≡◌, ◌≢◌, ◌⊎◌, ◌<◌, ◌≤◌, ℕ, ◌+◌, ◌/◌, ◌%◌, List, [], ◌∷◌, ◌++◌, length, drop, get_or, min}
 use Rattle.sdbm_saves.specs.declared.disk.DiskFile.{DiskFile}
 use Rattle.sdbm_saves.specs.declared.disk.DiskFile.TheVariants.{Pages, Directory, Redo}
@@ -14,15 +14,16 @@ file_code Pages = 0
 file_code Directory = 1
 file_code Redo = 1
 
--- n bytes of a file from an offset on; bytes past its end are zeros
+-- n bytes of a file from an offset on; bytes past the end of the file are zeros
 abbrev pub part_of : List ℕ → ℕ → ℕ → List ℕ
 part_of old at n = resized n (drop (min at (length old)) old)
 
--- a change of a file: the offset, the new bytes, and the old bytes
+-- the bytes of a change: the file, the offset, the length, the new bytes, and the old bytes
 abbrev pub change_bytes : DiskFile → ℕ → List ℕ → List ℕ → List ℕ
 change_bytes file at bytes was = file_code file ∷ (spelled at ++ (spelled (length bytes) ++ (bytes ++ was)))
 
--- a plan: the new lengths of the pages and the directory, their old lengths, the number of changes, and the changes
+-- the bytes of a plan: the signature, the new lengths of the pages and the directory, their old lengths, the number of changes, and the
+-- changes
 abbrev pub plan_bytes : ℕ → ℕ → ℕ → ℕ → ℕ → List ℕ → List ℕ
 plan_bytes pages directory old_pages old_directory count changes =
     signature ++ (spelled pages ++ (spelled directory ++ (spelled old_pages ++ (spelled old_directory ++ (spelled count ++ changes)))))
@@ -32,35 +33,36 @@ length_in pages directory Pages = pages
 length_in pages directory Directory = directory
 length_in pages directory Redo = 0
 
--- the change is complete, within its file, and has its old bytes
+-- the change is complete and within its file, and its old bytes are those of the file
 pub record FitsIn (pages directory : ℕ) (before : List ℕ × List ℕ) (change : List ℕ) : Type 0 where
   pub whole : span_of change ≤ length change
   pub inside : offset_of change + size_of change ≤ length_in pages directory (file_of change)
   pub was : (i : ℕ) → i < size_of change → get_or (was_of change) i 0 ≡ get_or (data_in before (file_of change)) (offset_of change + i) 0
 
--- the bytes are exactly this number of changes from files with these bytes to files with these lengths
+-- The bytes are `count` changes and nothing else. `before` are the bytes of both files before the changes; `pages` and `directory` are the
+-- new lengths.
 pub record AreChanges (pages directory : ℕ) (before : List ℕ × List ℕ) (count : ℕ) (changes : List ℕ) : Type 0 where
   pub fits : (k : ℕ) → k < count → FitsIn pages directory before (rest_after k changes)
   pub ends : rest_after count changes ≡ []
 
--- writes the new bytes at an offset of a file, provided each byte there is the old one or the new one
+-- `after` is `before` with the new bytes at an offset, provided that each byte of `before` there is the old or the new one
 abbrev pub Puts : ℕ → List ℕ → List ℕ → List ℕ → List ℕ → Type 0
 Puts at old new before after =
     at + length new ≤ length before
     → ((i : ℕ) → i < length new → (get_or before (at + i) 0 ≡ get_or old i 0) ⊎ (get_or before (at + i) 0 ≡ get_or new i 0))
     → after ≡ written at new before
 
--- the first `size` bytes of a file from an offset on are these; a byte past the end of either counts as zero
+-- the `size` bytes of a file from an offset on are those of `old`; bytes past the end of `old` or of the file count as zeros
 abbrev pub ReadsAt : ℕ → List ℕ → ℕ → List ℕ → Type 0
 ReadsAt at old size file = (i : ℕ) → i < size → get_or old i 0 ≡ get_or file (at + i) 0
 
--- more changes, which replace the old bytes at an offset of a file by the new ones, and know the old ones
+-- `after` is `before` and more changes, which write the new bytes over the old ones at an offset of a file and contain the old bytes
 pub record HasPut (pages directory : ℕ) (both : List ℕ × List ℕ) (file : DiskFile) (at : ℕ) (old new : List ℕ) (few : ℕ) (before : List ℕ) (many : ℕ) (after : List ℕ) : Type 0 where
   pub changes : AreChanges pages directory both many after
   pub put : (x : List ℕ) → Puts at old new (replayed file few before x) (replayed file many after x)
   pub others : (g : DiskFile) → g ≢ file → (x : List ℕ) → replayed g many after x ≡ replayed g few before x
 
--- the first `upto` bytes of a block are unchanged outside a part of it
+-- the first `upto` bytes of a block are those of `known`, except the bytes from `start` to `end`
 pub record AreOutside (known block : List ℕ) (start end upto : ℕ) : Type 0 where
   pub before : (i : ℕ) → i < start → get_or block i 0 ≡ get_or known i 0
   pub after : (i : ℕ) → end ≤ i → i < upto → i < length block → get_or block i 0 ≡ get_or known i 0

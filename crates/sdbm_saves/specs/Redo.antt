@@ -1,9 +1,9 @@
--- The format and meaning of a redo file. It is a commit byte (mark), which is 1 if the save is committed, and the plan of the save. A plan
--- is an eight-byte signature, the new lengths of the pages and the directory, their old lengths, the number of changes, and the changes,
--- with nothing after them. A change is a file (0 for the pages, otherwise the directory), an offset, a length, the new bytes, and the old
--- bytes; bytes past the end of a file count as zero. A number is four bytes, little-endian. This is a redo log that is committed by one
--- write and may be replayed any number of times, with each block before and after: Gray and Reuter, Transaction Processing (1993), chapters
--- 9 and 10.
+-- The format and the meaning of a redo file. The file has a commit byte (mark), which is 1 if the save is committed, and the plan of the
+-- save. A plan has an eight-byte signature, the new lengths of the pages and the directory, their old lengths, the number of changes, and
+-- the changes; nothing follows the last change. A change has a file (0 for the pages, otherwise the directory), an offset, a length, the
+-- new bytes, and the old bytes; bytes past the end of a file count as zeros. Numbers have four bytes, little-endian. This is a redo log
+-- with the blocks before and after: one write commits it, and it may be replayed any number of times (Gray and Reuter, Transaction
+-- Processing 1993, chapters 9 and 10).
 use Rattle.std.specs.Prelude.{◌<◌, ◌≡◌, ◌≢◌, ◌⊎◌, ℕ, zero, suc, ◌+◌, ◌*◌, ◌≤◌, List, [], ◌∷◌, length, take, drop, get_or, if◌then◌else◌, ◌==◌, min, max}
 use Rattle.sdbm_saves.specs.declared.disk.DiskFile.{DiskFile}
 use Rattle.sdbm_saves.specs.declared.disk.DiskFile.TheVariants.{Pages, Directory, Redo}
@@ -30,11 +30,11 @@ size_of change = number_at change 5
 abbrev pub data_of : List ℕ → List ℕ
 data_of change = take (size_of change) (drop 9 change)
 
--- the old bytes
+-- the old bytes of the first change
 abbrev pub was_of : List ℕ → List ℕ
 was_of change = take (size_of change) (drop (9 + size_of change) change)
 
--- the size of a change in bytes
+-- the size of the first change in bytes
 abbrev pub span_of : List ℕ → ℕ
 span_of change = 9 + (size_of change + size_of change)
 
@@ -46,13 +46,13 @@ abbrev pub rest_after : ℕ → List ℕ → List ℕ
 rest_after zero changes = changes
 rest_after (suc n) changes = rest_after n (rest_of changes)
 
--- applies a change of one file to the bytes of a file
+-- the result of applying a change of the file `touched` to the bytes of `file`; a change of another file has no effect
 abbrev pub effect : DiskFile → DiskFile → List ℕ → List ℕ → List ℕ
 effect Pages Pages change old = written (offset_of change) (data_of change) old
 effect Directory Directory change old = written (offset_of change) (data_of change) old
 effect touched file change old = old
 
--- the bytes of a file after the first n changes
+-- the result of applying the first n changes to the bytes of a file
 abbrev pub replayed : DiskFile → ℕ → List ℕ → List ℕ → List ℕ
 replayed file zero changes old = old
 replayed file (suc n) changes old = replayed file n (rest_of changes) (effect (file_of changes) file changes old)
@@ -73,11 +73,11 @@ count_of plan = number_at plan 24
 abbrev pub changes_of : List ℕ → List ℕ
 changes_of plan = drop 28 plan
 
--- the bytes of a file after the whole plan
+-- the result of applying the whole plan to the bytes of a file
 abbrev pub renewed : DiskFile → List ℕ → List ℕ → List ℕ
 renewed file plan old = replayed file (count_of plan) (changes_of plan) (resized (new_length file plan) old)
 
--- the image after the first n changes, and after the whole plan
+-- the result of applying the first n changes to an image, without the change of lengths
 abbrev pub replayed_image : ℕ → List ℕ → Image → Image
 replayed_image n plan image = record { pages = replayed Pages n (changes_of plan) image.pages; directory = replayed Directory n (changes_of plan) image.directory; redo = image.redo }
 
@@ -109,7 +109,7 @@ renewed_files plan image = (renewed Pages plan image.pages, renewed Directory pl
 abbrev pub mark_of : Image → ℕ
 mark_of image = get_or image.redo 0 0
 
--- the files that an image represents, in any state that a crash may leave
+-- the data files that an image represents: its own data files, with the plan applied if the mark is 1
 abbrev pub stands_for : Image → List ℕ × List ℕ
 stands_for image = if mark_of image == 1 then renewed_files (drop 1 image.redo) image else files image
 
@@ -119,7 +119,7 @@ pub record IsChangeOf (plan change : List ℕ) : Type 0 where
   pub counted : index < count_of plan
   pub is : change ≡ rest_after index (changes_of plan)
 
--- A change determines this byte for an offset of a file: it covers the offset, and the byte is its new byte or its old byte there.
+-- The change covers this offset of the file, and `byte` is its new byte or its old byte there.
 pub record Offers (change : List ℕ) (file : DiskFile) (at byte : ℕ) : Type 0 where
   pub touches : file_of change ≡ file
   pub index : ℕ
@@ -127,7 +127,7 @@ pub record Offers (change : List ℕ) (file : DiskFile) (at byte : ℕ) : Type 0
   pub place : offset_of change + index ≡ at
   pub is : (byte ≡ get_or (data_of change) index 0) ⊎ (byte ≡ get_or (was_of change) index 0)
 
--- some change of a plan determines this byte for an offset of a file
+-- some change of the plan covers this offset of the file and has `byte` there
 pub record HasByte (plan : List ℕ) (file : DiskFile) (at byte : ℕ) : Type 0 where
   pub change : List ℕ
   pub one : IsChangeOf plan change
@@ -143,29 +143,30 @@ data_in both Pages = both.0
 data_in both Directory = both.1
 data_in both Redo = []
 
--- each byte of a file in the range of a change is one that the plan determines for it
+-- each byte of a file in the range of a change is the new or the old byte of some change of the plan
 abbrev pub KnowsBlock : List ℕ → List ℕ → List ℕ → Type 0
 KnowsBlock plan change bytes = (i : ℕ) → i < size_of change → HasByte plan (file_of change) (offset_of change + i) (get_or bytes (offset_of change + i) 0)
 
--- A plan knows the data files: it was made for files like these, and some of it may already be done. Each byte in the range of a change is
--- old or new, and each length is old, new, or between.
+-- The plan knows the data files: it was made for these files, and a part of the plan may already be applied. Each byte in the range of a
+-- change is old or new, and each length is old, new, or between.
 pub record Knows (plan : List ℕ) (both : List ℕ × List ℕ) : Type 0 where
   pub pages : IsBetween (old_length Pages plan) (new_length Pages plan) (length both.0)
   pub directory : IsBetween (old_length Directory plan) (new_length Directory plan) (length both.1)
   pub bytes : (change : List ℕ) → IsChangeOf plan change → KnowsBlock plan change (data_in both (file_of change))
 
--- An interrupted save can be recovered: if the commit byte is 1, a complete plan follows, and the plan knows the files. If the commit byte
--- is not 1, there is nothing to recover.
+-- An interrupted save can be recovered. If the commit byte is 1, a complete plan follows that knows the files; otherwise there is nothing
+-- to recover.
 abbrev pub CanEnd : Image → Type 0
 CanEnd image = mark_of image ≡ 1 → IsPlan (drop 1 image.redo) × Knows (drop 1 image.redo) (files image)
 
--- two images with the same redo file and the same result of the plan; if the plan knows the first image, it knows the second
+-- The images have the same redo file, and the plan has the same result on both. If the plan knows the files of `old`, it knows those of
+-- `new`.
 pub record Alike (plan : List ℕ) (old new : Image) : Type 0 where
   pub redo : new.redo ≡ old.redo
   pub same : renewed_files plan new ≡ renewed_files plan old
   pub known : Knows plan (files old) → Knows plan (files new)
 
--- a plan that ends with the changes of another plan and has the same new lengths
+-- `whole` is a plan that ends with the changes of `plan` and has the same new lengths
 pub record EndsWith (whole plan : List ℕ) : Type 0 where
   pub is_plan : IsPlan whole
   pub before : ℕ
@@ -173,7 +174,7 @@ pub record EndsWith (whole plan : List ℕ) : Type 0 where
   pub changes : rest_after before (changes_of whole) ≡ changes_of plan
   pub lengths : (g : ℕ) → new_length (data_file g) whole ≡ new_length (data_file g) plan
 
--- two images that are alike for each plan that ends with this one
+-- the images are alike for each plan that ends with this one
 abbrev pub AlikeFor : List ℕ → Image → Image → Type 0
 AlikeFor plan old new = (whole : List ℕ) → EndsWith whole plan → Alike whole old new
 

@@ -5,18 +5,18 @@ use Rattle.sdbm_addr.specs.Files.{AreFiles, SpellsDatabase}
 use Rattle.sdbm_saves.specs.declared.disk.DiskFile.TheVariants.{Pages, Directory}
 use Rattle.sdbm_saves.specs.Redo.{renewed, IsPlan, Knows}
 
--- the bytes of `.pag` and `.dir` that are written for a database, and that spell it
+-- `pages` and `directory` are the bytes of `.pag` and `.dir` that are written for a database, and they spell the database
 pub record AreFilesFor (db : Database) (pages directory : List ℕ) : Type 0 where
   pub written : AreFiles db directory pages
   pub spelled : SpellsDatabase db directory pages
 
--- a plan that makes the old files those of a database, and knows the old files
+-- the plan knows the old files and turns them into the files of a database
 pub record IsSaving (db : Database) (plan old_pages old_directory : List ℕ) : Type 0 where
   pub whole : IsPlan plan
   pub knows : Knows plan (old_pages, old_directory)
   pub files : AreFilesFor db (renewed Pages plan old_pages) (renewed Directory plan old_directory)
 
--- a plan that knows these files and changes neither
+-- the plan knows these files and changes neither
 pub record ChangesNothing (plan pages directory : List ℕ) : Type 0 where
   pub whole : IsPlan plan
   pub knows : Knows plan (pages, directory)

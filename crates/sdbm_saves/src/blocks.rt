@@ -84,7 +84,7 @@ pub(crate) fn draft_block<A: Allocator>(
     Ok(())
 }
 
-// Returns whether `old` from `at` on equals `block`. A byte past the end of `old` counts as zero.
+// Returns `true` if `old` from `at` on equals `block`. Bytes past the end of `old` count as zeros.
 pub(crate) fn reads_as(old: &[u8], at: usize, block: &[u8]) -> bool
     requires { at + length block.now < 2 ^ 63 }
     ensures { IsTrue result ↔ ((i : ℕ) → i < length block.now → get_or block.now i 0 ≡ get_or old.now (at + i) 0) }
@@ -102,7 +102,7 @@ fn is_same(one: &[u8], other: &[u8]) -> bool
     one == other
 }
 
-// Returns whether `block` is `kept` padded with zeros.
+// Returns `true` if `block` is `kept` padded with zeros.
 fn is_padded(kept: &[u8], block: &[u8]) -> bool
     ensures { IsTrue result ↔ ((i : ℕ) → i < length block.now → get_or block.now i 0 ≡ get_or kept.now i 0) }
 {

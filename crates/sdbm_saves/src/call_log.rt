@@ -1,4 +1,4 @@
-// A log of the calls on a system's files.
+// A log of the calls to the system's files.
 ghost use Rattle.std.specs.Prelude.{◌≡◌, ◌++◌, ◌∷◌, [], length, OnOk, IfOk, OnErr};
 ghost use Rattle.sdbm_saves.specs.Acts.{write, resize, sync, clear};
 
@@ -6,7 +6,7 @@ use crate::DiskFile;
 use std::alloc::{AllocError, Global};
 use std::mem;
 
-/// Room for the calls of a save up to and including its commit byte, or of a recovery without a plan.
+/// The number of calls for which a log has room from the start: those of a save up to its commit byte, or of a recovery without a plan.
 const FIRST_CALLS: usize = 16;
 
 // A call that was begun. A sync is logged only after it succeeded.
@@ -27,8 +27,8 @@ pub enum Call {
     Clear,
 }
 
-/// A log of calls for a `Host`. Room for the first calls, and for a write of one byte, is allocated at the start. So a save does not run
-/// out of memory between what it prints and its commit byte.
+/// A log of calls for a `Host`. Memory for the first calls, and for a write of one byte, is allocated at the start, so a save cannot run
+/// out of memory between printing its answers and writing its commit byte.
 #[derive(Drop)]
 pub struct CallLog {
     alloc: Global,
@@ -39,7 +39,7 @@ pub struct CallLog {
 impl CallLog {
     ghost use Rattle.sdbm_saves.specs.CallLog.{acts};
 
-    /// An empty log.
+    /// Makes an empty log.
     ///
     /// # Errors
     ///
@@ -67,7 +67,7 @@ impl CallLog {
         self.note(Call::Write { file, at, bytes })
     }
 
-    /// Logs a new length.
+    /// Logs a change of length.
     ///
     /// # Errors
     ///
@@ -114,7 +114,7 @@ impl CallLog {
     }
 }
 
-// Copies the bytes. A single byte is copied into `room` without an allocation, if `room` is not used up.
+// Copies the bytes. A single byte is copied into `room` without an allocation if `room` is still unused.
 fn copy_of(alloc: Global, room: &mut Vec<u8>, bytes: &[u8]) -> Result<Vec<u8>, AllocError>
     ensures { IfOk result (λ copy. copy.items ≡ bytes.now) }
 {

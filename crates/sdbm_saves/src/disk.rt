@@ -1,4 +1,4 @@
-// The three files of a database as a save sees them: what a read returns and what a crash may leave.
+// The three files of a database in the model of a save: the bytes that reads return, and the images that a crash may leave.
 ghost use Rattle.std.specs.Prelude.{◌≡◌, ◌≤◌, ℕ, length, [], OnOk};
 ghost use Rattle.sdbm_saves.specs.declared.disk.DiskError.TheVariants.{Memory};
 ghost use Rattle.sdbm_saves.specs.declared.disk.DiskFile.TheVariants.{Redo};
@@ -17,7 +17,7 @@ pub enum DiskFile {
     Redo,
 }
 
-/// Why a disk call, or an operation built from such calls, failed.
+/// The reason why a disk call failed, or an operation that makes such calls.
 #[derive(Clone, Copy, Debug, PartialEq, Eq)]
 pub enum DiskError {
     /// Out of memory. Some of the work may have been done.
@@ -36,27 +36,27 @@ impl From<AllocError> for DiskError {
 
 /// A device with the three files. A crash may happen at any time.
 ///
-/// `seen` is what reads return. `may_leave` holds for each image that a crash now may leave: writes reach the disk in any order and in
-/// part, except those that were synced. `left_since` holds for each image that a crash at any time since a given one might have left,
-/// including during calls.
+/// `seen` is the image that reads return. `may_leave` holds for each image that a crash may leave now: writes reach the disk in any order
+/// and in part, except those that were synced. `left_since` holds for each image that a crash might have left at any time since a given
+/// time, even during a call.
 pub trait Disk {
     /// The image that reads return.
     ghost seen: { Self → Image };
 
-    /// The images that a crash now may leave.
+    /// The images that a crash may leave now.
     ghost may_leave: { Self → Image → Type 0 };
 
     /// The time, as a number that never decreases.
     ghost moment: { Self → ℕ };
 
-    /// The images that a crash at that time or later might have left, during a call or between two calls.
+    /// The images that a crash might have left at a given time or later, during a call or between two calls.
     ghost left_since: { Self → ℕ → Image → Type 0 };
 
     /// The disk has failed.
     ghost has_failed: { Self → Type 0 };
 
-    /// Overwrites bytes and may write past the end. Until this file is synced, a crash may leave the old or the new value of each byte in
-    /// the range.
+    /// Overwrites bytes; the write may reach past the end of the file. Until this file is synced, a crash may leave the old or the new
+    /// value of each byte in the range.
     fn write_at(&mut self, file: DiskFile, at: usize, bytes: &[u8]) -> Result<(), DiskError>
         requires { at ≤ length (content file (seen self.old)) }
         ensures written { OnOk result (seen self.new ≡ put file (written at bytes.now (content file (seen self.old))) (seen self.old)) }
@@ -72,7 +72,7 @@ pub trait Disk {
         ensures time { Elapses (moment self.old) (moment self.new) (left_since self.old) (left_since self.new) (may_leave self.new) }
         ensures cause { HasCause (has_failed self.old) (has_failed self.new) result };
 
-    /// Syncs this file: from now on a crash leaves what a read returns. The call says nothing about the two other files.
+    /// Syncs this file: until its next change, a crash leaves the bytes that reads return. The two other files are not synced.
     fn sync(&mut self, file: DiskFile) -> Result<(), DiskError>
         ensures durable { OnOk result (IsKept file (seen self.old) (may_leave self.new)) }
         ensures seen { seen self.new ≡ seen self.old }
@@ -80,19 +80,19 @@ pub trait Disk {
         ensures time { Elapses (moment self.old) (moment self.new) (left_since self.old) (left_since self.new) (may_leave self.new) }
         ensures cause { HasCause (has_failed self.old) (has_failed self.new) result };
 
-    /// Removes the redo file, which then reads as empty. Until it is synced, a crash may leave the old redo file.
+    /// Removes the redo file, which then reads as empty. Until the next sync of the redo file, a crash may leave the old one.
     fn clear(&mut self) -> Result<(), DiskError>
         ensures cleared { OnOk result (seen self.new ≡ put Redo [] (seen self.old)) }
         ensures crash { Follows (Within Redo Gone) (may_leave self.old) (may_leave self.new) }
         ensures time { Elapses (moment self.old) (moment self.new) (left_since self.old) (left_since self.new) (may_leave self.new) }
         ensures cause { HasCause (has_failed self.old) (has_failed self.new) result };
 
-    /// Returns whether an empty redo file may stay: all users who may change the data files can use it.
+    /// Returns `true` if an empty redo file may stay, because all users who may change the data files can use it.
     fn keeps_redo(&self) -> bool;
 
-    /// The current time counts as a time since any earlier one.
+    /// An image that a crash may leave now is one that a crash might have left since any earlier time.
     ghost counts_now: { (disk : Self) (t : ℕ) (c : Image) → t ≤ moment disk → may_leave disk c → left_since disk t c };
 
-    /// A crash since now leaves only what a crash now may leave.
+    /// An image that a crash might have left since now is one that a crash may leave now.
     ghost only_now: { (disk : Self) (c : Image) → left_since disk (moment disk) c → may_leave disk c };
 }

@@ -15,7 +15,7 @@ pub(crate) struct Draft<A: Allocator> {
     pub(crate) count: usize,
 }
 
-/// A number as four bytes, little-endian. The number is taken modulo 2^32.
+/// Returns a number modulo 2^32 as four bytes, little-endian.
 pub fn spelled(number: usize) -> [u8; 4]
     ensures { result ≡ spelled number }
 {
@@ -27,7 +27,7 @@ pub fn spelled(number: usize) -> [u8; 4]
     ]
 }
 
-// Returns `size` bytes of `old` from `at` on. Bytes past its end are zeros.
+// Returns `size` bytes of `old` from `at` on. Bytes past the end of `old` are zeros.
 pub(crate) fn part_of<A: Allocator>(
     alloc: A,
     old: &[u8],
@@ -39,7 +39,7 @@ pub(crate) fn part_of<A: Allocator>(
     resized(alloc, &old[at.min(old.len())..], size)
 }
 
-// Appends a change with the bytes it overwrites. On error, discard the draft: it may contain a part of the change.
+// Appends a change with its new and its old bytes. On error, discard the draft: it may contain a part of the change.
 pub(crate) fn push<A: Allocator>(
     draft: &mut Draft<A>,
     file: DiskFile,

@@ -1,4 +1,4 @@
-// The files of a run, as read, in ghost state only.
+// The files that a run read, for contracts only.
 ghost use Rattle.std.specs.Prelude.{◌≡◌};
 ghost use Rattle.sdbm_saves.specs.Disk.{Image};
 ghost use Rattle.sdbm_saves.specs.Recording.{coded_image, image_of};
@@ -9,7 +9,7 @@ use sdbm_files::ReadPages;
 use std::alloc::Global;
 use std::marker::Model;
 
-/// The three files, as read, for contracts only. It has no bytes and owns nothing.
+/// The three files that a run read, for contracts only. A `GhostImage` has no bytes at run time and owns nothing.
 pub struct GhostImage {
     pub ghost image: { Image } by { coded_image },
 }
@@ -19,7 +19,7 @@ impl Model for GhostImage {
 }
 
 impl GhostImage {
-    /// The ghost image of `found`.
+    /// Makes the ghost image of `found`.
     pub fn of(found: &Found) -> GhostImage
         ensures { result.image ≡ image_of found.now }
     {
@@ -27,7 +27,7 @@ impl GhostImage {
         GhostImage {}
     }
 
-    /// The ghost image of files that were read piece by piece.
+    /// Makes the ghost image of files that were read piece by piece.
     pub fn of_read(pages: &ReadPages<Global>, directory: &[u8], redo: &[u8]) -> GhostImage
         ensures { result.image ≡ record { pages = pages.now.bytes; directory = directory.now; redo = redo.now } }
     {

@@ -4,14 +4,14 @@ ghost use Rattle.sdbm_saves.specs.Redo.{size_of, was_of, span_of};
 
 use crate::plan::number;
 
-/// The byte of a file at this offset, or zero past its end.
+/// Returns the byte of a file at this offset, or zero past the end of the file.
 pub fn byte_at(file: &[u8], at: usize) -> u8
     ensures { result ≡ get_or file.now at 0 }
 {
     if at < file.len() { file[at] } else { 0 }
 }
 
-/// The old bytes of the first change in `change`.
+/// Returns the old bytes of the first change in `change`.
 pub fn was_of(change: &[u8]) -> &[u8]
     requires { span_of change.now ≤ length change.now }
     ensures is { result.now ≡ was_of change.now }

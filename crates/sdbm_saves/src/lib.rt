@@ -1,5 +1,5 @@
-//! Plans of saves. A plan has the changes of the data files, each with the old and the new bytes. `Disk` specifies what a crash may leave
-//! of the files. A crate above commits plans in a log (a redo log: Gray and Reuter, Transaction Processing 1993, chapter 9).
+//! Plans of saves. A plan lists the changes of the data files, each with its old and new bytes. `Disk` specifies the images that a crash
+//! may leave. The crate `sdbm_log` commits plans in a log (a redo log: Gray and Reuter, Transaction Processing 1993, chapter 9).
 #![tactic(auto)]
 
 mod blocks;

@@ -13,7 +13,7 @@ use crate::{DiskFile, SavePlanFault};
 use sdbm_files::Image;
 use std::alloc::Allocator;
 
-/// The bytes read for a save if the pages that may have changed since the last read or save are known.
+/// The bytes that are read for a save if it is known which pages may have changed since the last read or save.
 #[derive(Clone, Copy)]
 pub struct Marked<'a> {
     /// The bytes of `.dir`.
@@ -26,13 +26,13 @@ pub struct Marked<'a> {
     pub pages: &'a [u8],
 }
 
-/// Plans a save for a database that differs from its files only on these pages and in the directory. Time is proportional to these pages
-/// and the directory. If the numbers ascend, the plan equals that of `plan_read`. Returns `None` if the files are already those of the
-/// database. Allocates the plan and one block.
+/// Plans a save for a database that differs from its files only on the listed pages and in the directory. The time is proportional to the
+/// size of the listed pages and the directory. If the numbers ascend, the plan equals that of `plan_read`. Returns `None` if the files are
+/// already those of the database. Allocates the plan and one block.
 ///
 /// # Errors
 ///
-/// `TooLong` if a file has, or would have, 2^32 bytes or more, or if there are more numbers than such a file has pages. `NoMemory` if
+/// `TooLong` if a file has, or would have, 2^32 bytes or more, or if the list has more pages than a file of 2^32 bytes. `NoMemory` if
 /// allocation fails.
 pub fn plan_marked<A: Allocator + Copy>(
     alloc: A,

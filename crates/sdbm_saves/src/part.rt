@@ -1,4 +1,4 @@
-// Plans a save from one page that was read.
+// Plans a save if only one page of `.pag` was read.
 ghost use Rattle.std.specs.Prelude.{◌≡◌, ◌≢◌, ◌<◌, ◌≤◌, ◌^◌, ◌+◌, ◌*◌, ◌%◌, ◌↔◌, ◌⊎◌, ℕ, List, [], length, get_or, Contains, IsTrue, IfOk, IfErr, IfSome, IsNone, OnOk};
 ghost use Rattle.sdbm_saves.specs.declared.disk.DiskFile.TheVariants.{Pages};
 ghost use Rattle.sdbm_saves.specs.declared.planning.SavePlanFault.TheVariants.{TooLong};
@@ -17,10 +17,10 @@ use crate::{DiskFile, SavePlanFault};
 use sdbm_files::Image;
 use std::alloc::{AllocError, Allocator};
 
-/// A file of fewer than 2^32 bytes has at most this many pages.
+/// The greatest number of pages of a file that has fewer than 2^32 bytes.
 pub(crate) const MOST: usize = 4194304;
 
-/// The bytes read of a database's files if only one page was read. A byte of the page past the end of the file counts as zero.
+/// The bytes of a database's files that are known if only one page was read. Bytes of the page past the end of the file count as zeros.
 #[derive(Clone, Copy)]
 pub struct Part<'a> {
     /// The bytes of `.dir`.
@@ -33,14 +33,14 @@ pub struct Part<'a> {
     pub page: &'a [u8],
 }
 
-/// Plans a save from that page alone. The plan writes the pages with these numbers that changed; each was the page that was read, or all
-/// zeros. Pages with other numbers stay unchanged. The plan writes the blocks of 1,024 bytes of the directory that differ. `.pag` grows if
-/// necessary and never shrinks. Each change has its old bytes next to the new ones, so the plan knows the old files. Returns `None` if
-/// nothing changes. Allocates the plan and these pages.
+/// Plans a save if only one page was read. The plan writes the listed pages that changed; before the save, each of them is the page that
+/// was read, or all zeros. All other pages stay unchanged. The plan also writes the blocks of 1,024 bytes of the directory that differ.
+/// `.pag` grows if necessary and never shrinks. Each change has its old bytes next to the new ones, so the plan knows the old files.
+/// Returns `None` if nothing changes. Allocates the plan and the listed pages.
 ///
 /// # Errors
 ///
-/// `TooLong` if a file has, or would have, 2^32 bytes or more, or if there are more numbers than such a file has pages. `NoMemory` if
+/// `TooLong` if a file has, or would have, 2^32 bytes or more, or if the list has more pages than a file of 2^32 bytes. `NoMemory` if
 /// allocation fails.
 pub fn plan_part<A: Allocator + Copy>(
     alloc: A,
@@ -93,7 +93,7 @@ fn is_long(old: Part<'_>, pages: usize, directory: usize) -> bool
     old.len == pages && old.directory.len() == directory
 }
 
-// Returns the old bytes of the pages with these numbers: the page that was read, or zeros.
+// Returns the old bytes of the listed pages, concatenated: those of the page that was read, and zeros for all other pages.
 fn pages_before<A: Allocator + Copy>(
     alloc: A,
     old: Part<'_>,
@@ -113,7 +113,7 @@ fn pages_before<A: Allocator + Copy>(
     Ok(pages)
 }
 
-// Returns the old page with this number: the page that was read, or zeros.
+// Returns the old bytes of page `number`: those that were read, or zeros.
 fn page_before<'a>(old: Part<'a>, number: u32, zeros: &'a [u8]) -> &'a [u8]
     ensures own { number ≡ old.entry.number → result.now ≡ old.entry.page.now }
     ensures other { number ≢ old.entry.number → result.now ≡ zeros.entry.now }
@@ -124,8 +124,7 @@ fn page_before<'a>(old: Part<'a>, number: u32, zeros: &'a [u8]) -> &'a [u8]
     zeros
 }
 
-// Adds the changes that write the pages with these numbers. The draft must not yet change any page. Pages that do not fit in the new file
-// are skipped.
+// Adds the changes that write the listed pages. The draft must not change any page yet. Pages past the end of the new file are skipped.
 pub(crate) fn draft_parts<A: Allocator + Copy>(
     alloc: A,
     draft: &mut Draft<A>,

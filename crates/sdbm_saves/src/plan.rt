@@ -24,7 +24,7 @@ pub fn number(bytes: &[u8], at: usize) -> usize
         + 16777216 * usize::from(bytes[at + 3])
 }
 
-/// The file of the first change in `change`.
+/// Returns the file of the first change in `change`.
 pub fn file_of(change: &[u8]) -> DiskFile
     requires { 1 ≤ length change.now }
     ensures { result ≡ file_of change.now }
@@ -45,7 +45,7 @@ pub fn rest_of(change: &[u8]) -> &[u8]
     &change[9 + (size + size)..]
 }
 
-// Returns whether the first change in `change` is complete and within its file.
+// Returns `true` if the first change in `change` is complete and within its file.
 fn fits(plan: &[u8], change: &[u8]) -> bool
     requires { 28 ≤ length plan.now }
     ensures { IsTrue result ↔ Fits plan.now change.now }
@@ -69,8 +69,8 @@ fn is_signed(plan: &[u8]) -> bool
     plan[..8] == SIGNATURE[..]
 }
 
-/// Returns whether the bytes are a plan: it has the signature, every change is complete and within the new length of its file, and nothing
-/// follows the last change.
+/// Returns `true` if the bytes are a plan: they begin with the signature, every change is complete and within the new length of its file,
+/// and nothing follows the last change.
 pub fn is_plan(plan: &[u8]) -> bool
     ensures { IsTrue result ↔ IsPlan plan.now }
 {
@@ -88,8 +88,8 @@ pub fn is_plan(plan: &[u8]) -> bool
     rest.is_empty()
 }
 
-/// Returns the plan of a committed redo file: the bytes after the commit byte, if it is 1. Returns `None` if there is no redo file, or if a
-/// save was interrupted before its commit.
+/// Returns the plan of a redo file whose commit byte is 1: the bytes after the commit byte. Returns `None` if there is no redo file, or if
+/// a save was interrupted before its commit.
 pub fn plan_in(redo: &[u8]) -> Option<&[u8]>
     ensures some { IfSome result (λ plan. (get_or redo.now 0 0 ≡ 1) × (plan.now ≡ drop 1 redo.now)) }
     ensures none { IsNone result → get_or redo.now 0 0 ≢ 1 }

@@ -1,16 +1,16 @@
-// Why a save cannot be planned.
+// The reasons why a save cannot be planned.
 ghost use Rattle.std.specs.Prelude.{◌≡◌};
 ghost use Rattle.sdbm_saves.specs.declared.planning.SavePlanFault.TheVariants.{NoMemory};
 
 use std::alloc::AllocError;
 
-/// Files are shorter than this, so an offset fits in four bytes.
+/// Files have fewer bytes than this, so an offset fits in four bytes.
 pub(crate) const LIMIT: usize = 4294967296;
 
-/// Why a save cannot be planned.
+/// The reason why a save cannot be planned.
 #[derive(Clone, Copy, Debug, PartialEq, Eq)]
 pub enum SavePlanFault {
-    /// A file has, or would have, 2^32 bytes or more, or there are more pages than such a file has.
+    /// A file has, or would have, 2^32 bytes or more, or a list has more pages than a file of 2^32 bytes.
     TooLong,
     /// Out of memory.
     NoMemory,

@@ -17,7 +17,7 @@ use crate::{Contents, DiskFile, SavePlanFault};
 use sdbm_files::{BLOCK, Image, ReadPages};
 use std::alloc::{AllocError, Allocator};
 
-/// Both data files of a database, as read.
+/// Both data files of a database, which were read completely.
 #[derive(Clone, Copy)]
 pub struct ReadFiles<'a, A: Allocator> {
     /// The pages of `.pag`.
@@ -26,10 +26,10 @@ pub struct ReadFiles<'a, A: Allocator> {
     pub directory: &'a [u8],
 }
 
-/// Plans a save that makes the old files those that `Image::write` writes for the database. The plan has the blocks of 1,024 bytes that
-/// differ, those of the directory first. A byte past the end of a file counts as zero, so a page of zeros is not written into a hole. Each
-/// change has its old bytes next to the new ones, so the plan knows the old files. Returns `None` if the old files are already those of the
-/// database. Allocates the plan and one block.
+/// Plans a save that turns the old files into the files that `Image::write` writes for the database. The plan writes the blocks of 1,024
+/// bytes that differ, those of the directory first. Bytes past the end of a file count as zeros, so a page of zeros is not written into a
+/// hole. Each change has its old bytes next to the new ones, so the plan knows the old files. Returns `None` if the old files are already
+/// those of the database. Allocates the plan and one block.
 ///
 /// # Errors
 ///
@@ -50,7 +50,7 @@ pub fn plan_read<A: Allocator + Copy>(
 ///
 /// # Errors
 ///
-/// The same as `plan_read`.
+/// Those of `plan_read`.
 pub fn plan_kept<A: Allocator + Copy>(
     alloc: A,
     old: Contents<'_>,
@@ -63,7 +63,7 @@ pub fn plan_kept<A: Allocator + Copy>(
     plan_pages(alloc, OldPages::Kept(old.pages), old.directory, image)
 }
 
-/// A plan that changes neither file. Its record gives a log its mark before the first save.
+/// Makes a plan that changes neither file. Its record sets the commit byte of a log before the first save.
 ///
 /// # Errors
 ///
@@ -105,7 +105,7 @@ impl<'a, A: Allocator + Copy> OldPages<'a, A> {
         }
     }
 
-    // Like `ReadPages::block`.
+    // Borrows a block like `ReadPages::block`.
     fn block(self, index: usize) -> &'a [u8]
         requires { index ≤ 2 ^ 22 }
         ensures { IsBlock (bytes_in self.entry) index result.now }
@@ -117,7 +117,7 @@ impl<'a, A: Allocator + Copy> OldPages<'a, A> {
     }
 }
 
-// Like `OldPages::block`, for bytes in memory.
+// Borrows a block like `OldPages::block`, from bytes in memory.
 fn block_in(bytes: &[u8], index: usize) -> &[u8]
     requires { index ≤ 2 ^ 22 }
     ensures { IsBlock bytes.now index result.now }
@@ -126,7 +126,7 @@ fn block_in(bytes: &[u8], index: usize) -> &[u8]
     &tail[..tail.len().min(BLOCK)]
 }
 
-// Plans the save for either kind of old pages.
+// Plans the save for both kinds of old pages.
 fn plan_pages<A: Allocator + Copy>(
     alloc: A,
     old: OldPages<'_, A>,

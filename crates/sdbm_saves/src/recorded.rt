@@ -1,5 +1,5 @@
-// A disk made of three system files. The effect of system calls is trusted: a record of the calls determines what the files contain and
-// what a crash may leave.
+// A disk made of three files of the system. The effects of system calls are trusted: the record of the calls determines the contents of the
+// files and the images that a crash may leave.
 ghost use Rattle.std.specs.Prelude.{◌≡◌, ◌++◌, ◌∷◌, List, [], length, ◌↔◌, IsTrue, IsErrOf, MatchResult};
 ghost use Rattle.sdbm_saves.specs.declared.disk.DiskError.TheVariants.{Failed};
 ghost use Rattle.sdbm_saves.specs.Disk.{Image};
@@ -11,7 +11,7 @@ use sdbm_addr::PageSize;
 use std::alloc::Global;
 use std::marker::PhantomData;
 
-/// The bytes of the three files, as read.
+/// The bytes of the three files, which were read completely.
 #[derive(Drop)]
 pub struct Found {
     /// The bytes of `.pag`.
@@ -22,7 +22,7 @@ pub struct Found {
     pub redo: Vec<u8>,
 }
 
-/// The files as read by a run that reads only one page.
+/// The files of a run that reads only one page.
 #[derive(Clone, Copy)]
 pub struct FoundPart<'a> {
     /// The bytes of `.dir`, the length of `.pag`, and the page that was read.
@@ -33,7 +33,7 @@ pub struct FoundPart<'a> {
     pub redo: &'a [u8],
 }
 
-/// The three files, as read piece by piece.
+/// The three files, which were read piece by piece.
 #[derive(Clone, Copy)]
 pub struct FoundRead<'a> {
     /// The pages of `.pag` and the bytes of `.dir`.
@@ -42,8 +42,8 @@ pub struct FoundRead<'a> {
     pub redo: &'a [u8],
 }
 
-/// The three files, as far as a run read them. Pages that it did not read count as zeros: a plan that knows the image with zeros knows
-/// every file that would have read the same (`plan_part`).
+/// The three files, as far as a run read them. Pages that were not read count as zeros: a plan that knows the image with zeros also knows
+/// every file that has the bytes that were read (`plan_part`).
 pub trait Before {
     ghost image: { Self → Image };
 }
@@ -70,9 +70,9 @@ impl Before for FoundPart<'_> {
     ghost image = { part_image };
 }
 
-/// The system's calls on the three files, with a record of the calls that were begun and the syncs that succeeded. No contract says what a
-/// call does to a file. The trusted assumption is that each call does what the `Disk` method of the same name specifies. `CallLog`
-/// implements such a record.
+/// The system calls on the three files, with a record of the calls that were begun and the syncs that succeeded. No contract specifies the
+/// effect of a call on a file. The trusted assumption is that each call does what the `Disk` method of the same name specifies. `CallLog`
+/// is such a record.
 pub trait Host {
     /// The calls, oldest first.
     ghost calls: { Self → List Act };
@@ -93,23 +93,24 @@ pub trait Host {
     fn clear(&mut self) -> Result<(), DiskError>
         ensures { Notes clear (calls self.old) (calls self.new) result };
 
-    /// Returns whether an empty redo file may stay.
+    /// Returns `true` if an empty redo file may stay.
     fn keeps_redo(&self) -> bool;
 }
 
-/// The images that a crash might have left before a run opened the files. No code can know it, so functions are proved for every `Past`.
+/// The images that a crash might have left before a run opened the files. No code can know these images, so functions are proved for every
+/// `Past`.
 pub trait Past {
     ghost may_leave: { Image → Type 0 };
 }
 
-/// The `Past` that programs use. It makes no assumption about what a crash might have left.
+/// The `Past` that programs use: a crash might have left any image.
 pub struct Unknown;
 
 impl Past for Unknown {
     ghost may_leave = { λ c. c ≡ c };
 }
 
-/// A disk of system files. After a call has returned `Failed`, it makes no more calls.
+/// A disk of system files. After a call returned `Failed`, the disk makes no more calls.
 #[derive(Drop)]
 pub struct Recorded<H: Host, P: Past, F: Before> {
     host: H,
@@ -119,7 +120,8 @@ pub struct Recorded<H: Host, P: Past, F: Before> {
 }
 
 impl<H: Host, P: Past, F: Before> Recorded<H, P, F> {
-    /// Makes a disk of the three files that were read. `P` says what a crash might have left of them. The bytes need not be durable.
+    /// Makes a disk of the three files that were read. `P` holds for the images that a crash might have left before. The bytes need not be
+    /// durable.
     pub fn new(host: H, found: F) -> Self
         requires { H.calls host ≡ [] }
         ensures seen { (⟦<Recorded<H, P, F> as Disk>⟧).seen result ≡ F.image found }

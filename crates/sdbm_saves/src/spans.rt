@@ -1,10 +1,10 @@
-// Finds the part of a block that differs from its old bytes.
+// Finds the part of a block that differs from the old bytes.
 ghost use Rattle.std.specs.Prelude.{◌≡◌, ◌<◌, ◌≤◌, ◌^◌, ◌+◌, ◌*◌, ◌↔◌, ℕ, length, get_or, All, IsTrue};
 ghost use Rattle.sdbm_saves.specs.Drafts.{AreOutside};
 
 use crate::blocks::reads_as;
 
-// Changes begin and end at a multiple of this number of bytes in a block, so a change also has old bytes around those that differ.
+// The length in bytes of a part of a block. Changes begin and end between two parts, so a change may also contain bytes that do not differ.
 const PART: usize = 128;
 
 /// A range of bytes in a block.
@@ -14,9 +14,9 @@ pub(crate) struct Span {
     pub(crate) end: usize,
 }
 
-/// The part of a block that a change has to write: from the first part that differs to the last. If the old bytes of that part are all
-/// zeros, it is the whole block. So if a change has only zeros as old bytes, its whole block was zeros and may be a hole. Bytes past
-/// `known` are zeros.
+/// Returns the span of a block that a change has to write, from the first part that differs to the last. If all old bytes of this span are
+/// zeros, the result is the whole block. So if a change has only zeros as old bytes, it covers a whole block that was all zeros and may be
+/// a hole. Bytes past the end of `known` are zeros.
 pub(crate) fn changed_span(known: &[u8], block: &[u8]) -> Span
     requires short { length block.now < 2 ^ 32 }
     ensures outside { AreOutside known.now block.now result.start result.end (length block.now) }
@@ -32,7 +32,7 @@ pub(crate) fn changed_span(known: &[u8], block: &[u8]) -> Span
     span
 }
 
-// The span from the first part that differs to the last.
+// Returns the span from the first part that differs to the last.
 fn differing_span(known: &[u8], block: &[u8]) -> Span
     requires short { length block.now < 2 ^ 32 }
     ensures { AreOutside known.now block.now result.start result.end (length block.now) }
@@ -44,7 +44,7 @@ fn differing_span(known: &[u8], block: &[u8]) -> Span
     span
 }
 
-// Extends the span by the part at `at`, if that part differs.
+// Extends the span by the part at `at` if this part differs.
 fn with_part(known: &[u8], block: &[u8], span: Span, at: usize) -> Span
     requires inside { at < length block.now }
     requires short { length block.now < 2 ^ 32 }
@@ -67,7 +67,7 @@ fn with_part(known: &[u8], block: &[u8], span: Span, at: usize) -> Span
     }
 }
 
-// Returns whether all known bytes of the span are zeros.
+// Returns `true` if all known bytes of the span are zeros.
 fn is_zero_in(known: &[u8], span: Span) -> bool
     requires order { span.start ≤ span.end }
 {

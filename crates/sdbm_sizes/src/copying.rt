@@ -7,7 +7,7 @@ ghost use Rattle.sdbm_files.specs.Limits.{most_pages};
 use sdbm_files::{BLOCK, ReadPages};
 use std::alloc::{AllocError, Allocator};
 
-/// Copies the wide page with a number.
+/// Copies wide page `number`.
 pub fn copy_page<A: Allocator + Copy>(
     alloc: A,
     pag: &ReadPages<A>,
@@ -24,7 +24,7 @@ pub fn copy_page<A: Allocator + Copy>(
     Ok(page)
 }
 
-// Appends a block to a page, padded with zeros to the length of a block.
+// Appends a block to a page, padded with zeros to 1,024 bytes.
 fn push_block<A: Allocator>(page: &mut Vec<u8, A>, block: &[u8]) -> Result<(), AllocError>
     requires { length block.now ≤ 1024 }
     ensures { OnOk result (page.new.items ≡ page.old.items ++ (block.now ++ replicate (1024 - length block.now) 0)) }

@@ -1,5 +1,5 @@
-//! Detects files of a database with pages of 1,024 bytes that are opened with pages of 8,192 bytes. The files do not record their page
-//! size, and a small page can happen to read as a wide one.
+//! Detects databases with pages of 1,024 bytes that are opened with pages of 8,192 bytes. The files do not record their page size, and
+//! eight small pages can happen to read as one valid wide page.
 #![tactic(auto)]
 
 ghost use Rattle.std.specs.Prelude.{◌≡◌, ◌<◌, ◌≤◌, ◌↔◌, ◌+◌, ◌*◌, length, false, IsTrue, IfOk, get_or};
@@ -26,8 +26,8 @@ const WIDE: usize = 8192;
 /// The number of wide pages in the longest `.pag`.
 pub const MOST_PAGES: usize = 131_072;
 
-/// Returns `true` if a wide page looks small: it is not all zeros, and its first 1,024 bytes are a page of a database of small pages
-/// with this directory. A wide page written by this store looks small only if its first key has at least 7,168 bytes.
+/// Returns `true` if a wide page looks small: it is not all zeros, and its first 1,024 bytes are a page of some database with small pages
+/// and this directory. A wide page that this store wrote looks small only if its first key has at least 7,168 bytes.
 ///
 /// # Errors
 /// `AllocError` if allocation fails.
@@ -49,8 +49,8 @@ pub fn page_looks_small<A: Allocator + Copy>(
     is_small_part(alloc, dir, kind, 8 * number, first)
 }
 
-// Checks if some database of small pages has this directory and this page. The page is tested first: a wide page seldom reads as a
-// small one, so the directory is seldom read.
+// Returns `true` if some database with small pages has this directory and this page. The page is tested first: a wide page seldom reads as
+// a small one, so the directory is seldom read.
 fn is_small_part<A: Allocator + Copy>(
     alloc: A,
     dir: &[u8],
@@ -70,7 +70,7 @@ fn is_small_part<A: Allocator + Copy>(
     Ok(true)
 }
 
-// Checks if bytes are a small page.
+// Returns `true` if the bytes can be read as a small page.
 fn is_small_page<A: Allocator + Copy>(alloc: A, page: &[u8]) -> Result<bool, AllocError>
     requires { length page.now ≡ page_bytes Small }
     ensures { IfOk result (λ small. small ≡ false → SpellsNone Small page.now) }
@@ -84,8 +84,8 @@ fn is_small_page<A: Allocator + Copy>(alloc: A, page: &[u8]) -> Result<bool, All
     }
 }
 
-/// Returns `true` if the bytes of a `.pag` look small: its first wide page that is not all zeros looks small. This holds for every
-/// database of small pages of at most 1 GiB, unless all wide pages of its file are zeros.
+/// Returns `true` if the bytes of a `.pag` look small: the first wide page that is not all zeros looks small. The result is `true` for
+/// every database with small pages and at most 1 GiB, unless all whole wide pages of its file are zeros.
 ///
 /// # Errors
 /// `AllocError` if allocation fails.
@@ -129,7 +129,7 @@ pub fn pages_look_small<A: Allocator + Copy>(
     Ok(false)
 }
 
-// The number of whole wide pages in a file of `len` bytes, but at most `MOST_PAGES`.
+// Returns the number of whole wide pages in a file of `len` bytes, but at most `MOST_PAGES`.
 fn pages_in(len: usize) -> usize
     ensures inside { result * 8192 ≤ len }
     ensures low { result ≤ most_pages Wide }
@@ -139,7 +139,7 @@ fn pages_in(len: usize) -> usize
     (len / WIDE).min(MOST_PAGES)
 }
 
-// Checks for a byte that is not zero.
+// Returns `true` if some byte is nonzero.
 fn is_written(bytes: &[u8]) -> bool
     ensures { IsTrue result ↔ IsWritten bytes.now }
 {

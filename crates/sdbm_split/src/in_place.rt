@@ -1,4 +1,4 @@
-//! Stores in place, on a page with one owner.
+//! Stores pairs in place, on pages with one owner.
 ghost use Rattle.std.specs.Prelude.{◌≡◌, ◌+◌, ◌≤◌, length, true, false};
 ghost use Rattle.sdbm_addr.specs.Pairs.{HasDistinctKeys, pair_limit};
 ghost use Rattle.sdbm_split.specs.InPlace.{MayStore, with_stored};
@@ -10,9 +10,9 @@ use sdbm_addr::Mode;
 use sdbm_page::SharedPage;
 use std::alloc::Allocator;
 
-/// Stores a pair by changing its page in place. Returns `false` and leaves the page unchanged if the key of an insert exists, if the
-/// pair does not fit on the page together with the pairs of other keys, or if the page has another owner, which is tested first. The old pair of the key is
-/// removed, and the new pair is the last one. The pair must be small enough for the page's size, and the page's keys distinct. Does not
+/// Stores a pair by changing its page in place. The old pair of the key is removed, and the new pair is the last one. Returns `false` and
+/// leaves the page unchanged in three cases, tested in this order: the page has another owner, the key of an insert exists, or the pair
+/// does not fit on the page without a split. The pair must be within the length limit, and the page's keys must be distinct. Does not
 /// allocate.
 pub fn store_on_page<A: Allocator>(
     page: &mut SharedPage<A>,
@@ -39,7 +39,8 @@ pub fn store_on_page<A: Allocator>(
     put(page, own, key, value)
 }
 
-// Adds a pair that fits on the page, and removes the key's own pair, at index `own`, if there is one.
+// Adds a pair that fits on the page, and removes the key's old pair, at index `own`, if there is one. Returns `false` if the page has
+// another owner.
 fn put<A: Allocator>(page: &mut SharedPage<A>, own: Option<usize>, key: &[u8], value: &[u8]) -> bool
     requires small { length key.now + length value.now ≤ pair_limit page.old.size }
     requires room { GoesOn page.old key.now value.now }

@@ -1,11 +1,12 @@
 -- The record of one key over its turns.
-use Rattle.std.proofs.Common.{ℕ, ◌≡◌, ◌⊎◌, inl, inr, refl, sym, ◌∙◌, subst, List, [], ◌∷◌, ◌++◌, replicate, Option, Some, None, cond}
+use Rattle.std.proofs.Common.{ℕ, ◌≡◌, ◌⊎◌, inl, inr, refl, sym, ◌∙◌, subst, List, [], ◌∷◌, ◌++◌, replicate, Option, Some, None, Bool, cond, ◌==◌}
 use Rattle.std.specs.List.{AllByRecursion}
 use Rattle.std.proofs.lemmas.Option.{same_Some}
 use Rattle.bpf_insn.specs.declared.insn.Insn.{Insn}
 use Rattle.bpf_helpers.specs.declared.values.Env.{Env}
 use Rattle.bpf_helpers.specs.Runs.{Outcome, Ends, IsInput}
 use Rattle.store_cmd.specs.Answers.{saves, removes}
+use Rattle.stock_programs.specs.Lengths.{short_code}
 use Rattle.stock_histories.specs.Turns.{Turn, NeverFalls}
 
 -- The record after a run on it, or on a blank if it is missing.
@@ -59,15 +60,21 @@ kept_by program P Q step r r' (t ∷ ts) h q p = kept_by program P Q step h.0 r'
 
 -- ---- the record after a run, by its code
 
+abbrev pub is_one : ℕ → Bool
+is_one code = code == 1
+
 pub saved : (r : Option (List ℕ)) (o : Outcome) → o.code ≡ 1 → left_at r o ≡ Some o.bytes
 saved r o e = rw e refl
 
+-- A code other than 1 and 2 changes nothing.
 pub unchanged : (r : Option (List ℕ)) (o : Outcome) → o.code ≡ 0 → left_at r o ≡ r
 unchanged r o e = rw e refl
 
--- A code other than 1 and 2 changes nothing.
 pub unchanged_by_3 : (r : Option (List ℕ)) (o : Outcome) → o.code ≡ 3 → left_at r o ≡ r
 unchanged_by_3 r o e = rw e refl
+
+pub unchanged_if_short : (r : Option (List ℕ)) (o : Outcome) → o.code ≡ short_code → left_at r o ≡ r
+unchanged_if_short r o e = rw e refl
 
 -- ---- the bytes that a run is given of a record that exists
 

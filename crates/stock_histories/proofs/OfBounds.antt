@@ -11,7 +11,7 @@ use Rattle.stock_programs.proofs.CountingWithin.{counts_within}
 use Rattle.stock_programs.proofs.NumberFacts.{fits, read_written}
 use Rattle.stock_histories.specs.Turns.{Turn}
 use Rattle.stock_histories.specs.BoundsLaw.{IsWithinBounds, NamesWithin, StaysBetween, NamesBelow, StaysBelow}
-use Rattle.stock_histories.proofs.KeyHistory.{RunsTo, kept_by, saved, unchanged}
+use Rattle.stock_histories.proofs.KeyHistory.{RunsTo, kept_by, saved, unchanged, unchanged_if_short}
 use Rattle.stock_histories.proofs.Projected.{projected}
 
 -- a number that was written is in its bounds
@@ -32,7 +32,7 @@ counts low high r r' t s names h = elim (counts_within.obeys s.given t.argument 
       let e : ceiling t.argument ≤ high = names.1 in
       written low high s.outcome.word s.given r' (s.left ∙ saved r s.outcome g.code_is ∙ ap Some g.bytes_are) (omega arith) (omega arith) (omega arith)
   | inr (inl g) ↦ subst (λ (x : Option (List ℕ)). IsWithinBounds low high x) (sym (s.left ∙ unchanged r s.outcome g.code_is)) h
-  | inr (inr g) ↦ subst (λ (x : Option (List ℕ)). IsWithinBounds low high x) (sym (s.left ∙ unchanged r s.outcome g.code_is)) h
+  | inr (inr g) ↦ subst (λ (x : Option (List ℕ)). IsWithinBounds low high x) (sym (s.left ∙ unchanged_if_short r s.outcome g.code_is)) h
 ]
 
 pub stays_between : (A : Type 0) → StaysBetween A
@@ -49,7 +49,7 @@ adds high r r' t s names h = elim (adds_bounded.obeys s.given t.argument s.env s
       written 0 high (number_at 0 s.given + amount t.argument) s.given r' (s.left ∙ saved r s.outcome g.code_is ∙ ap Some g.bytes_are)
       (omega arith) (omega arith) (omega arith)
   | inr (inl g) ↦ subst (λ (x : Option (List ℕ)). IsWithinBounds 0 high x) (sym (s.left ∙ unchanged r s.outcome g.code_is)) h
-  | inr (inr g) ↦ subst (λ (x : Option (List ℕ)). IsWithinBounds 0 high x) (sym (s.left ∙ unchanged r s.outcome g.code_is)) h
+  | inr (inr g) ↦ subst (λ (x : Option (List ℕ)). IsWithinBounds 0 high x) (sym (s.left ∙ unchanged_if_short r s.outcome g.code_is)) h
 ]
 
 pub stays_below : (A : Type 0) → StaysBelow A

@@ -1,5 +1,5 @@
 -- No more is taken out of a token bucket than was in it and flowed in: the record has the time at which it is full.
-use Rattle.std.proofs.Common.{ℕ, ◌≡◌, inl, inr, ◌+◌, ◌-◌, ◌<◌, ◌≤◌, ◌==◌, ◌^◌, refl, sym, ap, ◌∙◌, subst, List, [], ◌∷◌, ◌++◌, cond, length, Option, Some, arith}
+use Rattle.std.proofs.Common.{ℕ, ◌≡◌, inl, inr, ◌+◌, ◌-◌, ◌<◌, ◌≤◌, ◌==◌, ◌^◌, refl, sym, ap, ◌∙◌, subst, List, [], ◌∷◌, ◌++◌, cond, false, length, Option, Some, arith}
 use Rattle.std.specs.List.{AllByRecursion}
 use Rattle.std.specs.FinMap as map
 use Rattle.stock_programs.specs.Numbers.{with_number}
@@ -8,7 +8,7 @@ use Rattle.stock_programs.proofs.Pouring.{pours_out}
 use Rattle.stock_programs.proofs.NumberFacts.{read_written}
 use Rattle.stock_histories.specs.Turns.{Turn, NeverFalls}
 use Rattle.stock_histories.specs.BucketLaw.{NamesCapacity, poured_in, PoursAtMost}
-use Rattle.stock_histories.proofs.KeyHistory.{RunsTo, KeyHistory, halves, times_after, saved, unchanged, given_is}
+use Rattle.stock_histories.proofs.KeyHistory.{RunsTo, KeyHistory, halves, times_after, saved, is_one, unchanged, unchanged_if_short, given_is}
 use Rattle.stock_histories.proofs.Projected.{cut_at}
 use Rattle.stock_histories.proofs.OfLimits.{names_after, names_before, times_before}
 
@@ -46,7 +46,7 @@ first_pour r r' t room s names one =
           }
       | inr (inl g) ↦ let c : s.outcome.code ≡ 0 = g.code_is in absurd (omega arith)
       | inr (inr (inl g)) ↦ let c : s.outcome.code ≡ 0 = g.code_is in absurd (omega arith)
-      | inr (inr (inr g)) ↦ let c : s.outcome.code ≡ 0 = g.code_is in absurd (omega arith)
+      | inr (inr (inr g)) ↦ let c : s.outcome.code ≡ 4 = g.code_is in absurd (omega arith)
     ]
 
 -- a run takes its cost, or the bucket is unchanged
@@ -57,13 +57,13 @@ record Step (r' : Option (List ℕ)) (t : Turn) (full room : ℕ) : Type 0 where
   fills : Fills r' next t.now room
   more : full + taken ≤ next
 
-refused : (r r' : Option (List ℕ)) (t : Turn) (full from room : ℕ) → t.code ≡ 0 → r' ≡ r → from ≤ t.now → Fills r full from room → Step r' t full room
-refused r r' t full from room zero same late f =
+refused : (r r' : Option (List ℕ)) (t : Turn) (full from room : ℕ) → t.code == 1 ≡ false → r' ≡ r → from ≤ t.now → Fills r full from room → Step r' t full room
+refused r r' t full from room other same late f =
     let near : full ≤ from + room = f.near in
     record {
       next = full;
       taken = 0;
-      takes = rw zero refl;
+      takes = rw other refl;
       fills = record { value = f.value; is = same ∙ f.is; full_is = f.full_is; near = omega arith };
       more = omega arith;
     }
@@ -85,9 +85,9 @@ one_turn r r' t full from room s names late f =
             fills = written r' s.given (start_at s.given s.env.now + cost t.argument) t.now room (s.left ∙ saved r s.outcome g.code_is ∙ ap Some g.bytes_are) g.small (omega arith);
             more = omega arith;
           }
-      | inr (inl g) ↦ refused r r' t full from room (s.code_is ∙ g.code_is) (s.left ∙ unchanged r s.outcome g.code_is) late f
-      | inr (inr (inl g)) ↦ refused r r' t full from room (s.code_is ∙ g.code_is) (s.left ∙ unchanged r s.outcome g.code_is) late f
-      | inr (inr (inr g)) ↦ refused r r' t full from room (s.code_is ∙ g.code_is) (s.left ∙ unchanged r s.outcome g.code_is) late f
+      | inr (inl g) ↦ refused r r' t full from room (ap is_one (s.code_is ∙ g.code_is)) (s.left ∙ unchanged r s.outcome g.code_is) late f
+      | inr (inr (inl g)) ↦ refused r r' t full from room (ap is_one (s.code_is ∙ g.code_is)) (s.left ∙ unchanged r s.outcome g.code_is) late f
+      | inr (inr (inr g)) ↦ refused r r' t full from room (ap is_one (s.code_is ∙ g.code_is)) (s.left ∙ unchanged_if_short r s.outcome g.code_is) late f
     ]
 
 all_turns : (r r' : Option (List ℕ)) (ts : List Turn) (full from room end : ℕ) → KeyHistory token_bucket r ts r' → AllByRecursion (NamesCapacity room) ts

@@ -9,7 +9,7 @@ use Rattle.stock_programs.proofs.Fencing.{leases_fenced}
 use Rattle.stock_programs.proofs.NumberFacts.{fits, read_written, read_before, read_after, length_written}
 use Rattle.stock_histories.specs.Turns.{Turn}
 use Rattle.stock_histories.specs.FencingLaw.{GivesToken, TokensRise}
-use Rattle.stock_histories.proofs.KeyHistory.{RunsTo, KeyHistory, halves, kept, saved, unchanged, unchanged_by_3, given_is}
+use Rattle.stock_histories.proofs.KeyHistory.{RunsTo, KeyHistory, halves, kept, saved, unchanged, unchanged_by_3, unchanged_if_short, given_is}
 use Rattle.stock_histories.proofs.Projected.{cut_at}
 
 -- The bytes have this owner and token.
@@ -73,7 +73,7 @@ token_given r r' t s gives =
       | inr (inr (inl g)) ↦ absurd (gives.1 (s.word_is ∙ g.word_is))
       | inr (inr (inr (inl g))) ↦ let c : s.outcome.code ≡ 0 = g.code_is in absurd (omega arith)
       | inr (inr (inr (inr (inl g)))) ↦ let c : s.outcome.code ≡ 3 = g.code_is in absurd (omega arith)
-      | inr (inr (inr (inr (inr g)))) ↦ let c : s.outcome.code ≡ 0 = g.code_is in absurd (omega arith)
+      | inr (inr (inr (inr (inr g)))) ↦ let c : s.outcome.code ≡ 4 = g.code_is in absurd (omega arith)
     ]
 
 -- the same of the bytes that a run is given
@@ -104,7 +104,7 @@ stays who new r r' t s h =
           (s.left ∙ saved r s.outcome g.code_is ∙ ap Some g.bytes_are) (after_end s.given 0 g.long.of_record) low sees.same
       | inr (inr (inr (inl g))) ↦ subst (λ (x : Option (List ℕ)). IsPast x who new) (sym (s.left ∙ unchanged r s.outcome g.code_is)) h
       | inr (inr (inr (inr (inl g)))) ↦ subst (λ (x : Option (List ℕ)). IsPast x who new) (sym (s.left ∙ unchanged_by_3 r s.outcome g.code_is)) h
-      | inr (inr (inr (inr (inr g)))) ↦ subst (λ (x : Option (List ℕ)). IsPast x who new) (sym (s.left ∙ unchanged r s.outcome g.code_is)) h
+      | inr (inr (inr (inr (inr g)))) ↦ subst (λ (x : Option (List ℕ)). IsPast x who new) (sym (s.left ∙ unchanged_if_short r s.outcome g.code_is)) h
     ]
 
 next_token : (r r' : Option (List ℕ)) (t : Turn) (who new : ℕ) → RunsTo fenced_lease r t r' → IsPast r who new → GivesToken t
@@ -120,7 +120,7 @@ next_token r r' t who new s h gives =
       | inr (inr (inl g)) ↦ absurd (gives.1 (s.word_is ∙ g.word_is))
       | inr (inr (inr (inl g))) ↦ let c : s.outcome.code ≡ 0 = g.code_is in absurd (omega arith)
       | inr (inr (inr (inr (inl g)))) ↦ let c : s.outcome.code ≡ 3 = g.code_is in absurd (omega arith)
-      | inr (inr (inr (inr (inr g)))) ↦ let c : s.outcome.code ≡ 0 = g.code_is in absurd (omega arith)
+      | inr (inr (inr (inr (inr g)))) ↦ let c : s.outcome.code ≡ 4 = g.code_is in absurd (omega arith)
     ]
 
 pub tokens_rise : (A : Type 0) → TokensRise A

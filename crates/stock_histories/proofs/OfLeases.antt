@@ -11,7 +11,7 @@ use Rattle.stock_programs.proofs.Leasing.{leases}
 use Rattle.stock_programs.proofs.NumberFacts.{fits, read_written, read_before, length_written}
 use Rattle.stock_histories.specs.Turns.{Turn, NeverFalls}
 use Rattle.stock_histories.specs.LeaseLaw.{Grants, KeepsLease, last_end, NeverOverlap}
-use Rattle.stock_histories.proofs.KeyHistory.{IsGiven, RunsTo, KeyHistory, times_after, saved, unchanged}
+use Rattle.stock_histories.proofs.KeyHistory.{IsGiven, RunsTo, KeyHistory, times_after, saved, unchanged, unchanged_if_short}
 use Rattle.stock_histories.proofs.Projected.{cut_at}
 
 -- The record gives the lease to this owner until this time.
@@ -47,7 +47,7 @@ granted_holds r r' t s one = elim (obeyed r r' t s) [
       (sym (s.word_is ∙ g.word_is)) held)
   | inr (inl b) ↦ let c : s.outcome.code ≡ 2 = b.code_is in let d : t.code ≡ s.outcome.code = s.code_is in absurd (omega arith)
   | inr (inr (inl b)) ↦ let c : s.outcome.code ≡ 0 = b.code_is in let d : t.code ≡ s.outcome.code = s.code_is in absurd (omega arith)
-  | inr (inr (inr b)) ↦ let c : s.outcome.code ≡ 0 = b.code_is in let d : t.code ≡ s.outcome.code = s.code_is in absurd (omega arith)
+  | inr (inr (inr b)) ↦ let c : s.outcome.code ≡ 4 = b.code_is in let d : t.code ≡ s.outcome.code = s.code_is in absurd (omega arith)
 ]
 
 -- the bytes that a run is given of a lease that is held
@@ -78,7 +78,7 @@ stays r r' t who end s h before not_granted keeps =
       | inl g ↦ absurd (may_not s.given t.argument s.env.now who end sees (omega arith) (λ own. not_granted (code_is ∙ g.code_is, own)) g.may)
       | inr (inl g) ↦ absurd (may_not s.given t.argument s.env.now who end sees (omega arith) (λ own. keeps own (code_is ∙ g.code_is)) g.may)
       | inr (inr (inl b)) ↦ subst (λ (x : Option (List ℕ)). Holds x who end) (sym (s.left ∙ unchanged r s.outcome b.code_is)) h
-      | inr (inr (inr b)) ↦ subst (λ (x : Option (List ℕ)). Holds x who end) (sym (s.left ∙ unchanged r s.outcome b.code_is)) h
+      | inr (inr (inr b)) ↦ subst (λ (x : Option (List ℕ)). Holds x who end) (sym (s.left ∙ unchanged_if_short r s.outcome b.code_is)) h
     ]
 
 -- a grant to another owner comes no sooner than the end
@@ -93,7 +93,7 @@ not_before r r' t who end s h one other = elim (cases_lt t.now end) [
         | inl g ↦ absurd (may_not s.given t.argument s.env.now who end sees (omega arith) other g.may)
         | inr (inl g) ↦ let c : s.outcome.code ≡ 2 = g.code_is in absurd (omega arith)
         | inr (inr (inl b)) ↦ let c : s.outcome.code ≡ 0 = b.code_is in absurd (omega arith)
-        | inr (inr (inr b)) ↦ let c : s.outcome.code ≡ 0 = b.code_is in absurd (omega arith)
+        | inr (inr (inr b)) ↦ let c : s.outcome.code ≡ 4 = b.code_is in absurd (omega arith)
       ]
 ]
 

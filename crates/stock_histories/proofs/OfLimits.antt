@@ -1,5 +1,5 @@
 -- A window admits at most its number: the record counts the runs that it has admitted.
-use Rattle.std.proofs.Common.{ℕ, ◌≡◌, inl, inr, ◌+◌, ◌-◌, ◌<◌, ◌≤◌, ◌==◌, ◌^◌, refl, sym, ap, ◌∙◌, subst, List, [], ◌∷◌, ◌++◌, replicate, length, cond, Option, Some, None, arith}
+use Rattle.std.proofs.Common.{ℕ, ◌≡◌, inl, inr, ◌+◌, ◌-◌, ◌<◌, ◌≤◌, ◌==◌, ◌^◌, refl, sym, ap, ◌∙◌, subst, List, [], ◌∷◌, ◌++◌, replicate, length, cond, false, Option, Some, None, arith}
 use Rattle.std.specs.List.{AllByRecursion}
 use Rattle.std.specs.FinMap as map
 use Rattle.std.proofs.lemmas.Option.{same_Some}
@@ -10,7 +10,7 @@ use Rattle.stock_programs.proofs.Limiting.{limits}
 use Rattle.stock_programs.proofs.NumberFacts.{fits, read_written, read_before, read_zeros, length_written}
 use Rattle.stock_histories.specs.Turns.{Turn, NeverFalls}
 use Rattle.stock_histories.specs.LimitLaw.{Names, HasBegun, BeginsWindow, admitted_in, AdmitsAtMost}
-use Rattle.stock_histories.proofs.KeyHistory.{IsGiven, RunsTo, KeyHistory, halves, times_after, kept, saved, unchanged, given_is}
+use Rattle.stock_histories.proofs.KeyHistory.{IsGiven, RunsTo, KeyHistory, halves, times_after, kept, saved, is_one, unchanged, unchanged_if_short, given_is}
 use Rattle.stock_histories.proofs.Projected.{cut_at}
 
 -- The record has a window that began at this time, and has admitted this many.
@@ -63,7 +63,7 @@ stays_begun r r' t s h =
       | inr (inl g) ↦ begun r' s.env.now 1 (first_one r' s.given s.env.now (s.left ∙ saved r s.outcome g.code_is ∙ ap Some g.bytes_are) g.long.of_record i.now_fits) (omega arith)
       | inr (inr (inl g)) ↦ subst (λ (x : Option (List ℕ)). HasBegun x) (sym (s.left ∙ unchanged r s.outcome g.code_is)) h
       | inr (inr (inr (inl g))) ↦ subst (λ (x : Option (List ℕ)). HasBegun x) (sym (s.left ∙ unchanged r s.outcome g.code_is)) h
-      | inr (inr (inr (inr g))) ↦ subst (λ (x : Option (List ℕ)). HasBegun x) (sym (s.left ∙ unchanged r s.outcome g.code_is)) h
+      | inr (inr (inr (inr g))) ↦ subst (λ (x : Option (List ℕ)). HasBegun x) (sym (s.left ∙ unchanged_if_short r s.outcome g.code_is)) h
     ]
 
 -- ---- the first run of a window
@@ -90,7 +90,7 @@ opens r r' t length number s h names begins late =
           subst (λ (k : ℕ). Window r' k 1) now_is (first_one r' s.given s.env.now (s.left ∙ saved r s.outcome g.code_is ∙ ap Some g.bytes_are) g.long.of_record i.now_fits)
       | inr (inr (inl g)) ↦ let c : s.outcome.code ≡ 0 = g.code_is in absurd (omega arith)
       | inr (inr (inr (inl g))) ↦ let c : s.outcome.code ≡ 0 = g.code_is in absurd (omega arith)
-      | inr (inr (inr (inr g))) ↦ let c : s.outcome.code ≡ 0 = g.code_is in absurd (omega arith)
+      | inr (inr (inr (inr g))) ↦ let c : s.outcome.code ≡ 4 = g.code_is in absurd (omega arith)
     ]
 
 -- ---- the runs of a window
@@ -113,10 +113,10 @@ record Passes (r' : Option (List ℕ)) (t : Turn) (start count number : ℕ) : T
   below : count + more ≤ number
   left : Window r' start (count + more)
 
-refused : (r r' : Option (List ℕ)) (t : Turn) (start count number : ℕ) → t.code ≡ 0 → r' ≡ r → count ≤ number → Window r start count → Passes r' t start count number
-refused r r' t start count number zero same below w = record {
+refused : (r r' : Option (List ℕ)) (t : Turn) (start count number : ℕ) → t.code == 1 ≡ false → r' ≡ r → count ≤ number → Window r start count → Passes r' t start count number
+refused r r' t start count number other same below w = record {
   more = 0;
-  adds = rw zero refl;
+  adds = rw other refl;
   below = omega arith;
   left = let e : count ≡ count + 0 = omega arith in subst (λ (x : Option (List ℕ)). Window x start (count + 0)) (sym same) (subst (λ (k : ℕ). Window r start k) e w);
 }
@@ -142,9 +142,9 @@ passes r r' t start count length number s names after before below w =
                 (omega (arith, fits 8 t.argument i.are_argument))));
           }
       | inr (inl g) ↦ absurd (not_over s.given t.argument s.env.now start length sees.0 names.0 (omega arith) (omega arith) g.over)
-      | inr (inr (inl g)) ↦ refused r r' t start count number (s.code_is ∙ g.code_is) (s.left ∙ unchanged r s.outcome g.code_is) below w
-      | inr (inr (inr (inl g))) ↦ refused r r' t start count number (s.code_is ∙ g.code_is) (s.left ∙ unchanged r s.outcome g.code_is) below w
-      | inr (inr (inr (inr g))) ↦ refused r r' t start count number (s.code_is ∙ g.code_is) (s.left ∙ unchanged r s.outcome g.code_is) below w
+      | inr (inr (inl g)) ↦ refused r r' t start count number (ap is_one (s.code_is ∙ g.code_is)) (s.left ∙ unchanged r s.outcome g.code_is) below w
+      | inr (inr (inr (inl g))) ↦ refused r r' t start count number (ap is_one (s.code_is ∙ g.code_is)) (s.left ∙ unchanged r s.outcome g.code_is) below w
+      | inr (inr (inr (inr g))) ↦ refused r r' t start count number (ap is_one (s.code_is ∙ g.code_is)) (s.left ∙ unchanged_if_short r s.outcome g.code_is) below w
     ]
 
 during_window : (r r' : Option (List ℕ)) (ts : List Turn) (from start count length number : ℕ) → KeyHistory rate_limit r ts r' → AllByRecursion (Names length number) ts

@@ -10,7 +10,7 @@ use Rattle.stock_programs.proofs.Permitting.{holds_permits}
 use Rattle.stock_programs.proofs.NumberFacts.{fits, read_written, read_zeros}
 use Rattle.stock_histories.specs.Turns.{Turn}
 use Rattle.stock_histories.specs.SemaphoreLaw.{holders_in, acquired_in, released_in, NamesPermits, NeverMore}
-use Rattle.stock_histories.proofs.KeyHistory.{IsGiven, RunsTo, KeyHistory, saved, unchanged}
+use Rattle.stock_histories.proofs.KeyHistory.{IsGiven, RunsTo, KeyHistory, saved, is_one, unchanged, unchanged_if_short}
 use Rattle.stock_histories.proofs.Projected.{projected}
 
 -- a run is given the holders of the record, or none
@@ -43,9 +43,8 @@ gives r' t before number one none some is below =
     let b : wanted t.argument == 0 ≡ true = eq-eqb _ _ none in
     record { more = 0; less = 1; acquired = rw (a, b) refl; released = rw (a, b) refl; sum = omega arith; below = omega arith }
 
-stays : (r' : Option (List ℕ)) (t : Turn) (before number : ℕ) → t.code ≡ 0 → holders_in r' ≡ before → before ≤ number → Step r' t before number
-stays r' t before number zero is below =
-    let a : t.code == 1 ≡ false = ne_eqb _ _ (omega arith) in
+stays : (r' : Option (List ℕ)) (t : Turn) (before number : ℕ) → t.code == 1 ≡ false → holders_in r' ≡ before → before ≤ number → Step r' t before number
+stays r' t before number a is below =
     record { more = 0; less = 0; acquired = rw a refl; released = rw a refl; sum = omega arith; below = omega arith }
 
 one_turn : (r r' : Option (List ℕ)) (t : Turn) (number : ℕ) → RunsTo semaphore r t r' → NamesPermits number t → holders_in r ≤ number → Step r' t (holders_in r) number
@@ -66,8 +65,8 @@ one_turn r r' t number s names below =
           let after : holders_in r' ≡ holders s.given - 1
           = written r' s.given (holders s.given - 1) (s.left ∙ saved r s.outcome g.code_is ∙ ap Some g.bytes_are) (omega arith) in
           gives r' t (holders_in r) number (s.code_is ∙ g.code_is) g.gives (omega arith) (omega arith) below
-      | inr (inr (inl g)) ↦ stays r' t (holders_in r) number (s.code_is ∙ g.code_is) (ap holders_in (s.left ∙ unchanged r s.outcome g.code_is)) below
-      | inr (inr (inr g)) ↦ stays r' t (holders_in r) number (s.code_is ∙ g.code_is) (ap holders_in (s.left ∙ unchanged r s.outcome g.code_is)) below
+      | inr (inr (inl g)) ↦ stays r' t (holders_in r) number (ap is_one (s.code_is ∙ g.code_is)) (ap holders_in (s.left ∙ unchanged r s.outcome g.code_is)) below
+      | inr (inr (inr g)) ↦ stays r' t (holders_in r) number (ap is_one (s.code_is ∙ g.code_is)) (ap holders_in (s.left ∙ unchanged_if_short r s.outcome g.code_is)) below
     ]
 
 all_turns : (r r' : Option (List ℕ)) (ts : List Turn) (number : ℕ) → KeyHistory semaphore r ts r' → AllByRecursion (NamesPermits number) ts → holders_in r ≤ number

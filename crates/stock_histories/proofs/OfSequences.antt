@@ -7,7 +7,7 @@ use Rattle.stock_programs.proofs.Sequencing.{sequences}
 use Rattle.stock_programs.proofs.NumberFacts.{read_taken}
 use Rattle.stock_histories.specs.Turns.{Turn}
 use Rattle.stock_histories.specs.SequenceLaw.{TakesOnce}
-use Rattle.stock_histories.proofs.KeyHistory.{RunsTo, halves, kept, saved, unchanged, given_is}
+use Rattle.stock_histories.proofs.KeyHistory.{RunsTo, halves, kept, saved, unchanged, unchanged_if_short, given_is}
 use Rattle.stock_histories.proofs.Projected.{cut_at}
 
 -- The record's number is not below this one.
@@ -34,7 +34,7 @@ first_taken r r' t s one =
     elim (obeyed r r' t s) [
       | inl g ↦ taken r' s.given t.argument (number_at 0 t.argument) (s.left ∙ saved r s.outcome g.code_is ∙ ap Some g.bytes_are) g.long.of_argument (omega arith)
       | inr (inl g) ↦ let c : s.outcome.code ≡ 0 = g.code_is in absurd (omega arith)
-      | inr (inr g) ↦ let c : s.outcome.code ≡ 0 = g.code_is in absurd (omega arith)
+      | inr (inr g) ↦ let c : s.outcome.code ≡ 4 = g.code_is in absurd (omega arith)
     ]
 
 seen : (r r' : Option (List ℕ)) (t : Turn) (n : ℕ) (s : RunsTo sequence r t r') → IsPast r n → n ≤ number_at 0 s.given
@@ -48,7 +48,7 @@ stays n r r' t s h =
           let newer : number_at 0 s.given < number_at 0 t.argument = g.newer in
           taken r' s.given t.argument n (s.left ∙ saved r s.outcome g.code_is ∙ ap Some g.bytes_are) g.long.of_argument (omega arith)
       | inr (inl g) ↦ subst (λ (x : Option (List ℕ)). IsPast x n) (sym (s.left ∙ unchanged r s.outcome g.code_is)) h
-      | inr (inr g) ↦ subst (λ (x : Option (List ℕ)). IsPast x n) (sym (s.left ∙ unchanged r s.outcome g.code_is)) h
+      | inr (inr g) ↦ subst (λ (x : Option (List ℕ)). IsPast x n) (sym (s.left ∙ unchanged_if_short r s.outcome g.code_is)) h
     ]
 
 next_taken : (r r' : Option (List ℕ)) (t : Turn) (n : ℕ) → RunsTo sequence r t r' → IsPast r n → t.code ≡ 1 → n < number_at 0 t.argument
@@ -58,7 +58,7 @@ next_taken r r' t n s h one =
     elim (obeyed r r' t s) [
       | inl g ↦ let newer : number_at 0 s.given < number_at 0 t.argument = g.newer in omega arith
       | inr (inl g) ↦ let c : s.outcome.code ≡ 0 = g.code_is in absurd (omega arith)
-      | inr (inr g) ↦ let c : s.outcome.code ≡ 0 = g.code_is in absurd (omega arith)
+      | inr (inr g) ↦ let c : s.outcome.code ≡ 4 = g.code_is in absurd (omega arith)
     ]
 
 pub takes_once : (A : Type 0) → TakesOnce A

@@ -16,7 +16,7 @@ Finds bytes argument env = Found counter Counts bytes argument env
 short : (bytes argument : List ℕ) (env : Env) → length bytes < 8 → Finds bytes argument env
 short bytes argument env h = record {
   n = 3;
-  outcome = λ word. record { code = 0; word = word; bytes = bytes; steps = 3 };
+  outcome = λ word. record { code = 4; word = word; bytes = bytes; steps = 3 };
   is = λ stack word. simp (few bytes 8 h (omega arith));
   says = inr (record { short = inl h; code_is = refl; word_is = refl; bytes_are = refl });
 }

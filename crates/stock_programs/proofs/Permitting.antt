@@ -18,7 +18,7 @@ Finds bytes argument env = Found semaphore Permits bytes argument env
 short_record : (bytes argument : List ℕ) (env : Env) → length bytes < 8 → Finds bytes argument env
 short_record bytes argument env h = record {
   n = 3;
-  outcome = λ word. record { code = 0; word = word; bytes = bytes; steps = 3 };
+  outcome = λ word. record { code = 4; word = word; bytes = bytes; steps = 3 };
   is = λ stack word. simp (few bytes 8 h (omega arith));
   says = inr (inr (inr (record { short = inl h; code_is = refl; word_is = refl; bytes_are = refl })));
 }
@@ -26,7 +26,7 @@ short_record bytes argument env h = record {
 short_argument : (bytes argument : List ℕ) (env : Env) → IsInput bytes argument env → 8 ≤ length bytes → length argument < 16 → Finds bytes argument env
 short_argument bytes argument env i long h = record {
   n = 4;
-  outcome = λ word. record { code = 0; word = word; bytes = bytes; steps = 4 };
+  outcome = λ word. record { code = 4; word = word; bytes = bytes; steps = 4 };
   is = λ stack word. simp (many bytes 8 i.bytes_fit long, few argument 16 h (omega arith));
   says = inr (inr (inr (record { short = inr h; code_is = refl; word_is = refl; bytes_are = refl })));
 }

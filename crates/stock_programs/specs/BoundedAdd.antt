@@ -15,8 +15,8 @@ use Rattle.stock_programs.specs.Lengths.{HasLengths, IsShort}
 -- The instructions of examples/bounded_add.s.
 abbrev pub bounded_add : List Insn
 bounded_add =
-    Branch Lt W64 2 (Imm (pos 8)) (pos 11)
-    ∷ Branch Lt W64 4 (Imm (pos 16)) (pos 10)
+    Branch Lt W64 2 (Imm (pos 8)) (pos 13)
+    ∷ Branch Lt W64 4 (Imm (pos 16)) (pos 12)
     ∷ Load Double 6 1 (pos 0)
     ∷ Load Double 7 3 (pos 0)
     ∷ Load Double 8 3 (pos 8)
@@ -29,6 +29,9 @@ bounded_add =
     ∷ Exit
     -- leave
     ∷ Alu Mov W64 0 (Imm (pos 0))
+    ∷ Exit
+    -- short
+    ∷ Alu Mov W64 0 (Imm (pos 4))
     ∷ Exit
     ∷ []
 

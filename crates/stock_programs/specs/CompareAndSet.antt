@@ -15,8 +15,8 @@ use Rattle.stock_programs.specs.Lengths.{HasLengths, IsShort}
 -- The instructions of examples/compare_and_set.s.
 abbrev pub compare_and_set : List Insn
 compare_and_set =
-    Branch Lt W64 2 (Imm (pos 8)) (pos 11)
-    ∷ Branch Lt W64 4 (Imm (pos 16)) (pos 10)
+    Branch Lt W64 2 (Imm (pos 8)) (pos 13)
+    ∷ Branch Lt W64 4 (Imm (pos 16)) (pos 12)
     ∷ Alu Mov W64 6 (Reg 1)
     ∷ Load Double 7 3 (pos 0)
     ∷ Load Double 8 3 (pos 8)
@@ -29,6 +29,9 @@ compare_and_set =
     ∷ Exit
     -- leave
     ∷ Alu Mov W64 0 (Imm (pos 0))
+    ∷ Exit
+    -- short
+    ∷ Alu Mov W64 0 (Imm (pos 4))
     ∷ Exit
     ∷ []
 

@@ -21,8 +21,8 @@ counter =
     ∷ Store Double 1 (pos 0) 6
     ∷ Alu Mov W64 0 (Imm (pos 1))
     ∷ Exit
-    -- leave
-    ∷ Alu Mov W64 0 (Imm (pos 0))
+    -- short
+    ∷ Alu Mov W64 0 (Imm (pos 4))
     ∷ Exit
     ∷ []
 

@@ -58,8 +58,8 @@ fenced_lease =
     -- used_up
     ∷ Alu Mov W64 0 (Imm (pos 3))
     ∷ Exit
-    -- leave
-    ∷ Alu Mov W64 0 (Imm (pos 0))
+    -- short
+    ∷ Alu Mov W64 0 (Imm (pos 4))
     ∷ Exit
     ∷ []
 

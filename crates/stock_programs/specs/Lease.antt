@@ -44,8 +44,8 @@ lease =
     -- give_back
     ∷ Alu Mov W64 0 (Imm (pos 2))
     ∷ Exit
-    -- leave
-    ∷ Alu Mov W64 0 (Imm (pos 0))
+    -- short
+    ∷ Alu Mov W64 0 (Imm (pos 4))
     ∷ Exit
     ∷ []
 

@@ -39,8 +39,8 @@ semaphore =
     ∷ Call (pos 1)
     ∷ Alu Mov W64 0 (Imm (pos 0))
     ∷ Exit
-    -- leave
-    ∷ Alu Mov W64 0 (Imm (pos 0))
+    -- short
+    ∷ Alu Mov W64 0 (Imm (pos 4))
     ∷ Exit
     ∷ []
 

@@ -76,7 +76,7 @@ pub fn counter_code<A: Allocator>(alloc: A) -> Result<Code<A>, AllocError>
         store!(1, 0, 6),
         alu!(Mov, 0, Imm(1)),
         Insn::Exit,
-        alu!(Mov, 0, Imm(0)),
+        alu!(Mov, 0, Imm(4)),
         Insn::Exit,
     ];
     code_from(alloc, &insns)
@@ -90,8 +90,8 @@ pub fn bounded_add_code<A: Allocator>(alloc: A) -> Result<Code<A>, AllocError>
     ensures { IfOk result (λ code. code ≡ bounded_add) }
 {
     let insns = [
-        branch!(Lt, 2, Imm(8), 11),
-        branch!(Lt, 4, Imm(16), 10),
+        branch!(Lt, 2, Imm(8), 13),
+        branch!(Lt, 4, Imm(16), 12),
         load!(6, 1, 0),
         load!(7, 3, 0),
         load!(8, 3, 8),
@@ -103,6 +103,8 @@ pub fn bounded_add_code<A: Allocator>(alloc: A) -> Result<Code<A>, AllocError>
         alu!(Mov, 0, Imm(1)),
         Insn::Exit,
         alu!(Mov, 0, Imm(0)),
+        Insn::Exit,
+        alu!(Mov, 0, Imm(4)),
         Insn::Exit,
     ];
     code_from(alloc, &insns)
@@ -142,7 +144,7 @@ pub fn bounded_counter_code<A: Allocator>(alloc: A) -> Result<Code<A>, AllocErro
         Insn::Call { helper: 1 },
         alu!(Mov, 0, Imm(0)),
         Insn::Exit,
-        alu!(Mov, 0, Imm(0)),
+        alu!(Mov, 0, Imm(4)),
         Insn::Exit,
     ];
     code_from(alloc, &insns)
@@ -156,8 +158,8 @@ pub fn compare_and_set_code<A: Allocator>(alloc: A) -> Result<Code<A>, AllocErro
     ensures { IfOk result (λ code. code ≡ compare_and_set) }
 {
     let insns = [
-        branch!(Lt, 2, Imm(8), 11),
-        branch!(Lt, 4, Imm(16), 10),
+        branch!(Lt, 2, Imm(8), 13),
+        branch!(Lt, 4, Imm(16), 12),
         alu!(Mov, 6, Reg(1)),
         load!(7, 3, 0),
         load!(8, 3, 8),
@@ -169,6 +171,8 @@ pub fn compare_and_set_code<A: Allocator>(alloc: A) -> Result<Code<A>, AllocErro
         alu!(Mov, 0, Imm(1)),
         Insn::Exit,
         alu!(Mov, 0, Imm(0)),
+        Insn::Exit,
+        alu!(Mov, 0, Imm(4)),
         Insn::Exit,
     ];
     code_from(alloc, &insns)
@@ -198,7 +202,7 @@ pub fn sequence_code<A: Allocator>(alloc: A) -> Result<Code<A>, AllocError>
         Insn::Call { helper: 1 },
         alu!(Mov, 0, Imm(0)),
         Insn::Exit,
-        alu!(Mov, 0, Imm(0)),
+        alu!(Mov, 0, Imm(4)),
         Insn::Exit,
     ];
     code_from(alloc, &insns)
@@ -238,7 +242,7 @@ pub fn lease_code<A: Allocator>(alloc: A) -> Result<Code<A>, AllocError>
         Insn::Exit,
         alu!(Mov, 0, Imm(2)),
         Insn::Exit,
-        alu!(Mov, 0, Imm(0)),
+        alu!(Mov, 0, Imm(4)),
         Insn::Exit,
     ];
     code_from(alloc, &insns)
@@ -288,7 +292,7 @@ pub fn fenced_lease_code<A: Allocator>(alloc: A) -> Result<Code<A>, AllocError>
         Insn::Exit,
         alu!(Mov, 0, Imm(3)),
         Insn::Exit,
-        alu!(Mov, 0, Imm(0)),
+        alu!(Mov, 0, Imm(4)),
         Insn::Exit,
     ];
     code_from(alloc, &insns)
@@ -330,7 +334,7 @@ pub fn rate_limit_code<A: Allocator>(alloc: A) -> Result<Code<A>, AllocError>
         Insn::Call { helper: 1 },
         alu!(Mov, 0, Imm(0)),
         Insn::Exit,
-        alu!(Mov, 0, Imm(0)),
+        alu!(Mov, 0, Imm(4)),
         Insn::Exit,
     ];
     code_from(alloc, &insns)
@@ -365,7 +369,7 @@ pub fn semaphore_code<A: Allocator>(alloc: A) -> Result<Code<A>, AllocError>
         Insn::Call { helper: 1 },
         alu!(Mov, 0, Imm(0)),
         Insn::Exit,
-        alu!(Mov, 0, Imm(0)),
+        alu!(Mov, 0, Imm(4)),
         Insn::Exit,
     ];
     code_from(alloc, &insns)
@@ -409,7 +413,7 @@ pub fn token_bucket_code<A: Allocator>(alloc: A) -> Result<Code<A>, AllocError>
         Insn::Call { helper: 1 },
         alu!(Mov, 0, Imm(0)),
         Insn::Exit,
-        alu!(Mov, 0, Imm(0)),
+        alu!(Mov, 0, Imm(4)),
         Insn::Exit,
     ];
     code_from(alloc, &insns)

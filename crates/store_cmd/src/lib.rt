@@ -1,5 +1,5 @@
-//! Commands on a store, their replies, and the trail of answered commands. `specs/` defines the answers of a plain map, the
-//! effect of a command on the directory, and legal histories.
+//! Commands on a store, their replies, and the trail of answered commands. `specs/` defines the answers of a plain map to
+//! commands, the effect of a command on the directory, and legal histories.
 #![tactic(auto)]
 
 ghost use Rattle.std.specs.Prelude.{◌≡◌, ◌↔◌, ◌≤◌, ◌+◌, IfOk, IfErr, IsOk, length};
@@ -38,8 +38,7 @@ pub enum Command<A: Allocator> {
     Delete {
         key: Bytes<A>,
     },
-    /// Runs a program on a key's record in place. If the key is missing, the program runs on a record of `blank` zero bytes
-    /// instead.
+    /// Runs a program on a key's record in place. If the key is missing, runs it on a record of `blank` zero bytes.
     Run {
         key: Bytes<A>,
         prog: Program<A>,
@@ -56,37 +55,37 @@ pub enum Command<A: Allocator> {
 #[derive(Drop)]
 #[derive_where(PartialEq)]
 pub enum Reply<A: Allocator> {
-    /// To a fetch: the key's value.
+    /// The reply to a fetch: the key's value.
     Found(Bytes<A>),
-    /// To a fetch, a delete or a run without a blank: the key does not exist.
+    /// The reply to a fetch, a delete or a run without a blank: the key does not exist.
     Missing,
-    /// To a store: the key now has the value.
+    /// The reply to a store: the key now has the value.
     Stored,
-    /// To a store that inserts: the key exists already.
+    /// The reply to an insert: the key exists already.
     Exists,
-    /// To a store, or a run that saves its blank: the pair does not fit, and nothing has changed.
+    /// The reply to a store, or to a run that saves its blank: the pair does not fit, and nothing has changed.
     Crowded,
-    /// To a delete: the key existed and has been removed.
+    /// The reply to a delete: the key existed and was removed.
     Deleted,
-    /// To a run: the program's exit number, and the reply word that it set.
+    /// The reply to a run: the program's exit number, and the reply word that it set.
     Ran { code: u64, word: u64 },
-    /// To a count: the number of pairs.
+    /// The reply to a count: the number of pairs.
     Count(usize),
 }
 
-/// Why a command's size is invalid.
+/// The reasons why a command's size is invalid.
 #[derive(Clone, Copy, Debug, PartialEq, Eq)]
 pub enum SizeFault {
-    /// The key plus the value or the blank is longer than a pair may be.
+    /// Key and value, or key and blank, are together longer than a pair may be.
     PairTooLarge,
     /// The argument of a run is longer than the limit.
     ArgTooLong,
 }
 
-/// Why a session's call is refused.
+/// The reasons why a session's call is refused.
 #[derive(Clone, Copy, Debug, PartialEq, Eq)]
 pub enum Refusal {
-    /// The key plus the value or the blank is longer than a pair may be.
+    /// Key and value, or key and blank, are together longer than a pair may be.
     PairTooLarge,
     /// The argument of a run is longer than the limit.
     ArgTooLong,
@@ -106,16 +105,16 @@ pub struct Entry<A: Allocator> {
     pub reply: Reply<A>,
 }
 
-/// The store's initial pairs, sorted by the bytes of their keys, and the commands answered since.
+/// The store's initial pairs, sorted by the bytes of their keys, and the commands that were answered since.
 #[derive(Drop)]
 pub struct Trail<A: Allocator> {
     pub opening: Opening<A>,
     pub entries: Vec<KeptEntry<A>, A>,
 }
 
-/// Checks a command's size against the page size of a database. Returns `PairTooLarge` if the key plus the stored value or the
-/// blank is longer than a pair may be; otherwise `ArgTooLong` if the argument of a run is longer than 1,024 bytes. Allocates
-/// nothing.
+/// Checks a command's size against the page size of a database. Returns `PairTooLarge` if the key and the stored value, or the
+/// key and the blank, are together longer than a pair may be; otherwise `ArgTooLong` if the argument of a run is longer than
+/// 1,024 bytes. Allocates nothing.
 pub fn check_sizes<A: Allocator>(command: &Command<A>, size: PageSize) -> Result<(), SizeFault>
     ensures ok { IsOk result ↔ IsSmall size command.now }
     ensures err { IfErr result (IsSizeFault size command.now) }

@@ -6,7 +6,7 @@ use std::alloc::{AllocError, Allocator};
 use std::marker::Model;
 use std::sync::Arc;
 
-/// A shared, read-only list of pairs. Another owner allocates nothing; the last owner frees the pairs.
+/// A shared, read-only list of pairs. Cloning adds an owner and allocates nothing; the last owner frees the pairs.
 #[derive(Drop)]
 pub struct Opening<A: Allocator> {
     owned: Arc<Vec<(Bytes<A>, Bytes<A>), A>, A>,
@@ -23,7 +23,7 @@ impl<A: Allocator> Model for Opening<A> {
 }
 
 impl<A: Allocator> Opening<A> {
-    /// Makes pairs with a single owner. If out of memory, returns the pairs as the error.
+    /// Wraps pairs, with a single owner. If out of memory, returns the pairs.
     pub fn new(
         alloc: A,
         pairs: Vec<(Bytes<A>, Bytes<A>), A>,

@@ -7,7 +7,7 @@ use std::alloc::{AllocError, Allocator};
 use std::marker::Model;
 use std::sync::Arc;
 
-/// An accepted program shared by commands, seen as its list of instructions. It is read-only; the last owner frees it.
+/// An accepted program that commands share, modelled as its list of instructions. It is read-only; the last owner frees it.
 #[derive(Drop)]
 pub struct Program<A: Allocator> {
     owned: Arc<Verified<A>, A>,

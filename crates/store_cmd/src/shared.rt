@@ -6,7 +6,7 @@ use std::alloc::{AllocError, Allocator};
 use std::marker::Model;
 use std::sync::Arc;
 
-/// A shared, read-only command. Another owner allocates nothing; the last owner frees the command.
+/// A shared, read-only command. Cloning adds an owner and allocates nothing; the last owner frees the command.
 #[derive(Drop)]
 pub struct SharedCommand<A: Allocator> {
     owned: Arc<Command<A>, A>,
@@ -22,7 +22,7 @@ impl<A: Allocator> Model for SharedCommand<A> {
 }
 
 impl<A: Allocator> SharedCommand<A> {
-    /// Makes a command with a single owner. If out of memory, returns the command as the error.
+    /// Wraps a command, with a single owner. If out of memory, returns the command.
     pub fn new(alloc: A, command: Command<A>) -> Result<Self, Command<A>>
         ensures ok { IfOk result (λ shared. shared ≡ command) }
         ensures returned { IfErr result (λ refused. refused ≡ command) }
@@ -56,7 +56,8 @@ impl<A: Allocator> SharedCommand<A> {
     }
 }
 
-/// An answered command as a trail and its session store it, seen as an `Entry`. Both own the command.
+/// An answered command as a trail and its session store it, modelled as an `Entry`. The trail and the session share the
+/// command.
 #[derive(Drop)]
 pub struct KeptEntry<A: Allocator> {
     session: u64,
@@ -73,7 +74,7 @@ impl<A: Allocator> Model for KeptEntry<A> {
 }
 
 impl<A: Allocator> KeptEntry<A> {
-    /// A session's command with its reply.
+    /// Makes the entry of a session's command and its reply.
     pub fn new(session: u64, command: SharedCommand<A>, reply: Reply<A>) -> Self
         ensures { result ≡ record { session = session; command = command; reply = reply } }
     {
@@ -98,7 +99,7 @@ impl<A: Allocator> KeptEntry<A> {
         self.command.command()
     }
 
-    /// Its reply.
+    /// The reply.
     pub fn reply(&self) -> &Reply<A>
         ensures { result.now ≡ self.now.reply }
     {
@@ -118,7 +119,8 @@ impl<A: Allocator> KeptEntry<A> {
         self.reply == other.reply
     }
 
-    /// Clones the entry and adds an owner to its command. Returns an error if there is no memory for the reply.
+    /// Clones the entry and adds an owner to its command. Returns an error if there is no memory for the reply or if the owner
+    /// count is at its maximum.
     pub fn try_clone(&self, alloc: A) -> Result<Self, AllocError>
     where
         A: Copy,

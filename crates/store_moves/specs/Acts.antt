@@ -13,8 +13,8 @@ use Rattle.store_cmd.specs.Moves.{Moves}
 use Rattle.store_moves.specs.Works.{works, key_of, HasEnd}
 use Rattle.store_moves.specs.Leads.{IsPlaceOf, changed_by, state_of}
 
--- a command about a key that is not a run, or a run that ends: the entry has its result on the page of its place, and the
--- change is installed
+-- A command about a key that is not a run, or a run that ends. The entry has the command's result on the page of its place, and
+-- the change is installed.
 pub record IsOnPage {A : Type 0} (db : Database) (e : Entry A) (db' : Database) : Type 0 where
   pub place : Place
   pub leads : IsPlaceOf db (key_of e.command) place
@@ -22,14 +22,14 @@ pub record IsOnPage {A : Type 0} (db : Database) (e : Entry A) (db' : Database) 
   pub answer_is : e.reply ≡ (works place db.kind db.size (pairs_at db place.page) e.session e.command).reply
   pub database : db' ≡ changed_by db place.page (works place db.kind db.size (pairs_at db place.page) e.session e.command).change
 
--- a session's command is executed on the page of its place: the reply is its result there, and the change is installed
+-- A session's command is executed on the page of its place: the reply is the result on that page, and the change is installed.
 pub record IsPutIn {A : Type 0} (db : Database) (place : Place) (session : ℕ) (command : Command A) (reply : Reply A) (db' : Database) : Type 0 where
   pub leads : IsPlaceOf db (key_of command) place
   pub ends : HasEnd (pairs_at db place.page) session command
   pub reply_is : reply ≡ (works place db.kind db.size (pairs_at db place.page) session command).reply
   pub database : db' ≡ changed_by db place.page (works place db.kind db.size (pairs_at db place.page) session command).change
 
--- exactly the answer to a command and the database after it
+-- the exact effect of a command, by cases: a count changes nothing, and any other command acts on the page of its key
 abbrev pub IsExactFor : {A : Type 0} → Command A → Database → Entry A → Database → Type 0
 IsExactFor (Fetch key) db e db' = IsOnPage db e db'
 IsExactFor (Store key value mode) db e db' = IsOnPage db e db'
@@ -37,13 +37,13 @@ IsExactFor (Delete key) db e db' = IsOnPage db e db'
 IsExactFor (Run key program argument blank now) db e db' = IsOnPage db e db'
 IsExactFor Count db e db' = (e.reply ≡ reply.Count (map.len (map_of db))) × (db' ≡ db)
 
--- One entry whose command has valid sizes: exactly its pages and bits are installed, as one move.
+-- One entry whose command has valid sizes. It installs these pages and bits and no others, and is one move.
 pub record Acts {A : Type 0} (db : Database) (e : Entry A) (db' : Database) : Type 0 where
   pub small : IsSmall db.size e.command
   pub exact : IsExactFor e.command db e db'
   pub move : Moves (state_of db) e (state_of db')
 
--- entries whose commands are executed in order, with these replies
+-- the commands of the entries are executed in order, with these replies
 abbrev pub ActsInTurn : {A : Type 0} → Database → List (Entry A) → Database → Type 0
 ActsInTurn db [] db' = db' ≡ db
 ActsInTurn {A} db (e ∷ es) db' = (mid : Database) × (Acts db e mid × ActsInTurn mid es db')

@@ -1,4 +1,4 @@
--- The effect of a page's result on the whole database.
+-- The effect on the whole database of a command's result on one page.
 use Rattle.std.specs.Prelude.{◌≡◌, ◌≢◌, ℕ, ◌%◌, ◌^◌, ◌≤◌, ◌||◌, ◌&&◌, Bool, true, false, is_some, List, [], Option, None, Some}
 use Rattle.std.specs.FinMap as map
 use Rattle.sdbm_addr.specs.Hash.{hash_of}
@@ -14,11 +14,11 @@ use Rattle.store_cmd.specs.Answers.{saves, removes}
 use Rattle.store_cmd.specs.Moves.{State, Moves}
 use Rattle.store_moves.specs.Works.{PageResult, key_of, HasEnd}
 
--- a database as commands see it
+-- the state of a database: its map, splits, hash kind and page size
 abbrev pub state_of : Database → State
 state_of db = record { map = map_of db; splits = db.splits; kind = db.kind; size = db.size }
 
--- the database after the change of a page, or unchanged
+-- the database after the change of a page, if there is a change
 abbrev pub changed_by : Database → ℕ → Option PageChange → Database
 changed_by db number None = db
 changed_by db number (Some change) = installed db number change.leaf change.twins change.bits
@@ -28,7 +28,8 @@ abbrev pub MayChange : Database → ℕ → Option PageChange → Type 0
 MayChange db number None = Unit {0}
 MayChange db number (Some change) = IsInstallable db number change.leaf change.twins change.bits
 
--- True if a reply says that the database has changed. A run that removes the pair changes the database only if its key existed.
+-- True if a reply says that the database has changed. The first argument is true if the key existed: without it, a run that
+-- removes the pair changes nothing.
 abbrev pub does_change : {A : Type 0} → Bool → Reply A → Bool
 does_change there Stored = true
 does_change there Deleted = true
@@ -39,7 +40,7 @@ does_change there Exists = false
 does_change there Crowded = false
 does_change there (Count n) = false
 
--- true if a command's key is in the database
+-- true if a command's key exists in the database
 abbrev pub is_there : {A : Type 0} → Database → Command A → Bool
 is_there db command = map.contains_key (map_of db) (key_of command)
 
@@ -50,16 +51,16 @@ pub record IsPlaceOf (db : Database) (key : List ℕ) (place : Place) : Type 0 w
   pub low_bits : place.page ≡ hash_of db.kind key % 2 ^ place.depth
   pub bit : place.bit ≡ word_number (hash_prefix place.depth (hash_of db.kind key))
 
--- every place except that of one page stays, with its page
+-- every place except that of one page is still a place, with the same page
 abbrev pub IsSameBeside : Database → ℕ → Database → Type 0
 IsSameBeside old number new = (key : List ℕ) (place : Place) → IsPlaceOf old key place → place.page ≢ number → IsPlaceOf new key place × (pairs_at new place.page ≡ pairs_at old place.page)
 
--- no page without pairs gets any
+-- a page without pairs stays without pairs
 abbrev pub FillsNone : Database → Database → Type 0
 FillsNone old new = (n : ℕ) → pairs_at old n ≡ [] → pairs_at new n ≡ []
 
--- A page's result is installable, leaves the other places unchanged, and has a change if and only if its reply says so.
--- Installed, it is one move; for a run, only if the run ends.
+-- A command's result on a page may be installed and leaves the other places unchanged. It has a change if and only if its reply
+-- says so. Installing it is one move; for a run, only if the run ends.
 pub record LeadsTo {A : Type 0} (db : Database) (session : ℕ) (command : Command A) (number : ℕ) (result : PageResult A) : Type 0 where
   pub may : MayChange db number result.change
   pub move : HasEnd (pairs_at db number) session command → Moves (state_of db) (record { session = session; command = command; reply = result.reply }) (state_of (changed_by db number result.change))

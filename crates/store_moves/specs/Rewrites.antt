@@ -1,4 +1,4 @@
--- Runs whose records are written back in place.
+-- Runs whose records are saved in place.
 use Rattle.std.specs.Prelude.{◌≡◌, ℕ, List, Some, ◌≤◌, length, take}
 use Rattle.sdbm_addr.specs.Pairs.{Pair, value_at, IsPlace}
 use Rattle.bpf_helpers.specs.Runs.{Outcome}
@@ -8,7 +8,7 @@ use Rattle.store_moves.specs.declared.runs.RunInput.{RunInput}
 use Rattle.store_moves.specs.declared.in_place.RunOnCopy.{RunOnCopy}
 use Rattle.store_moves.specs.Worked.{outcome_on}
 
--- a program was run on a copy of the value of its key, and its record is in the first of these bytes
+-- A program was run on a copy of the value of its key. The record that it left is a prefix of `bytes`.
 pub record IsRunCopied {A : Type 0} (pairs : List Pair) (input : RunInput A) (copied : RunOnCopy) (bytes : List ℕ) : Type 0 where
   pub outcome : Outcome
   pub place : IsPlace pairs input.key.now copied.i

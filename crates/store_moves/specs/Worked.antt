@@ -1,4 +1,4 @@
--- Results of commands.
+-- Results of commands, as the functions return them.
 use Rattle.std.specs.Prelude.{◌≡◌, ℕ, Bool, true, false, cond, List, Option, Some, None, slice_set, remove}
 use Rattle.std.specs.Option.{option_map}
 use Rattle.sdbm_addr.specs.declared.Mode.{Mode}
@@ -15,13 +15,12 @@ use Rattle.store_moves.specs.declared.worked.Site.{Site}
 use Rattle.store_moves.specs.declared.runs.RunInput.{RunInput}
 use Rattle.store_moves.specs.Works.{PageResult, change_of, is_kept, stored_unless, leaf_alone, stored_by, run_on, EndsOn, outcome_there, outcome_anew}
 
--- `worked` is exactly the result `wanted`
+-- `worked` is the result `wanted`
 pub record IsWorked {A : Type 0} (wanted : PageResult A) (worked : Worked A) : Type 0 where
   pub reply : worked.reply ≡ wanted.reply
   pub change : option_map change_of worked.change ≡ wanted.change
 
--- True if the reply may need memory: for the value that was found, for the changed pages, or for the page on which a program
--- runs.
+-- True if the reply may need memory: for the found value, for the changed pages, or for the page on which a program runs.
 abbrev pub takes_memory : {A : Type 0} → Reply A → Bool
 takes_memory (Found value) = true
 takes_memory Stored = true
@@ -32,7 +31,7 @@ takes_memory Exists = false
 takes_memory Crowded = false
 takes_memory (Count n) = false
 
--- True if a command needs memory only when it changes its page.
+-- True if a command needs memory only if it changes its page.
 abbrev pub is_change : {A : Type 0} → Command A → Bool
 is_change (commands.Fetch key) = false
 is_change (commands.Store key value mode) = true
@@ -42,21 +41,21 @@ is_change commands.Count = false
 
 -- ---- stores
 
--- the page of a site, with these pairs
+-- a page with the size of a site, and these pairs
 abbrev pub page_on : Site → List Pair → Content
 page_on site pairs = record { size = site.size; pairs = pairs }
 
--- the result of a store on that page
+-- the result of a store on the page of a site
 abbrev pub stored_on : {A : Type 0} → Site → List Pair → List ℕ → List ℕ → Mode → PageResult A
 stored_on site pairs key value mode = stored_unless (is_kept mode (value_of pairs key)) site.kind (page_on site pairs) key value site.place.depth
 
 -- ---- runs
 
--- the result of a run on the page of a site, on the value of its key or on its blank
+-- the result of a run on the page of a site
 abbrev pub run_by : {A : Type 0} → Site → List Pair → RunInput A → PageResult A
 run_by site pairs input = run_on site.kind (page_on site pairs) site.place.depth input.session input.key.now input.program.now.code input.arg.now input.time (value_of pairs input.key.now) input.blank
 
--- the run ends
+-- the run is on nothing, or ends
 abbrev pub EndsBy : {A : Type 0} → List Pair → RunInput A → Type 0
 EndsBy pairs input = EndsOn input.session input.program.now.code input.arg.now input.time (value_of pairs input.key.now) input.blank
 
@@ -90,7 +89,7 @@ pub record IsRunAnew {A : Type 0} (site : Site) (pairs : List Pair) (input : Run
   pub is : outcome_of_blank input len ≡ Some outcome
   pub worked_is : IsWorked (stored_from (saves outcome.code) site pairs input outcome) worked
 
--- it saved its record, for which memory is wanted
+-- the run saves its record, and storing the record may need memory
 pub record WantsAnew {A : Type 0} (site : Site) (pairs : List Pair) (input : RunInput A) (len : ℕ) : Type 0 where
   pub outcome : Outcome
   pub is : outcome_of_blank input len ≡ Some outcome

@@ -52,21 +52,21 @@ key_of (Delete key) = key
 key_of (Run key program argument blank now) = key
 key_of Count = []
 
--- a fetch of a key, given its value if it has one
+-- the result of a fetch, given the key's value if it has one
 abbrev pub fetched : {A : Type 0} → Option (List ℕ) → PageResult A
 fetched None = record { reply = Missing; change = None }
 fetched (Some value) = record { reply = Found value; change = None }
 
--- a page changed without a split
+-- the change of a page without a split
 abbrev pub leaf_alone : PageSize → List Pair → PageChange
 leaf_alone size pairs = record { leaf = record { size = size; pairs = pairs }; twins = []; bits = [] }
 
--- a delete; the remaining pairs keep their order
+-- the result of a delete; the remaining pairs keep their order
 abbrev pub deleted : {A : Type 0} → PageSize → List Pair → List ℕ → Option (List ℕ) → PageResult A
 deleted size pairs key None = record { reply = Missing; change = None }
 deleted size pairs key (Some value) = record { reply = Deleted; change = Some (leaf_alone size (without key pairs)) }
 
--- a store by the least number of splits that makes room
+-- the result of a store, given the least number of splits that makes room
 abbrev pub placed : {A : Type 0} → KeyBytes → Content → List ℕ → List ℕ → ℕ → Option ℕ → PageResult A
 placed kind page key value h None = record { reply = Crowded; change = None }
 placed kind page key value h (Some t) = record { reply = Stored; change = Some (planned kind page key value h t) }
@@ -76,12 +76,12 @@ abbrev pub is_kept : Mode → Option (List ℕ) → Bool
 is_kept Insert there = is_some there
 is_kept Replace there = false
 
--- a store; the first argument is true if it is refused
+-- the result of a store; the first argument is true if the store is refused
 abbrev pub stored_unless : {A : Type 0} → Bool → KeyBytes → Content → List ℕ → List ℕ → ℕ → PageResult A
 stored_unless true kind page key value h = record { reply = Exists; change = None }
 stored_unless false kind page key value h = placed kind page key value h (least_splits page.size (neighbors kind page.pairs key) key value h)
 
--- a store of the first pair of a page
+-- the result of a store of the first pair of a page
 abbrev pub stored_first : {A : Type 0} → PageSize → List ℕ → List ℕ → PageResult A
 stored_first size key value = record { reply = Stored; change = Some (leaf_alone size ((key, value) ∷ [])) }
 
@@ -91,26 +91,26 @@ stored_first size key value = record { reply = Stored; change = Some (leaf_alone
 abbrev pub in_place : List ℕ → List ℕ → List Pair → List Pair
 in_place key value = map (λ e. cond (same_key key e.0) (e.0, value) e)
 
--- the change of a page by a run on the value of a key: the record is saved in place, or the pair is removed
+-- The change of a page by a run on the value of a key: the record is saved in place, the pair is removed, or nothing changes.
 abbrev pub left_on : PageSize → List Pair → List ℕ → Outcome → Option PageChange
 left_on size pairs key o = cond (saves o.code) (Some (leaf_alone size (in_place key o.bytes pairs))) (cond (removes o.code) (Some (leaf_alone size (without key pairs))) None)
 
--- A run on the value of a key. A run that does not end changes nothing; every run of an accepted program ends.
+-- The result of a run on the value of a key. A run that does not end changes nothing; every run of an accepted program ends.
 abbrev pub ran_on : {A : Type 0} → PageSize → List Pair → List ℕ → Option Outcome → PageResult A
 ran_on size pairs key None = record { reply = Ran 0 0; change = None }
 ran_on size pairs key (Some o) = record { reply = Ran o.code o.word; change = left_on size pairs key o }
 
--- a run's reply if the store of its record fits; `Crowded` otherwise
+-- the run's own reply if its record fits; otherwise `Crowded`
 abbrev pub as_ran : {A : Type 0} → Reply A → Option PageChange → PageResult A
 as_ran reply None = record { reply = Crowded; change = None }
 as_ran reply (Some change) = record { reply = reply; change = Some change }
 
--- a run whose record is stored like an insert if the program saves it
+-- the result of a run whose record is stored like an insert if the program saves it
 abbrev pub stored_by : {A : Type 0} → Bool → KeyBytes → Content → List ℕ → ℕ → Outcome → PageResult A
 stored_by false kind page key h o = record { reply = Ran o.code o.word; change = None }
 stored_by true kind page key h o = as_ran (Ran o.code o.word) (option_map (planned kind page key o.bytes h) (least_splits page.size (neighbors kind page.pairs key) key o.bytes h))
 
--- a run on a blank, for a missing key
+-- the result of a run on a blank, for a missing key
 abbrev pub ran_anew : {A : Type 0} → KeyBytes → Content → List ℕ → ℕ → Option Outcome → PageResult A
 ran_anew kind page key h None = record { reply = Ran 0 0; change = None }
 ran_anew kind page key h (Some o) = stored_by (saves o.code) kind page key h o
@@ -122,13 +122,13 @@ outcome_there session program argument now value = run_outcome program value arg
 abbrev pub outcome_anew : ℕ → List Insn → List ℕ → ℕ → ℕ → Option Outcome
 outcome_anew session program argument now len = run_outcome program (replicate len 0) argument (env_of now false session)
 
--- a run on the value of a key, or on a blank, or on neither
+-- the result of a run on the value of a key, or on a blank, or on neither
 abbrev pub run_on : {A : Type 0} → KeyBytes → Content → ℕ → ℕ → List ℕ → List Insn → List ℕ → ℕ → Option (List ℕ) → Option ℕ → PageResult A
 run_on kind page h session key program argument now (Some value) blank = ran_on page.size page.pairs key (outcome_there session program argument now value)
 run_on kind page h session key program argument now None (Some len) = ran_anew kind page key h (outcome_anew session program argument now len)
 run_on kind page h session key program argument now None None = record { reply = Missing; change = None }
 
--- the run ends
+-- the run is on nothing, or ends
 abbrev pub EndsOn : ℕ → List Insn → List ℕ → ℕ → Option (List ℕ) → Option ℕ → Type 0
 EndsOn session program argument now (Some value) blank = is_some (outcome_there session program argument now value) ≡ true
 EndsOn session program argument now None (Some len) = is_some (outcome_anew session program argument now len) ≡ true
@@ -167,7 +167,7 @@ abbrev pub pairs_kept : Option Content → List Pair
 pairs_kept None = []
 pairs_kept (Some page) = page.pairs
 
--- a page and the place of a key: every key on the page leads to the same place
+-- a key leads to this place, and so does every key on the page
 pub record IsPageOfKey (place : Place) (kind : KeyBytes) (size : PageSize) (pairs : List Pair) (key : List ℕ) : Type 0 where
   pub shallow : place.depth ≤ 31
   pub bit : place.bit ≡ word_number (hash_prefix place.depth (hash_of kind key))
@@ -175,7 +175,7 @@ pub record IsPageOfKey (place : Place) (kind : KeyBytes) (size : PageSize) (pair
   pub keys_lead : All (λ e. hash_of kind e.0 % 2 ^ place.depth ≡ place.page) pairs
   pub page : IsPage size pairs
 
--- a command that can be computed on a page
+-- a command whose result can be computed from a page
 pub record IsWorkable {A : Type 0} (place : Place) (kind : KeyBytes) (size : PageSize) (pairs : List Pair) (command : Command A) : Type 0 where
   pub keyed : HasKey command
   pub small : IsSmall size command

@@ -30,8 +30,8 @@ use store_cmd::{Command, Entry, Reply};
 /// must accept the command for the page size of the database.
 ///
 /// # Errors
-/// `AllocError` if out of memory, but never if the reply would be `Missing`, `Exists`, `Crowded` or a `Count`. The database is
-/// unchanged, and the command is returned.
+/// `AllocError` if out of memory. This never happens if the reply would be `Missing`, `Exists`, `Crowded` or a `Count`. The
+/// database is unchanged, and the command is returned.
 pub fn act<A: Allocator + Copy>(
     alloc: A,
     image: &mut Image<A>,
@@ -56,9 +56,10 @@ pub fn act<A: Allocator + Copy>(
     }
 }
 
-/// Stores a pair as `act` does, if that needs no memory. Returns true if the pair was stored. It is stored if its page is not
-/// shared and has room for it, unless the store is an insert of an existing key. Otherwise the database is unchanged. No page
-/// without pairs gets any, so the files do not grow. `check_pair` must accept the pair for the page size of the database.
+/// Stores a pair as `act` does, if that needs no memory. Returns true if the pair was stored, and false if the database is
+/// unchanged. Stores the pair if its page is not shared and has room for it, unless the store is an insert of an existing key.
+/// A page without pairs stays without pairs, so the files do not grow. `check_pair` must accept the pair for the page size of
+/// the database.
 pub fn act_store<A: Allocator + Copy>(
     image: &mut Image<A>,
     key: &[u8],
@@ -74,10 +75,10 @@ pub fn act_store<A: Allocator + Copy>(
     store_in_place(image, place, key, value, mode)
 }
 
-/// Executes a run as `act` does, if that needs no memory, and returns how its program ended. The key must exist with a value of
-/// at most 256 bytes, and the program must either change nothing or save its record on a page that is not shared. Otherwise
-/// returns `None`, and the database is unchanged. No page without pairs gets any. `check_run` must accept the run for the page
-/// size of the database.
+/// Executes a run as `act` does, if that needs no memory, and returns how its program ended. Returns `None`, and leaves the
+/// database unchanged, if the key is missing, its value is longer than 256 bytes, the program removes the pair, or it saves its
+/// record on a shared page. A page without pairs stays without pairs. `check_run` must accept the run for the page size of the
+/// database.
 pub fn act_run<A: Allocator + Copy>(image: &mut Image<A>, input: &RunInput<'_, A>) -> Option<Ended>
     requires small { IsSmall image.old.size (command_of input.now) }
     ensures done { IfSome result (λ ended. Acts image.old (record { session = input.now.session; command = command_of input.now; reply = Ran ended.code ended.word }) image.new) }
@@ -185,11 +186,12 @@ pub fn key_in<A: Allocator>(command: &Command<A>) -> &[u8]
 }
 
 /// Computes the result of a session's command on its current page. The database is only read. The command must not be a count,
-/// and `check_sizes` must accept it for the page size of the database. The place must be that of its key (`Image::place`).
+/// and `check_sizes` must accept it for the page size of the database. The place must be that of the command's key
+/// (`Image::place`).
 ///
 /// # Errors
-/// `AllocError` if there is no memory for the value that was found, for the changed pages, or for the page on which a program
-/// runs. Never if the reply would be `Missing`, `Exists` or `Crowded`.
+/// `AllocError` if there is no memory for the found value, for the changed pages, or for the page on which a program runs. This
+/// never happens if the reply would be `Missing`, `Exists` or `Crowded`.
 pub fn work_at<A: Allocator + Copy>(
     alloc: A,
     image: &Image<A>,
@@ -212,7 +214,7 @@ pub fn work_at<A: Allocator + Copy>(
 }
 
 /// Installs the change of a place's page; does nothing if there is no change. The plan must be installable in the current
-/// database, as one from `work_at` is for the same database and place.
+/// database. A plan from `work_at` for the same database and place is installable.
 ///
 /// # Errors
 /// `AllocError` if there is no memory for the pages and the bits of the plan. The database is unchanged, and the plan is

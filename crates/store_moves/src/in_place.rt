@@ -1,5 +1,5 @@
-//! Stores and runs executed in place, on a page that is not shared, without copying it: stores that need no split, and runs on
-//! short records.
+//! Stores and runs that are executed in place, on a page that is not shared and not copied: stores that need no split, and runs
+//! on short records.
 ghost use Rattle.std.specs.Prelude.{◌≡◌, ◌+◌, ◌≤◌, ℕ, length, true, false, IfSome, IfNone};
 ghost use Rattle.sdbm_addr.specs.Database.{IsDatabase, pairs_at};
 ghost use Rattle.sdbm_addr.specs.Pairs.{pair_limit};
@@ -45,10 +45,10 @@ pub fn is_run<A: Allocator>(command: &Command<A>) -> bool
     }
 }
 
-/// Stores a pair without allocating. Returns true if the pair was stored. It is stored if its place has a page that is not
-/// shared, the pair fits next to those of other keys, and the store is not an insert of an existing key. Otherwise the database
-/// is unchanged; use `work_at` and `put_in` for the store. No page without pairs gets any. The pair must be small enough for
-/// the page size of the database, and the place must be that of its key (`Image::place`).
+/// Stores a pair without allocating. Returns true if the pair was stored, and false if the database is unchanged; use `work_at`
+/// and `put_in` then. Stores the pair if its place has a page that is not shared and the pair fits next to those of other keys,
+/// unless the store is an insert of an existing key. A page without pairs stays without pairs. The pair must be small enough
+/// for the page size of the database, and the place must be that of its key (`Image::place`).
 pub fn store_in_place<A: Allocator + Copy>(
     image: &mut Image<A>,
     place: Place,
@@ -105,10 +105,10 @@ pub fn run_in_place<A: Allocator + Copy>(
     run_input_in_place(image, place, &input)
 }
 
-/// Executes a run without allocating, and returns how its program ended. The key must exist with a value of at most 256 bytes,
-/// and the program must either change nothing or save its record on a page that is not shared. Otherwise returns `None`, and
-/// the database is unchanged; use `work_at` and `put_in` for the run. No page without pairs gets any. `check_run` must accept
-/// the run for the page size of the database, and the place must be that of its key (`Image::place`).
+/// Executes a run without allocating, and returns how its program ended. Returns `None`, and leaves the database unchanged, if
+/// the key is missing, its value is longer than 256 bytes, the program removes the pair, or it saves its record on a shared
+/// page; use `work_at` and `put_in` then. A page without pairs stays without pairs. `check_run` must accept the run for the
+/// page size of the database, and the place must be that of its key (`Image::place`).
 pub fn run_input_in_place<A: Allocator + Copy>(
     image: &mut Image<A>,
     place: Place,

@@ -9,7 +9,7 @@ use sdbm_page::{Page, SharedPage};
 use std::alloc::{AllocError, Allocator};
 use std::marker::Model;
 
-/// A snapshot of the page of a place, seen as its size and its pairs. It has no page if the place had none.
+/// A snapshot of the page of a place, modelled as its size and its pairs. It has no page if the place had none.
 #[derive(Drop)]
 pub struct PageCopy<A: Allocator> {
     size: PageSize,
@@ -81,7 +81,7 @@ impl<A: Allocator> PageCopy<A> {
         self.size
     }
 
-    /// The page, if it has pairs.
+    /// The page, or `None` if the place had no page.
     pub fn page(&self) -> Option<&Page<A>>
         ensures pairs { pairs_lent result ≡ self.now.pairs }
         ensures size { IfSome result (λ page. page.now.size ≡ self.now.size) }
@@ -92,7 +92,7 @@ impl<A: Allocator> PageCopy<A> {
         }
     }
 
-    /// Returns true if the page with a number is unchanged: it has the same size and the same pairs in the same order.
+    /// Returns true if the page with this number still has the size of the snapshot and the same pairs in the same order.
     pub fn is_still(&self, image: &Image<A>, number: u32) -> bool
     where
         A: Copy,
@@ -109,7 +109,7 @@ impl<A: Allocator> PageCopy<A> {
         }
     }
 
-    /// Returns true if both copies have the same size and the same pairs in the same order.
+    /// Returns true if both snapshots have the same size and the same pairs in the same order.
     pub fn equals(&self, other: &PageCopy<A>) -> bool
         ensures { IsTrue result ↔ (self.now ≡ other.now) }
     {

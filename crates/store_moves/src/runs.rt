@@ -1,5 +1,5 @@
-//! The result of a program's run on the page of its key. The program runs in place, either on the value in a copy of the page,
-//! or on a blank. A saved blank is stored as an insert.
+//! The result of a program's run on the page of its key. The program runs on the value in a copy of the page, or on a blank. A
+//! blank that the program saves is stored as an insert.
 ghost use Rattle.std.specs.Prelude.{◌≡◌, ◌+◌, ◌≤◌, ◌<◌, length, true, None, IfOk, IfSome, OnOk, OnErr};
 ghost use Rattle.std.specs.Option.{option_map};
 ghost use Rattle.sdbm_addr.specs.Pairs.{pair_limit, value_of, value_at};
@@ -20,12 +20,12 @@ use sdbm_page::{Page, SharedPage};
 use std::alloc::{AllocError, Allocator};
 use store_cmd::Reply;
 
-// Exit numbers of a program that changes something.
+// Exit numbers with which a program saves its record or removes the pair.
 pub(crate) const SAVED: u64 = 1;
 
 pub(crate) const REMOVED: u64 = 2;
 
-/// The operands of a run. `blank` is the length of the record to run on if the key is missing.
+/// The operands of a run. If the key is missing, the program runs on a record of `blank` zero bytes.
 #[derive(Drop)]
 pub struct RunInput<'a, A: Allocator> {
     pub session: u64,
@@ -128,7 +128,7 @@ fn run_anew<A: Allocator + Copy>(
     Ok(as_ran(stored, ran(ended)))
 }
 
-// Turns the result of storing a record into the result of its run: the reply is the run's, unless the store was crowded.
+// Turns the result of storing a record into that of its run: the reply is the run's, unless the store is crowded.
 fn as_ran<A: Allocator>(stored: Worked<A>, reply: Reply<A>) -> Worked<A>
     ensures { IsWorked (as_ran reply (option_map change_of stored.change)) result }
 {

@@ -1,4 +1,4 @@
-//! Stores, computed on the page of a place.
+//! The results of stores, computed from the page of a place.
 ghost use Rattle.std.specs.Prelude.{◌≡◌, ◌+◌, ◌≤◌, ◌<◌, length, true, IfOk, IfSome, OnErr, Some, None};
 ghost use Rattle.sdbm_addr.specs.Pairs.{pair_limit};
 ghost use Rattle.store_moves.specs.Works.{stored_first, IsPageOfKey, pairs_lent};
@@ -58,7 +58,7 @@ fn store_beside<A: Allocator + Copy>(
     }
 }
 
-// Like `store_in`, if there is no page. The first pair always fits.
+// Like `store_in`, if there is no page. A page's first pair always fits.
 fn store_first<A: Allocator + Copy>(
     alloc: A,
     size: PageSize,

@@ -1,4 +1,4 @@
-//! The result of a command, computed from the page of its key alone: its reply and the changed page. Nothing is modified here.
+//! The result of a command, computed from the page of its key alone: its reply, and the change of the page.
 ghost use Rattle.std.specs.Prelude.{◌≡◌, ◌+◌, ◌<◌, length, remove, true, IfOk, IfSome, OnOk, OnErr, Some};
 ghost use Rattle.sdbm_addr.specs.Pairs.{HasDistinctKeys, value_of};
 ghost use Rattle.store_cmd.specs.declared.Command.TheVariants.{Run};
@@ -15,12 +15,12 @@ use std::alloc::{AllocError, Allocator};
 use store_cmd::{Command, Reply};
 
 /// Computes the result of a session's command on the page of its place; pass `None` if the place has no pairs. The command must
-/// not be a count, and `check_sizes` must accept it for this page size. The place must be that of its key in a database of this
-/// hash kind, and the page must be the one at that place. Nothing is modified.
+/// not be a count, and `check_sizes` must accept it for this page size. The place must be that of the command's key in a
+/// database of this hash kind, and the page must be the one at that place. Nothing is modified.
 ///
 /// # Errors
-/// `AllocError` if there is no memory for the value that was found, for the changed pages, or for the page on which a program
-/// runs. Never if the reply would be `Missing`, `Exists` or `Crowded`.
+/// `AllocError` if there is no memory for the found value, for the changed pages, or for the page on which a program runs. This
+/// never happens if the reply would be `Missing`, `Exists` or `Crowded`.
 pub fn work_on<A: Allocator + Copy>(
     alloc: A,
     page: Option<&Page<A>>,

@@ -1,4 +1,4 @@
-//! The result of a command, and the site of its page.
+//! The result of a command, and the properties of its page that the result depends on.
 ghost use Rattle.std.specs.Prelude.{◌≡◌, ◌+◌, ◌<◌, [], IfSome, IfNone, Some, None};
 ghost use Rattle.std.specs.Option.{option_map};
 ghost use Rattle.sdbm_addr.specs.Pairs.{IsPlace, value_of};
@@ -26,7 +26,7 @@ pub struct Site {
     pub size: PageSize,
 }
 
-// The page and the index of a key's pair, if it exists.
+// The page and the index of a key's pair, or `None` if the key does not exist.
 pub(crate) fn pair_of<'p, A: Allocator>(
     page: Option<&'p Page<A>>,
     key: &[u8],
@@ -44,7 +44,7 @@ pub(crate) fn pair_of<'p, A: Allocator>(
     }
 }
 
-// A reply that leaves the page unchanged.
+// The result with this reply and without a change of the page.
 pub(crate) fn unchanged<A: Allocator>(reply: Reply<A>) -> Worked<A>
     ensures reply { result.reply ≡ reply }
     ensures change { result.change ≡ None }
@@ -55,7 +55,7 @@ pub(crate) fn unchanged<A: Allocator>(reply: Reply<A>) -> Worked<A>
     }
 }
 
-// A reply with a changed page, without a split.
+// The result with this reply and this page, without a split.
 pub(crate) fn changed<A: Allocator + Copy>(
     alloc: A,
     reply: Reply<A>,

@@ -1,4 +1,4 @@
--- A database with only one page read, before a command and after it.
+-- Databases of which only one page was read: the opened database, the plan of its save, and the whole database.
 use Rattle.std.specs.Prelude.{◌≡◌, ◌≢◌, ◌+◌, ◌/◌, ℕ, List, [], Option, Some, None, Contains, IfSome, IsNone}
 use Rattle.std.specs.Global.{Vec}
 use Rattle.std.specs.declared.alloc.Global.{Global}
@@ -19,7 +19,7 @@ use Rattle.store_moves.specs.Acts.{Acts}
 use Rattle.store_moves.specs.Leads.{IsPlaceOf}
 use Rattle.store_moves.specs.Works.{key_of, HasKey}
 
--- the database of the page that was read
+-- a database whose only page with pairs is the page that was read
 pub record IsOpenedPage (part : Part) (kind : KeyBytes) (size : PageSize) (db : Database) : Type 0 where
   pub kind_is : db.kind ≡ kind
   pub size_is : db.size ≡ size
@@ -27,7 +27,7 @@ pub record IsOpenedPage (part : Part) (kind : KeyBytes) (size : PageSize) (db : 
   pub page : Spells size part.page.now (pairs_at db part.number)
   pub others : (n : ℕ) → n ≢ part.number → pairs_at db n ≡ []
 
--- the same, if a key leads to that page
+-- `IsOpenedPage`, if the page that was read is that of the key
 pub record IsOpenedPart (key : List ℕ) (part : Part) (kind : KeyBytes) (size : PageSize) (db : Database) : Type 0 where
   pub database : IsDatabase db
   pub known : IsOpenedPage part kind size db
@@ -39,7 +39,8 @@ pub record IsOpenedPart (key : List ℕ) (part : Part) (kind : KeyBytes) (size :
 abbrev pub EndsWithPairs : Part → Database → Type 0
 EndsWithPairs part db = part.len / page_bytes db.size ≡ part.number + 1 → pairs_at db part.number ≢ []
 
--- the plan that saves a database with only that page read, if there are changes, and the numbers of the pages that it may write
+-- The plan that saves a database of which only one page was read, or `None` if nothing has to be written. `numbers` are the
+-- numbers of the pages that the plan may write.
 pub record IsPlannedPart (part : Part) (db : Database) (numbers : List ℕ) (plan : Option (Vec ℕ)) : Type 0 where
   pub named : Contains numbers part.number
   pub covers : (n : ℕ) → pairs_at db n ≢ [] → Contains numbers n
@@ -48,13 +49,13 @@ pub record IsPlannedPart (part : Part) (db : Database) (numbers : List ℕ) (pla
   pub none : IsNone plan → (whole : Database) (pag : List ℕ) → IsPartOf part numbers db whole pag → AreFilesFor whole pag part.directory.now
   pub knows : IfSome plan (λ p. IsPlan p.items × ((pag : List ℕ) → IsReadSo part numbers db.size pag → Knows p.items (pag, part.directory.now)))
 
--- the whole files of a database, with a part that was read
+-- the whole files of a database, of which a part was read
 pub record AreWhole (part : Part) (numbers : List ℕ) (db : Database) (pag : List ℕ) : Type 0 where
   pub spells : SpellsDatabase db part.directory.now pag
   pub read : IsReadSo part numbers db.size pag
 
--- A plan turns the files into those of the database that has to be saved; without a plan they already are. If no database has to be saved
--- there is no plan.
+-- A plan turns the files into those of the database that has to be saved. Without a plan, they already are these files. There
+-- is no plan if no database has to be saved.
 abbrev pub SavesAs : Option Database → Option (Vec ℕ) → List ℕ → List ℕ → Type 0
 SavesAs None plan pag dir = plan ≡ None
 SavesAs (Some after) None pag dir = AreFilesFor after pag dir
@@ -67,8 +68,8 @@ pub record IsServed (part : Part) (kind : KeyBytes) (size : PageSize) (entry : E
   pub acts : Acts before entry after
   pub planned : IsPlannedPart part after numbers plan
 
--- On the whole database the command has the same reply. On files that a save has left, the plan turns them into those of the whole database
--- after the command.
+-- On the whole database the command has the same reply. If a save has left the files, the plan turns these into the files of
+-- the whole database after the command.
 pub record IsSameOnWhole (part : Part) (entry : Entry Global) (plan : Option (Vec ℕ)) (db : Database) (pag : List ℕ) : Type 0 where
   pub after : Database
   pub acts : Acts db entry after

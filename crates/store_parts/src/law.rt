@@ -1,4 +1,4 @@
-//! The law of a part.
+//! The law that connects a part of a database with the whole database.
 ghost use Rattle.std.specs.Prelude.{◌≡◌, ℕ, List, Option};
 ghost use Rattle.std.specs.Global.{Vec};
 ghost use Rattle.std.specs.declared.alloc.Global.{Global};
@@ -9,9 +9,9 @@ ghost use Rattle.sdbm_saves.specs.declared.part.Part.{Part};
 ghost use Rattle.store_cmd.specs.declared.Entry.{Entry};
 ghost use Rattle.store_parts.specs.Parts.{AreWhole, IsSameOnWhole, IsServed};
 
-/// The law of a part, as the contract of this function, which does nothing. A command about a key, on the database of the page that
-/// `open_part` opened for it, has the same reply on every whole database with that page. The plan of `plan_after` turns the whole files into
-/// those after the command, if a save has left them.
+/// The law, as the contract of this function, which does nothing. Take a command about a key, on the database that `open_part`
+/// opened from one page. On every whole database with that page, the command has the same reply. If a save has left the whole
+/// files, the plan of `plan_after` turns these into the files after the command.
 pub fn same_on_whole()
     ensures { (part : Part) (kind : KeyBytes) (size : PageSize) (entry : Entry Global) (before after : Database) (numbers : List ℕ) (plan : Option (Vec ℕ)) → IsServed part kind size entry before after numbers plan
         → (db : Database) (pag : List ℕ) → db.kind ≡ kind → db.size ≡ size → AreWhole part numbers db pag → IsSameOnWhole part entry plan db pag }

@@ -1,5 +1,5 @@
-//! A database of which only the page of one key was read. A command on that key has the same reply there as on the whole database, and the
-//! plan of its save serves the whole files.
+//! Databases of which only the page of one key was read. A command about that key has the same reply as on the whole database,
+//! and the plan of its save is right for the whole files.
 #![tactic(auto)]
 
 mod law;

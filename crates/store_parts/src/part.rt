@@ -9,8 +9,8 @@ use sdbm_files::{Image, PAG_LIMIT};
 use sdbm_saves::{Part, plan_part};
 use std::alloc::{AllocError, Global};
 
-/// Opens the page that was read as a database. Returns `None` if it is not the page of the key, if the directory or the page is invalid or
-/// not as a save leaves it, or if allocation fails.
+/// Opens the page that was read as a database. Returns `None` if the page is not the key's, if the directory or the page is
+/// invalid or not as a save leaves it, or if allocation fails.
 pub fn open_part(
     alloc: Global,
     key: &[u8],
@@ -49,9 +49,10 @@ fn opened_page(
     opened
 }
 
-/// The plan that saves a database with only one page read, and the numbers of the pages that it may write. In the file, all of these except
-/// the page that was read have to be zeros. The plan is `None` if the files do not change. Returns `None` if the page is not enough: if it is
-/// the last of the file and has no pairs, or if `.pag` would exceed `PAG_LIMIT`; and if allocation fails.
+/// The plan that saves a database of which only one page was read, and the numbers of the pages that it may write. In the file,
+/// all of these pages except the page that was read must be zeros. The plan is `None` if the files do not change. Returns
+/// `None` if allocation fails or if one page is not enough: the page that was read is the last of the file and has no pairs, or
+/// `.pag` would exceed `PAG_LIMIT`.
 pub fn plan_after(
     alloc: Global,
     part: Part<'_>,

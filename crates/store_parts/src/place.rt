@@ -6,8 +6,9 @@ use sdbm_addr::{KeyBytes, PageSize, hash, mask};
 use sdbm_page::Page;
 use std::alloc::Global;
 
-/// The number of the page to which a key leads by the bits of a directory, which may be any bytes. Its time is linear in the depth of the
-/// place, not in the number of bytes. `open_part` checks that the bytes are a directory and that the key leads there.
+/// The number of the page to which a key leads by the bits of a directory, which may be any bytes. The time is linear in the
+/// depth of the place and independent of the number of bytes. `open_part` checks that the bytes are a directory and that the
+/// key leads there.
 pub fn page_of(directory: &[u8], kind: KeyBytes, key: &[u8]) -> u32 {
     let hash = hash(key, kind);
     let mut bit = 0usize;
@@ -29,8 +30,8 @@ fn is_set(bytes: &[u8], bit: usize) -> bool {
     }
 }
 
-/// Returns `true` if a page has pairs, and all of its keys lead to it by the bits of a directory. This detects a directory that is lost, or
-/// that of another database. Returns `false` if allocation fails.
+/// Returns `true` if a page has pairs and each of its keys leads to it by the bits of a directory. This detects a directory
+/// that was lost or belongs to another database. Returns `false` if allocation fails.
 pub fn has_own_pairs(
     alloc: Global,
     directory: &[u8],

@@ -1,4 +1,4 @@
--- When the calls handed in close a store, and the reasons why they do not.
+-- The condition under which the calls handed in close a store, and the condition of each fault.
 use Rattle.std.specs.Prelude.{◌≡◌, ◌≢◌, ℕ, ◌+◌, ◌<◌, ◌≤◌, ◌==◌, nat_eq, Bool, true, false, List, length, map, take, Some, slice_index_or}
 use Rattle.std.specs.List.{All, IsDistinct, filter, list_any, slice_get}
 use Rattle.store_cmd.specs.declared.Entry.{Entry}
@@ -14,28 +14,28 @@ calls_of {A} session entries = filter (λ (e : Entry A). e.session == session) e
 abbrev pub numbers_of : {A : Type 0} → List (CallsState A) → List ℕ
 numbers_of {A} handed = map (λ (calls : CallsState A). calls.number) handed
 
--- true if some of them have the number
+-- true if a session's calls are among the calls handed in
 abbrev pub is_among : {A : Type 0} → ℕ → List (CallsState A) → Bool
 is_among {A} number handed = list_any (λ (calls : CallsState A). number == calls.number) handed
 
--- no two have one number
+-- no session number occurs twice among the calls handed in
 abbrev pub AreDistinct : {A : Type 0} → List (CallsState A) → Type 0
 AreDistinct handed = IsDistinct nat_eq (numbers_of handed)
 
--- they equal the calls of their session in the trail
+-- the calls handed in for a session equal its calls in the trail
 abbrev pub Agrees : {A : Type 0} → List (Entry A) → CallsState A → Type 0
 Agrees entries calls = calls_of calls.number entries ≡ calls.calls
 
--- the session of every entry is among them
+-- for every entry, the calls of its session were handed in
 abbrev pub Covers : {A : Type 0} → List (Entry A) → List (CallsState A) → Type 0
 Covers {A} entries handed = All (λ (e : Entry A). is_among e.session handed ≡ true) entries
 
--- every number is that of one of the `made` sessions, and no number occurs twice
+-- every number belongs to one of the `made` sessions, and no number occurs twice
 pub record AreOwn {A : Type 0} (made : ℕ) (handed : List (CallsState A)) : Type 0 where
   pub given : All (λ (calls : CallsState A). calls.number < made) handed
   pub distinct : AreDistinct handed
 
--- the fault of a number, given the calls before it in the list
+-- `Stranger` if no session has the number; `Double` if calls earlier in the list have the number too
 abbrev pub IsStrange : {A : Type 0} → ℕ → List (CallsState A) → ℕ → CloseFault → Type 0
 IsStrange made others number (Stranger s) = (number ≡ s) × (made ≤ number)
 IsStrange made others number (Double s) = (number ≡ s) × ((number < made) × (is_among number others ≡ true))
@@ -43,7 +43,7 @@ IsStrange made others number (Missing s) = ⊥
 IsStrange made others number (Torn s) = ⊥
 IsStrange made others number Opening = ⊥
 
--- the first calls in the list with such a number
+-- the fault `Stranger` or `Double` of the first number in the list that has one
 pub record IsFirstStrange {A : Type 0} (made : ℕ) (handed : List (CallsState A)) (fault : CloseFault) : Type 0 where
   pub at : ℕ
   pub calls : CallsState A
@@ -51,7 +51,7 @@ pub record IsFirstStrange {A : Type 0} (made : ℕ) (handed : List (CallsState A
   pub own : AreOwn made (take at handed)
   pub strange : IsStrange made (take at handed) calls.number fault
 
--- the first entry whose session is not among them
+-- the first entry whose session handed in no calls
 pub record IsFirstMissing {A : Type 0} (entries : List (Entry A)) (handed : List (CallsState A)) (session : ℕ) : Type 0 where
   pub at : ℕ
   pub entry : Entry A
@@ -77,16 +77,16 @@ IsFirstApart entries handed (Missing n) = IsFirstMissing entries handed n
 IsFirstApart entries handed (Torn n) = Covers entries handed × IsFirstTorn entries handed n
 IsFirstApart entries handed Opening = ⊥
 
--- the entries with their number are exactly the first `count` of the calls
+-- the entries of a session are the first `count` of the calls handed in for it
 pub record IsFollowed {A : Type 0} (entries : List (Entry A)) (calls : CallsState A) (count : ℕ) : Type 0 where
   pub within : count ≤ length calls.calls
   pub same : calls_of calls.number entries ≡ take count calls.calls
 
--- the same for all calls handed in, each with its own count
+-- `IsFollowed` for all calls handed in, each with its own count
 abbrev pub AreFollowed : {A : Type 0} → List (Entry A) → List (CallsState A) → List ℕ → Type 0
 AreFollowed {A} entries handed counts = (k : ℕ) (d : CallsState A) → k < length handed → IsFollowed entries (slice_index_or handed k d) (slice_index_or counts k 0)
 
--- all calls below index n were counted completely
+-- below index n, each count is the number of all calls
 abbrev pub AreWhole : {A : Type 0} → List (CallsState A) → List ℕ → ℕ → Type 0
 AreWhole {A} handed counts n = (k : ℕ) (d : CallsState A) → k < n → slice_index_or counts k 0 ≡ length (slice_index_or handed k d).calls
 
@@ -96,7 +96,7 @@ pub record IsNext {A : Type 0} (calls : CallsState A) (count : ℕ) (entry : Ent
   pub session_is : entry.session ≡ calls.number
   pub here : slice_get calls.calls count ≡ Some entry
 
--- a desk began with these pairs, and has this hash kind and page size
+-- the desk has the hash kind and page size with which the store was opened, and its trail begins with the same pairs
 pub record IsStartedSo {A : Type 0} (s : DeskState A) (opened : Opened) : Type 0 where
   pub kind : s.database.kind ≡ opened.kind
   pub size : s.database.size ≡ opened.size
@@ -110,11 +110,12 @@ IsCloseFault s made opened handed (Missing n) = AreOwn made handed × IsFirstMis
 IsCloseFault s made opened handed (Torn n) = AreOwn made handed × (Covers s.entries handed × IsFirstTorn s.entries handed n)
 IsCloseFault s made opened handed Opening = AreOwn made handed × (Covers s.entries handed × (All (Agrees s.entries) handed × ¬ (IsStartedSo s opened)))
 
--- The same for some desk and some number of sessions. A contract cannot say that they are those under the lock of a store.
+-- `IsCloseFault` for some desk and some number of sessions. A contract cannot name the desk and the number under a store's
+-- lock.
 abbrev pub IsRefusedClose : {A : Type 0} → Opened → List (CallsState A) → CloseFault → Type 0
 IsRefusedClose {A} opened handed fault = (s : DeskState A) × ((made : ℕ) × IsCloseFault s made opened handed fault)
 
--- there is no fault
+-- No fault except perhaps `Stranger`: a number that no session has is allowed here, with an empty list of calls.
 pub record MayClose {A : Type 0} (s : DeskState A) (opened : Opened) (handed : List (CallsState A)) : Type 0 where
   pub distinct : AreDistinct handed
   pub covers : Covers s.entries handed

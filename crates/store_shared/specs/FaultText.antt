@@ -1,4 +1,4 @@
--- The text of a fault: its name, and the session's number in parentheses.
+-- The text of a fault: its name, and the session's number in parentheses if the fault has one.
 use Rattle.std.specs.Prelude.{ℕ, List, ◌++◌, codes, decimal}
 use Rattle.store_shared.specs.declared.close.CloseFault.{CloseFault}
 use Rattle.store_shared.specs.declared.close.CloseFault.TheVariants.{Stranger, Double, Missing, Torn, Opening}

@@ -8,7 +8,8 @@ use Rattle.store_shared.specs.declared.serving.AnsweredCall.{AnsweredCall}
 use Rattle.store_cmd.specs.Command.{IsSmall}
 use Rattle.store_shared.specs.Shared.{SessionState, with_call, IsReplyTo, IsRefusal}
 
--- the outcome of a call: its size was valid and it was answered, which adds a call; or it was refused, and nothing changed
+-- The outcome of a call. If it is answered, its size was valid and the session has one call more. If it is refused, the session
+-- is unchanged.
 abbrev pub IsCall : {A : Type 0} → SessionState A → Command A → Result (Reply A) Refusal → SessionState A → Type 0
 IsCall s command (Ok reply) s' = (s' ≡ with_call s command reply) × (IsSmall s.size command × IsReplyTo s.number command reply)
 IsCall s command (Err refusal) s' = (s' ≡ s) × IsRefusal s.size command refusal
@@ -20,13 +21,13 @@ AreCalls s [] (out ∷ outs) s' = ⊥
 AreCalls s (command ∷ commands) [] s' = ⊥
 AreCalls {A} s (command ∷ commands) (out ∷ outs) s' = (mid : SessionState A) × (IsCall s command out mid × AreCalls mid commands outs s')
 
--- the outcomes of these calls follow the earlier ones
+-- the outcomes of these calls are appended to the earlier outcomes
 pub record AreAnswered {A : Type 0} (s : SessionState A) (commands : List (Command A)) (old : List (Result (Reply A) Refusal)) (s' : SessionState A) (new : List (Result (Reply A) Refusal)) : Type 0 where
   pub outcomes : List (Result (Reply A) Refusal)
   pub added : new ≡ old ++ outcomes
   pub calls : AreCalls s commands outcomes s'
 
--- the entry of an answered call is added to the entries, and every outcome to the outcomes
+-- the entry of an answered call is appended to the entries, and the outcome of any call to the outcomes
 abbrev pub IsNoted : {A : Type 0} → Result (AnsweredCall A) Refusal → List (Entry A) → List (Entry A) → List (Result (Reply A) Refusal) → List (Result (Reply A) Refusal) → Type 0
 IsNoted (Ok served) entries entries' outcomes outcomes' = (entries' ≡ entries ++ served.entry ∷ []) × (outcomes' ≡ outcomes ++ Ok served.reply ∷ [])
 IsNoted (Err refusal) entries entries' outcomes outcomes' = (entries' ≡ entries) × (outcomes' ≡ outcomes ++ Err refusal ∷ [])

@@ -48,7 +48,7 @@ pub record CallsState (A : Type 0) : Type 0 where
 abbrev pub calls_left : {A : Type 0} → SessionState A → CallsState A
 calls_left s = record { number = s.number; calls = s.calls }
 
--- a session as its parts
+-- the session with this number, page size and list of calls
 abbrev pub session_of : {A : Type 0} → ℕ → PageSize → List (Entry A) → SessionState A
 session_of number size calls = record { number = number; size = size; calls = calls }
 
@@ -56,7 +56,7 @@ session_of number size calls = record { number = number; size = size; calls = ca
 abbrev pub entry_of : {A : Type 0} → ℕ → Command A → Reply A → Entry A
 entry_of session command reply = record { session = session; command = command; reply = reply }
 
--- one call more
+-- the session after one more answered call
 abbrev pub with_call : {A : Type 0} → SessionState A → Command A → Reply A → SessionState A
 with_call s command reply = record { number = s.number; size = s.size; calls = s.calls ++ entry_of s.number command reply ∷ [] }
 
@@ -79,7 +79,7 @@ pub record IsCounted {A : Type 0} (command : Command A) (reply : Reply A) : Type
 abbrev pub IsReplyTo : {A : Type 0} → ℕ → Command A → Reply A → Type 0
 IsReplyTo session command reply = IsWorkedFor session command reply ⊎ IsCounted command reply
 
--- the requested command is this command of this session
+-- the desk returned a job for this command of this session, or the reply to a count
 abbrev pub IsAskedFor : {A : Type 0} → ℕ → Command A → Asked A → Type 0
 IsAskedFor session command (asked.Job job) = HasKey command × ((job.asked.session ≡ session) × (job.asked.command ≡ command))
 IsAskedFor session command (asked.Answered reply) = IsCounted command reply
@@ -92,19 +92,20 @@ IsNotForSize TrailFull = Unit {0}
 IsNotForSize NoMemory = Unit {0}
 IsNotForSize Strayed = Unit {0}
 
--- The outcome of a request: this command of this session is requested, or refused for a reason other than size, or returned.
+-- The outcome of a request: a job or a reply for this command, a refusal for a reason other than size, or the command itself.
 abbrev pub IsTried : {A : Type 0} → ℕ → Command A → Attempt A → Type 0
 IsTried session command (Ended (Ok asked)) = IsAskedFor session command asked
 IsTried session command (Ended (Err refusal)) = IsNotForSize refusal
 IsTried session command (Busy refused) = refused ≡ command
 
--- The effect of closing a ticket on a desk: its computed command is committed, or the ticket, if still open, is abandoned.
+-- The effect on a desk of closing a ticket. Its computed command is committed; or the ticket is abandoned if it is still open.
 abbrev pub ClosesTicket : {A : Type 0} → Closing A → DeskState A → Option (Reply A) → DeskState A → Type 0
 ClosesTicket (Commit done) s None s' = ⊥
 ClosesTicket (Commit done) s (Some reply) s' = Finishes s done reply s'
 ClosesTicket (GiveUp ticket) s reply s' = Abandons s ticket.0 s' ⊎ ((ticket_of s ticket.0 ≡ None) × (s' ≡ s))
 
--- Why a call is refused: for a size if and only if that size is too large, and for the pair before the argument.
+-- The refusals of a command: `PairTooLarge` if its pair is too large, otherwise `ArgTooLong` if its argument is. Any other
+-- refusal requires that its sizes are valid.
 abbrev pub IsRefusal : {A : Type 0} → PageSize → Command A → Refusal → Type 0
 IsRefusal size command PairTooLarge = ¬ (FitsPair size command)
 IsRefusal size command ArgTooLong = FitsPair size command × ¬ (FitsArgument command)

@@ -11,7 +11,8 @@ use sdbm_addr::{Bytes, KeyBytes, PageSize};
 use std::alloc::Allocator;
 use store_cmd::KeptEntry;
 
-/// Why a store is not closed. The reasons are checked in this order, but `Stranger` and `Double` in one pass over the calls.
+/// The reasons why a store is not closed, in the order in which they are checked. One pass over the calls checks both
+/// `Stranger` and `Double`.
 #[derive(Clone, Copy, Debug, PartialEq, Eq)]
 pub enum CloseFault {
     /// The store has no session with this number.
@@ -26,7 +27,7 @@ pub enum CloseFault {
     Opening,
 }
 
-/// Returns the reason why these calls do not close a store, if there is one. `made` is the number of its sessions.
+/// Returns the fault with which these calls fail to close a store, if there is one. `made` is the number of its sessions.
 pub(crate) fn close_fault<A: Allocator + Copy>(
     alloc: A,
     desk: &Desk<A>,
@@ -52,8 +53,8 @@ pub(crate) fn close_fault<A: Allocator + Copy>(
     None
 }
 
-// The first session that is missing or whose calls are torn. A single pass finds out whether there is one. Only if it fails, the slow
-// comparison runs: it searches the list of calls for each entry, and all entries for each session.
+// The first session that is missing or whose calls are torn. A fast pass first checks whether there is one. If that pass fails,
+// a slow comparison follows: it searches the list of calls for each entry, and all entries for each session.
 fn first_apart<A: Allocator + Copy>(
     alloc: A,
     made: u64,
@@ -77,14 +78,14 @@ fn first_apart<A: Allocator + Copy>(
     }
 }
 
-// Returns true if calls of this session were handed in.
+// Returns true if the calls of the session with this number were handed in.
 fn is_among<A: Allocator>(number: u64, handed: &[Calls<A>]) -> bool
     ensures { result ≡ is_among number handed.now }
 {
     handed.iter().any(|calls| number == calls.number())
 }
 
-// The first calls whose number belongs to no session, or is already in the list.
+// The first number in the list that no session has, or that occurs earlier in the list.
 #[tactic(auto, using(crate::proofs::CloseLemmas::Here))]
 fn first_strange<A: Allocator>(handed: &[Calls<A>], made: u64) -> Option<CloseFault>
     ensures none { IfNone result (AreOwn made handed.now) }
@@ -102,7 +103,7 @@ fn first_strange<A: Allocator>(handed: &[Calls<A>], made: u64) -> Option<CloseFa
     None
 }
 
-// The session of the first entry whose session did not hand in its calls.
+// The session of the first entry whose session handed in no calls.
 #[tactic(auto, using(crate::proofs::CloseLemmas::Here))]
 fn first_missing<A: Allocator>(entries: &[KeptEntry<A>], handed: &[Calls<A>]) -> Option<u64>
     ensures none { IfNone result (Covers entries.now handed.now) }
@@ -116,7 +117,7 @@ fn first_missing<A: Allocator>(entries: &[KeptEntry<A>], handed: &[Calls<A>]) ->
     None
 }
 
-// The number of the first session whose calls differ from those of the trail.
+// The number of the first session whose calls differ from its calls in the trail.
 #[tactic(auto, using(crate::proofs::CloseLemmas::Here))]
 fn first_torn<A: Allocator>(entries: &[KeptEntry<A>], handed: &[Calls<A>]) -> Option<u64>
     ensures none { IfNone result (All (Agrees entries.now) handed.now) }
@@ -130,7 +131,7 @@ fn first_torn<A: Allocator>(entries: &[KeptEntry<A>], handed: &[Calls<A>]) -> Op
     None
 }
 
-// Returns true if the calls equal those of their session among the entries.
+// Returns true if the calls equal the entries of their session.
 fn agrees<A: Allocator>(entries: &[KeptEntry<A>], calls: &Calls<A>) -> bool
     ensures { IsTrue result ↔ Agrees entries.now calls.now }
 {
@@ -149,7 +150,7 @@ fn agrees<A: Allocator>(entries: &[KeptEntry<A>], calls: &Calls<A>) -> bool
     at == made.len()
 }
 
-// Returns true if `made` has this entry at index `at`.
+// Returns true if `made` has an equal entry at index `at`.
 fn is_at<A: Allocator>(made: &[KeptEntry<A>], at: usize, entry: &KeptEntry<A>) -> bool
     ensures { IsTrue result ↔ (slice_get made.now at ≡ Some entry.now) }
 {

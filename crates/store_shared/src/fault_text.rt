@@ -1,4 +1,4 @@
-//! The text of a fault: its name, and the session's number in parentheses.
+//! The text of a fault: its name, and the session's number in parentheses if the fault has one.
 use crate::close::CloseFault;
 use std::error::Error;
 use std::fmt;

@@ -14,7 +14,7 @@ use std::sync::{MutexGuard, Wait};
 use std::vec::IntoIter;
 use store_cmd::{Command, KeptEntry, Refusal, Reply, SharedCommand, SizeFault, check_sizes};
 
-/// The caller: a session's number and the page size of its store.
+/// The session that makes the calls: its number and the page size of its store.
 #[derive(Clone, Copy)]
 pub(crate) struct Maker<A> {
     pub(crate) alloc: A,
@@ -51,7 +51,7 @@ pub(crate) fn make_all<R: Wait, A: Allocator + Copy, G: Gate>(
     }
 }
 
-// Makes a call. If one step answers it, the call uses the lock that is already held.
+// Makes a call. If one step can answer the call, uses the lock that is already held.
 fn make<'s, R: Wait, A: Allocator + Copy, G: Gate>(
     rt: &R,
     store: &'s Store<A, G>,
@@ -79,7 +79,7 @@ fn make<'s, R: Wait, A: Allocator + Copy, G: Gate>(
     make_by_step(rt, store, maker.session, held, command)
 }
 
-// Like `make`, for a call that one step answers.
+// Like `make`, for a call that one step can answer.
 fn make_by_step<'s, R: Wait, A: Allocator + Copy, G: Gate>(
     rt: &R,
     store: &'s Store<A, G>,
@@ -131,7 +131,7 @@ fn hold<'s, R: Wait, A: Allocator + Copy, G: Gate>(
     }
 }
 
-// Adds the entry of an answered call, and the call's outcome. Both lists have capacity for it.
+// Appends the entry of an answered call, and the outcome of any call. Both lists have capacity for it.
 fn note<A: Allocator>(
     ended: Result<AnsweredCall<A>, Refusal>,
     entries: &mut Vec<KeptEntry<A>, A>,

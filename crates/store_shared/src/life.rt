@@ -21,7 +21,7 @@ use store_cmd::{Opening, Trail};
 /// The maximum number of sessions of a store.
 const SESSION_LIMIT: u64 = 4096;
 
-/// Why no session is made.
+/// The reasons why a session is not made.
 #[derive(Clone, Copy, Debug, PartialEq, Eq)]
 pub enum SessionFault {
     /// The store has made 4,096 sessions already.
@@ -101,17 +101,17 @@ impl<A: Allocator + Copy, G: Gate> Store<A, G> {
     }
 
     /// Closes the store and returns its database and trail, if the calls handed in are those of the trail. Every session has
-    /// ended by then, since each borrows the store. Time is linear in the entries and in the pairs of the opening, and
-    /// quadratic in the sessions; memory is two numbers a session. If that memory is not available, or if the store does not
-    /// close, time is the number of entries times the number of sessions.
+    /// ended by then, since each borrows the store. The time is linear in the entries and in the pairs of the opening, and
+    /// quadratic in the sessions. The memory is two numbers a session. If this memory is not available, or if the store does
+    /// not close, the time is proportional to the number of entries times the number of sessions.
     ///
     /// # Errors
-    /// On any error, everything is returned, and the store can be closed again. Checked in this order:
-    /// - `Stranger` or `Double`, whichever is first in the list: a number that no session of this store has, or one that is
-    ///   earlier in the list.
-    /// - `Missing` with the session of the first entry whose session handed nothing in.
+    /// On any error, the store and the calls are returned, and the store can be closed again. Checked in this order:
+    /// - `Stranger` or `Double`, whichever comes first in the list: no session of this store has the number, or the number is
+    ///   repeated.
+    /// - `Missing` with the session of the first entry whose session handed in no calls.
     /// - `Torn` with the first session in the list whose calls differ from its calls in the trail.
-    /// - `Opening` if the trail's opening differs from the pairs with which the store was opened.
+    /// - `Opening` if the trail's opening, the hash kind or the page size differs from that with which the store was opened.
     pub fn close(
         self,
         calls: Vec<Calls<A>, A>,

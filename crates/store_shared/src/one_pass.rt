@@ -7,8 +7,8 @@ use crate::session::Calls;
 use std::alloc::{AllocError, Allocator};
 use store_cmd::KeptEntry;
 
-/// Returns true if every entry is the next call of its session among the calls handed in, and no call is left over. `false` is
-/// inconclusive: memory may have run out. Uses memory for two numbers a session, and time linear in the entries.
+/// Returns true if every entry is the next call of its session among the calls handed in, and no call is left over. Also
+/// returns false if memory runs out. Uses memory for two numbers a session, and time linear in the entries.
 #[tactic(auto, using(crate::proofs::OnePass::agree_all))]
 pub(crate) fn all_agree<A: Allocator + Copy>(
     alloc: A,
@@ -29,7 +29,7 @@ pub(crate) fn all_agree<A: Allocator + Copy>(
     are_whole(handed, counts.as_slice())
 }
 
-// The index of each session's calls, by the session's number; 0 if they were not handed in.
+// The index of each session's calls in the list, by the session's number; 0 if none were handed in.
 fn places_of<A: Allocator>(
     alloc: A,
     made: u64,
@@ -45,7 +45,7 @@ fn places_of<A: Allocator>(
 }
 
 // Counts each session's calls among the entries. Returns `None` if an entry is not the next call of its session. A wrong index
-// is harmless: the entry is not the next call there.
+// in `places` is harmless, since the session's number is compared too.
 fn follow<A: Allocator + Copy>(
     alloc: A,
     entries: &[KeptEntry<A>],
@@ -72,7 +72,7 @@ fn follow<A: Allocator + Copy>(
     Some(counts)
 }
 
-// The number of a session's calls up to and including this entry, if the entry is the next call after `count` calls.
+// Returns `count + 1` if the entry is the next call of the session after `count` calls.
 fn next_count<A: Allocator>(calls: &Calls<A>, count: usize, entry: &KeptEntry<A>) -> Option<usize>
     ensures { IfSome result (IsNext calls.now count entry.now) }
 {

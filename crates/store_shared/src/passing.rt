@@ -13,7 +13,8 @@ use std::alloc::Allocator;
 use std::sync::{MutexGuard, Wait};
 use store_cmd::{Command, KeptEntry, Refusal, SharedCommand};
 
-// The longest program, in units, that runs under the lock. A ticket would hold the lock for longer than such a run.
+// The longest program, in units, that runs under the lock. A ticket would hold the lock for longer than a run of such a
+// program.
 const SHORT_PROGRAM: usize = 256;
 
 /// The outcome of a step, and the lock under which it was made.
@@ -23,7 +24,7 @@ pub(crate) struct Stepping<'s, A: Allocator> {
     pub(crate) ended: Result<ReplyPair<A>, Refusal>,
 }
 
-// The outcome of a tried step: it ended, or the desk is busy and the command is returned.
+// The outcome of a single attempt to step. If the desk is busy, the command is returned.
 #[derive(Drop)]
 enum TriedStep<A: Allocator> {
     Ended(Result<ReplyPair<A>, Refusal>),
@@ -45,7 +46,7 @@ enum Passing<A: Allocator> {
     Barred(SharedCommand<A>),
 }
 
-/// Answers a session's command in the cheapest way; by a ticket if the store's gate wants jobs.
+/// Answers a session's command in the cheapest way, or by a ticket if the store's gate wants jobs.
 pub(crate) fn answer<R: Wait, A: Allocator + Copy, G: Gate>(
     rt: &R,
     store: &Store<A, G>,
@@ -77,7 +78,7 @@ pub(crate) fn is_long<A: Allocator>(command: &Command<A>) -> bool
     }
 }
 
-// Answers a command under one hold of the lock, once no ticket holds its page.
+// Answers a command under one hold of the lock. Waits while a ticket that is in its way holds its page.
 fn by_step<R: Wait, A: Allocator + Copy, G: Gate>(
     rt: &R,
     store: &Store<A, G>,
@@ -111,7 +112,7 @@ pub(crate) fn kept<A: Allocator>(
     }
 }
 
-// The reply for the session, and the entry with a copy of it.
+// The reply for the session, and an entry with the copy of the reply.
 fn served<A: Allocator>(
     session: u64,
     command: SharedCommand<A>,
@@ -151,7 +152,7 @@ pub(crate) fn step_in<'s, R: Wait, A: Allocator + Copy, G: Gate>(
     unreachable!()
 }
 
-// Steps a desk.
+// Makes one attempt to step a desk.
 fn step_on<A: Allocator + Copy>(
     desk: &mut Desk<A>,
     session: u64,
@@ -166,7 +167,7 @@ fn step_on<A: Allocator + Copy>(
     }
 }
 
-// Answers a command under two short holds of the lock, and computes it in between. Falls back to a ticket if its page is held
+// Answers a command under two short holds of the lock, and computes it in between. Takes a ticket instead if the page is held
 // or has changed in the meantime.
 fn by_look<R: Wait, A: Allocator + Copy, G: Gate>(
     rt: &R,

@@ -1,4 +1,4 @@
-//! Serves the calls of a session by tickets. Such a call takes the lock twice: to request the command, and to commit its
+//! Answers the calls of a session by tickets. Such a call takes the lock twice: to request the command, and to commit its
 //! result.
 ghost use Rattle.std.specs.Prelude.{◌≡◌, ◌≢◌, IfOk, IfErr, OnOk, ℕ};
 ghost use Rattle.store_cmd.specs.declared.Reply.TheVariants as replies;
@@ -22,14 +22,14 @@ pub(crate) struct AnsweredCall<A: Allocator> {
     pub(crate) entry: KeptEntry<A>,
 }
 
-/// How to close a ticket: commit its computed command, or abandon it.
+/// The two ways to close a ticket: commit its computed command, or abandon it.
 #[derive(Drop)]
 pub(crate) enum Closing<A: Allocator> {
     Commit(Done<A>),
     GiveUp(Ticket),
 }
 
-// The outcome of a request: it ended, or the desk is busy and the command is returned.
+// The outcome of a request. If the desk is busy, the command is returned.
 #[derive(Drop)]
 enum Attempt<A: Allocator> {
     Ended(Result<Asked<A>, Refusal>),
@@ -55,7 +55,7 @@ pub(crate) fn by_ticket<R: Wait, A: Allocator + Copy, G: Gate>(
     }
 }
 
-/// Adds an owner to a command, for the session that records the call.
+/// Adds an owner to a command, so that the session can record it.
 pub(crate) fn another_owner<A: Allocator>(
     command: &SharedCommand<A>,
 ) -> Result<SharedCommand<A>, Refusal>
@@ -68,7 +68,7 @@ pub(crate) fn another_owner<A: Allocator>(
     }
 }
 
-// An answered count. Allocates nothing.
+// The entry and the reply of an answered count. Allocates nothing.
 fn counted<A: Allocator>(
     session: u64,
     command: SharedCommand<A>,
@@ -124,7 +124,7 @@ fn ask_on<A: Allocator + Copy>(
     }
 }
 
-// The refusal of a call whose request is refused.
+// The refusal of a call whose request the desk refused.
 pub(crate) fn refusal_of(fault: AskFault) -> Refusal
     ensures { IsNotForSize result }
 {
@@ -162,7 +162,7 @@ fn serve<R: Wait, A: Allocator + Copy, G: Gate>(
     Ok(AnsweredCall { reply, entry })
 }
 
-// Waits until a ticket may have been closed. Notes under the lock that somebody waits.
+// Waits until a ticket may have been closed, and sets the flag that a session waits.
 pub(crate) fn wait<'s, R: Wait, A: Allocator + Copy, G: Gate>(
     rt: &R,
     store: &'s Store<A, G>,
@@ -190,7 +190,7 @@ fn finish<R: Wait, A: Allocator + Copy, G: Gate>(
     }
 }
 
-// Abandons a command that was not committed because of this fault, if its ticket is still open.
+// Abandons a command whose commit failed with this fault, if its ticket is still open.
 fn take_back<R: Wait, A: Allocator + Copy, G: Gate>(
     rt: &R,
     store: &Store<A, G>,
@@ -222,7 +222,7 @@ fn commit<R: Wait, A: Allocator + Copy, G: Gate>(
     }
 }
 
-// Takes the lock to commit a computed command. If the command changes its page, also makes the ticket's hold exclusive.
+// Takes the lock to commit a computed command. If the command changes its page, makes the ticket's hold exclusive as well.
 fn lock_to_commit<'s, R: Wait, A: Allocator + Copy, G: Gate>(
     rt: &R,
     store: &'s Store<A, G>,
@@ -239,8 +239,8 @@ fn lock_to_commit<'s, R: Wait, A: Allocator + Copy, G: Gate>(
     }
 }
 
-// Makes a ticket's hold exclusive under the lock, and waits while other tickets read the page. On failure, returns the reason,
-// which is never that the page is being read, and releases the lock.
+// Makes a ticket's hold exclusive under the lock, and waits while other tickets read the page. On failure, releases the lock
+// and returns the reason, which is never `Busy`.
 fn convert_once_free<'s, R: Wait, A: Allocator + Copy, G: Gate>(
     rt: &R,
     store: &'s Store<A, G>,
@@ -275,7 +275,7 @@ fn give_up<R: Wait, A: Allocator + Copy, G: Gate>(
     refusal
 }
 
-// Closes a ticket, releases the lock, and wakes all waiting sessions, if there are any. Every ticket is closed here.
+// Closes a ticket, releases the lock, and wakes all waiting sessions. This is the only function that closes tickets.
 fn close_ticket<'s, A: Allocator + Copy, G: Gate>(
     store: &'s Store<A, G>,
     core: MutexGuard<'s, Core<A>>,

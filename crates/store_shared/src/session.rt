@@ -19,8 +19,8 @@ use store_cmd::{
     Command, KeptEntry, Program, Refusal, Reply, SharedCommand, SizeFault, check_pair, check_run,
 };
 
-/// A client of a store, seen as its number, the page size of the store, and its answered calls in order. `Store::close` needs
-/// these calls back: if a session that has answered calls is dropped, the store never closes.
+/// A client of a store, modelled as its number, the page size of the store, and its answered calls in order. `Store::close`
+/// needs these calls: if a session that has answered calls is dropped, the store can never be closed.
 #[derive(Drop)]
 pub struct Session<'a, A: Allocator, G: Gate> {
     store: &'a Store<A, G>,
@@ -38,7 +38,7 @@ impl<'a, A: Allocator, G: Gate> Model for Session<'a, A, G> {
     ghost view = { λ a. record { number = a.number; size = a.size; calls = a.calls.items } };
 }
 
-/// The calls of an ended session, seen as its number and its answered calls in order.
+/// The calls of an ended session, modelled as its number and its answered calls in order.
 #[derive(Drop)]
 pub struct Calls<A: Allocator> {
     number: u64,
@@ -75,10 +75,10 @@ impl<A: Allocator> Calls<A> {
 ///
 /// # Errors
 /// - Any call: `TrailFull` if the number of entries and open tickets is at the limit of the trail.
-/// - Any call: `NoMemory` if there is no memory for copies of the borrowed operands and the command that trail and session
-///   share, which are allocated before the request; for a ticket, the reply or the new pages; or for the session's own entry,
-///   which is allocated before the desk commits. Also if a command's owner count is at its maximum.
-/// - Any call: `Strayed` if the desk does not recognize the session's ticket. No call here causes that, and a test says so.
+/// - Any call: `NoMemory` if allocation fails: of copies of the operands and of the command that trail and session share,
+///   before the request; of a ticket, the reply or the new pages; or of the session's own entry, before the desk commits.
+/// - Any call: `NoMemory` if the owner count of a command is at its maximum.
+/// - Any call: `Strayed` if the desk does not recognize the session's ticket. No call here causes that, and a test checks this.
 /// - `store`, `run` and `call_all` only: `PairTooLarge`, and `ArgTooLong` for a run. These are checked first.
 impl<'a, A: Allocator + Copy, G: Gate> Session<'a, A, G> {
     // A session without calls.
@@ -116,9 +116,9 @@ impl<'a, A: Allocator + Copy, G: Gate> Session<'a, A, G> {
         self.call(rt, Command::Fetch { key })
     }
 
-    /// Stores a value under a key: `Stored`; `Exists` if the mode is `Insert` and the key exists; or `Crowded` if no number of
-    /// splits makes room. Waits while another session is about to change the key's page, and before the change while other
-    /// sessions read it.
+    /// Stores a value under a key. Returns `Stored`; `Exists` if the mode is `Insert` and the key exists; or `Crowded` if no
+    /// number of splits makes room. Waits while another session is about to change the key's page. Waits before the change
+    /// while other sessions read the page.
     ///
     /// # Errors
     /// `PairTooLarge` if and only if key and value together are longer than a pair of the store may be: 1,008 or 8,008 bytes.
@@ -160,14 +160,13 @@ impl<'a, A: Allocator + Copy, G: Gate> Session<'a, A, G> {
         self.call(rt, Command::Delete { key })
     }
 
-    /// Runs a program on the record of a key, with an argument and this time: `Ran` with the program's exit number and reply
-    /// word; `Missing` if the key does not exist and no blank is given; or `Crowded` if a blank is saved but no number of
-    /// splits makes room. `blank` is the number of zero bytes on which the program runs if the key is missing. The program is
-    /// not copied; the call adds an owner. Waits like `store`.
+    /// Runs a program on the record of a key, with an argument and a time. Returns `Ran` with the program's exit number and
+    /// reply word; `Missing` if the key does not exist and no blank is given; or `Crowded` if the program saves the blank but
+    /// no number of splits makes room. `blank` is the number of zero bytes on which the program runs if the key is missing. The
+    /// call adds an owner to the program and does not copy it. Waits like `store`.
     ///
-    /// # Errors
-    /// `PairTooLarge` if and only if key and blank together are longer than a pair of the store may be, 1,008 or 8,008 bytes;
-    /// otherwise `ArgTooLong` if and only if the argument is longer than 1,024 bytes. `NoMemory` also if the program's owner
+    /// # Errors `PairTooLarge` if and only if key and blank together are longer than a pair of the store may be, 1,008 or 8,008
+    /// bytes; otherwise `ArgTooLong` if and only if the argument is longer than 1,024 bytes. `NoMemory` if the program's owner
     /// count is at its maximum.
     pub fn run<R: Wait>(
         &mut self,
@@ -217,10 +216,10 @@ impl<'a, A: Allocator + Copy, G: Gate> Session<'a, A, G> {
         self.size
     }
 
-    /// Makes calls in order, each as if by itself, and adds the outcome of each to `outcomes`: its reply, or the reason for its
-    /// refusal. The session and the trail share the command of an answered call. A refused call commits nothing, and the next
-    /// call is made regardless. Calls that take no ticket are made under one hold of the lock, so they cost less than single
-    /// calls. Other sessions wait in the meantime, so pass a few tens of calls at a time.
+    /// Makes calls in order, as single calls would, and appends the outcome of each to `outcomes`: its reply, or its refusal.
+    /// The session and the trail share the command of an answered call. A refused call commits nothing, and the next call is
+    /// still made. Calls that take no ticket are made under one hold of the lock, so they cost less than single calls. Other
+    /// sessions wait in the meantime, so pass a few tens of calls at a time.
     ///
     /// # Errors
     /// `AllocError` if there is no memory for the session's own entries or for the outcomes. No call is made then, and all
@@ -262,7 +261,7 @@ impl<'a, A: Allocator + Copy, G: Gate> Session<'a, A, G> {
         self.call(rt, Command::Count)
     }
 
-    // Makes a call. The memory for its own entry is allocated before the desk commits anything.
+    // Makes a call. The memory for the session's own entry is allocated before the desk commits anything.
     fn call<R: Wait>(&mut self, rt: &R, command: Command<A>) -> Result<Reply<A>, Refusal>
         ensures ok { IfOk result (λ reply. self.new ≡ with_call self.old command reply) }
         ensures reply { IfOk result (λ reply. IsReplyTo self.old.number command reply) }

@@ -8,7 +8,7 @@ use std::marker::Model;
 use std::sync::{Condvar, Mutex};
 use store_cmd::Opening;
 
-/// A hook around the jobs of sessions, which can observe or delay them. Both calls are made without the lock.
+/// A hook around the jobs of sessions, which can observe or delay the jobs. All its methods are called without the lock.
 pub trait Gate: Sync + Drop {
     /// Computes a session's job like `Job::work`. If out of memory, returns the job.
     fn work<A: Allocator + Copy>(
@@ -22,8 +22,8 @@ pub trait Gate: Sync + Drop {
     /// Called after a session's job was finished; not called for a count or a refused call.
     fn after(&self, session: u64);
 
-    /// Returns true if every command about a key must come as a job. If false, a session may answer one without a job, and
-    /// `work` and `after` are not called for it. Called without the lock.
+    /// Returns true if every command about a key must come as a job. If false, a session may answer a command without a job,
+    /// and then `work` and `after` are not called.
     fn wants_jobs(&self) -> bool {
         true
     }
@@ -52,17 +52,17 @@ impl Gate for NoGate {
     }
 }
 
-/// The state under the lock.
+/// The state that the lock protects.
 #[derive(Drop)]
 pub(crate) struct Core<A: Allocator> {
     pub(crate) desk: Desk<A>,
     // the number of sessions made
     pub(crate) sessions: u64,
-    // true if somebody waits for a ticket to be closed
+    // true if a session waits for a ticket to be closed
     pub(crate) waited_for: bool,
 }
 
-/// A database shared by sessions, seen as its hash kind, its page size, and the pairs with which it was opened.
+/// A database shared by sessions. It is modelled as its hash kind, its page size, and the pairs with which it was opened.
 #[derive(Drop)]
 pub struct Store<A: Allocator, G: Gate> {
     pub(crate) alloc: A,

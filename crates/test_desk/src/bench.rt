@@ -6,7 +6,7 @@ use sdbm_files::Image;
 use std::alloc::{AllocError, Allocator, Global};
 use store_cmd::Trail;
 
-/// A command before work, or after it.
+/// A command in a hand: a job, or a computed command.
 #[derive(Drop)]
 pub enum InHand<A: Allocator> {
     Job(Job<A>),
@@ -19,14 +19,14 @@ const HANDS: usize = 4;
 /// The content of each hand.
 pub type Hands<A> = Vec<Option<InHand<A>>>;
 
-/// Two desks, which can be swapped, the database and the trail of a closed desk, and the hands.
+/// Two desks, which can be swapped; the database and the trail of the desk that was closed last; and the hands.
 #[derive(Drop)]
 pub struct Bench<'h, A: Allocator> {
     /// The allocator of texts.
     pub global: Global,
     /// The allocator of desks.
     pub alloc: A,
-    /// The heap of that allocator, if it can run out.
+    /// The heap of `alloc`, if its memory can run out.
     pub heap: Option<&'h LocalHeap>,
     pub desk: Option<Desk<A>>,
     pub beside: Option<Desk<A>>,
@@ -60,7 +60,7 @@ pub fn take<A: Allocator>(hands: &mut Hands<A>, hand: usize) -> Option<InHand<A>
     hands.get_mut(hand)?.take()
 }
 
-/// Puts something in a hand. Replaces its content.
+/// Puts a command in a hand and replaces what the hand had.
 pub fn put<A: Allocator>(hands: &mut Hands<A>, hand: usize, what: InHand<A>) {
     if let Some(place) = hands.get_mut(hand) {
         *place = Some(what);

@@ -11,7 +11,7 @@ use store_cmd::{Reply, SharedCommand};
 #[derive(Drop)]
 pub enum Call<A: Allocator> {
     Step(u64, SharedCommand<A>),
-    /// The hand for the job, the session and the command.
+    /// A request: the hand for the job, the session and the command.
     Ask(usize, u64, SharedCommand<A>),
     Work(usize),
     Convert(Ticket),
@@ -19,7 +19,7 @@ pub enum Call<A: Allocator> {
     Abandon(Ticket),
 }
 
-/// The outcome of a call, and the call itself if it was refused and may be made again.
+/// The outcome of a call. If the call was refused and may be made again, also the call itself.
 #[derive(Drop)]
 pub struct Came<A: Allocator> {
     pub outcome: EventOutcome<A>,
@@ -42,7 +42,7 @@ impl<A: Allocator> Came<A> {
     }
 }
 
-/// Returns `true` if there was no memory for a call.
+/// Returns `true` if a call was refused because memory ran out.
 pub fn lacks_memory<A: Allocator>(outcome: &EventOutcome<A>) -> bool {
     match outcome {
         EventOutcome::AskRefused(fault) => *fault == AskFault::NoMemory,

@@ -1,4 +1,4 @@
-//! Calls that are made again with more memory until there is enough.
+//! Calls that are repeated with more memory until there is enough.
 
 use crate::bench::Bench;
 use crate::calls::{Call, Came, lacks_memory, make_call};
@@ -46,7 +46,7 @@ fn state_text<A: Allocator + Copy>(bench: &Bench<A>, call: &Call<A>) -> Option<S
     Some(out)
 }
 
-// Makes a call with all memory of the heap taken except `spared` bytes.
+// Makes a call while all memory of the heap except `spared` bytes is in use.
 fn call_with<A: Allocator + Copy>(
     bench: &mut Bench<A>,
     call: Call<A>,
@@ -74,8 +74,8 @@ fn outcome_text<A: Allocator>(
     Ok(out)
 }
 
-/// Makes a call, with more memory each time, and reports the outcome. A refusal has to return the same call, and the desk has to be
-/// unchanged.
+/// Makes a call with more and more memory until there is enough, and returns the outcome. A refusal has to return the same call
+/// and leave the desk unchanged.
 pub fn answer_call<A: Allocator + Copy>(bench: &mut Bench<A>, call: Call<A>) -> Option<String> {
     let before = state_text(bench, &call)?;
     let mut call = call;
@@ -109,7 +109,7 @@ fn open<A: Allocator + Copy>(alloc: A, image: Image<A>, limit: usize) -> Result<
     }
 }
 
-// Opens a desk with all memory of the heap taken except `spared` bytes.
+// Opens a desk while all memory of the heap except `spared` bytes is in use.
 fn open_with<A: Allocator + Copy>(
     bench: &Bench<A>,
     image: Image<A>,
@@ -125,7 +125,7 @@ fn open_with<A: Allocator + Copy>(
     Some(opened)
 }
 
-/// Opens a desk, with more memory each time. A refused database has to be unchanged.
+/// Opens a desk with more and more memory until there is enough. A refused database has to be unchanged.
 pub fn answer_open<A: Allocator + Copy>(
     bench: &mut Bench<A>,
     image: Image<A>,

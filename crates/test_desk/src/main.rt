@@ -6,26 +6,27 @@
 //! |---|---|
 //! | `open KIND SIZE LIMIT` | `opened`: a desk over an empty database, with this limit of its trail |
 //! | `files KIND SIZE DIR PAG` | `opened`: the database of both files, or the fault |
-//! | `close` | `closed`, and the numbers of pairs in the trail's opening and of its entries: the desk's database is kept |
-//! | `reopen LIMIT` | `opened`: a desk over the database that was kept |
+//! | `close` | `closed`, the number of pairs in the trail's opening, and the number of its entries; the database is kept |
+//! | `reopen LIMIT` | `opened`: a desk over the kept database |
 //! | `beside` | `beside`: swaps the two desks |
 //! | `step SESSION COMMAND` | the reply, or the fault |
-//! | `ask HAND SESSION COMMAND` | `ticket N`, the reply of a count, or the fault; the job is in that hand then |
+//! | `ask HAND SESSION COMMAND` | `ticket N`, and the job is in that hand; or the reply to a count; or the fault |
 //! | `work HAND` | `worked`: the result is in the same hand |
 //! | `done HAND` | the ticket, the reply, and whether the page changes |
 //! | `finish HAND` | the reply, or the fault |
 //! | `convert TICKET`, `abandon TICKET` | `converted`, `abandoned`, or the fault |
-//! | `play EVENT / EVENT / ..` | the outcome of each |
-//! | `pairs`, `trail` | all pairs; the opening and the entries, of the desk and of the trail that was kept |
-//! | `count` | for the database that was kept: the number of its pairs, how their keys hash, the size of its pages and the length of `.pag` |
+//! | `play EVENT / EVENT / ..` | the outcome of each event |
+//! | `pairs`, `trail` | all pairs of the desk; the opening and the entries of its trail, or of the kept trail |
+//! | `count` | for the kept database: the number of pairs, the hash kind, the page size and the length of `.pag` |
 //! | `place KEY` | page, depth and bit |
 //! | `page NUMBER` | the pairs of the page, in order |
 //! | `write` | the bytes of both files |
 //! | `# TEXT` | the line itself |
 //!
-//! An event is a line from `ask` to `abandon` except `done`; instead of a hand it has a ticket, and `ask` has none. A line after the word
-//! `lean` is for a desk in a heap, and its call is made with 16 bytes more each time until there is enough. `with more memory` says that
-//! there was not enough at first, and that each refused call was returned and left the desk unchanged.
+//! In `play`, an event is a line from `ask` to `abandon` except `done`. It has a ticket instead of a hand, and `ask` has
+//! neither. A line after the word `lean` is for a desk in a heap. Its call is repeated with 16 bytes more until there is enough
+//! memory. The answer then ends with `with more memory` if there was not enough at first. Each refused call has to be returned
+//! and to leave the desk unchanged.
 #![tactic(auto)]
 
 mod bench;
@@ -42,7 +43,7 @@ use std::alloc::{AllocError, Allocator, Global};
 use std::io;
 use test_support::read_all;
 
-// The answer to a line. A lean line is for the desks in a heap.
+// The answer to a line. A line after `lean` is for the desks in a heap.
 fn answer<A: Allocator + Copy>(
     lean: &mut Bench<A>,
     ample: &mut Bench<Global>,

@@ -14,7 +14,7 @@ use std::alloc::{AllocError, Allocator};
 use std::mem;
 use test_support::{read_bytes, read_file, read_kind, read_size, same_trail};
 
-// The hash of keys and the size of pages, and the rest of the words.
+// Reads a hash kind and a page size. Also returns the rest of the words.
 fn read_shape(words: &str) -> Option<(KeyBytes, PageSize, &str)> {
     let (kind, rest) = words.split_once(' ')?;
     let (size, rest) = rest.split_once(' ')?;
@@ -98,7 +98,7 @@ fn pairs<A: Allocator + Copy>(bench: &Bench<A>) -> Option<String> {
     Some(out)
 }
 
-// The trail of the desk, or of the desk that was closed. A copy of it has to be the same.
+// The trail of the desk, or of the desk that was closed. A clone of the trail has to be equal.
 fn trail<A: Allocator + Copy>(bench: &Bench<A>) -> Option<String> {
     let trail = match &bench.desk {
         Some(desk) => desk.trail(),
@@ -112,7 +112,7 @@ fn trail<A: Allocator + Copy>(bench: &Bench<A>) -> Option<String> {
     Some(out)
 }
 
-// Describes the database that was kept. The word says which part.
+// The answer to a line about the kept database.
 fn image_text<A: Allocator + Copy>(bench: &Bench<A>, word: &str, rest: &str) -> Option<String> {
     let image = bench.image.as_ref()?;
     let mut out = String::new(bench.global);

@@ -28,7 +28,7 @@ pub fn show_outcome<A: Allocator>(
     }
 }
 
-/// Writes a command after work.
+/// Writes a computed command.
 pub fn show_done<A: Allocator>(out: &mut String, done: &Done<A>) -> Result<(), AllocError> {
     write!(out, "ticket {} ", done.ticket().0)?;
     show_reply(out, done.reply())?;
@@ -116,7 +116,7 @@ pub fn show_place<A: Allocator + Copy>(
     )
 }
 
-/// Writes the number of pairs of a database, how their keys hash, the size of its pages and the length of `.pag`.
+/// Writes the number of pairs of a database, its hash kind, its page size and the length of `.pag`.
 pub fn show_count<A: Allocator + Copy>(
     out: &mut String,
     image: &Image<A>,

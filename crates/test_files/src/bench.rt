@@ -5,7 +5,7 @@ use sdbm_addr::{KeyBytes, PageSize};
 use sdbm_files::Image;
 use std::alloc::{Allocator, Global};
 
-/// Both files of a database, its kind of keys and its page size.
+/// Both files of a database, its hash kind and its page size.
 #[derive(Drop)]
 pub struct Known {
     pub kind: KeyBytes,
@@ -21,7 +21,7 @@ pub struct Bench<'h, A: Allocator> {
     pub global: Global,
     /// The allocator of the tested code.
     pub alloc: A,
-    /// The heap of that allocator, if it can run out.
+    /// The heap of `alloc`, if its memory can run out.
     pub heap: Option<&'h LocalHeap>,
     /// Blocks that fill the heap.
     pub blocks: Vec<Vec<u8, &'h LocalHeap>>,

@@ -7,12 +7,12 @@ use std::alloc::{AllocError, Global};
 use std::fmt::Write;
 use test_support::{cut, number};
 
-// The first `count` bytes, or all if there are fewer.
+// The first `count` bytes, or all bytes if there are fewer.
 fn first(bytes: &[u8], count: usize) -> &[u8] {
     &bytes[..count.min(bytes.len())]
 }
 
-// The number of pairs of a database with one truncated file, or the fault.
+// The number of pairs of a database of which one file is truncated, or the fault.
 fn count_of_cut(
     global: Global,
     known: &Known,
@@ -80,7 +80,8 @@ fn tallies_of(
     Ok(tallies)
 }
 
-/// Reports the results of truncating a file to several lengths: the first length is given, and each further one is longer by the step.
+/// Returns the results of truncating a file to several lengths. The words give the first length, the step between lengths, and
+/// their number.
 pub fn cut_text(global: Global, known: &Known, rest: &str) -> Result<String, AllocError> {
     let (file, rest) = cut(rest);
     let (from, rest) = cut(rest);

@@ -1,4 +1,4 @@
-//! Databases of files, and the bytes that are written of them.
+//! Databases and the bytes of their files.
 
 use crate::bench::{Bench, Known};
 use sdbm_addr::{KeyBytes, PageSize};
@@ -13,7 +13,7 @@ pub struct Files {
     pub pag: MemSink<Global>,
 }
 
-/// Returns `true` if files have the same bytes.
+/// Returns `true` if both have the same bytes.
 pub fn same_files(a: &Files, b: &Files) -> bool {
     a.dir.bytes() == b.dir.bytes() && a.pag.bytes() == b.pag.bytes()
 }
@@ -27,7 +27,7 @@ pub fn write_both<A: Allocator + Copy, B: Allocator>(
     image.write(dir, pag)
 }
 
-/// The files of a database. The predicted length of `.pag` has to be right.
+/// The files of a database. `Image::pag_len` has to predict the length of `.pag`.
 pub fn files_of<A: Allocator + Copy>(global: Global, image: &Image<A>) -> Option<Files> {
     let mut dir = MemSink::new(global);
     let mut pag = MemSink::new(global);
@@ -41,7 +41,7 @@ pub fn files_of<A: Allocator + Copy>(global: Global, image: &Image<A>) -> Option
     Some(Files { dir, pag })
 }
 
-/// The database of files.
+/// Opens files as a database.
 pub fn open_files<A: Allocator + Copy>(
     alloc: A,
     dir: &[u8],
@@ -52,7 +52,7 @@ pub fn open_files<A: Allocator + Copy>(
     Image::open(alloc, dir, pag, kind, size)
 }
 
-/// The database of known files.
+/// Opens known files as a database.
 pub fn open_known<A: Allocator + Copy>(alloc: A, known: &Known) -> Result<Image<A>, OpenFault> {
     let dir = known.dir.as_slice();
     let pag = known.pag.as_slice();
@@ -66,7 +66,7 @@ fn file_of(global: Global, text: &str) -> Vec<u8> {
     }
 }
 
-/// The files of a line.
+/// Reads the files that a line describes.
 pub fn read_known(global: Global, rest: &str) -> Option<Known> {
     let (kind, rest) = cut(rest);
     let (size, rest) = cut(rest);
@@ -101,7 +101,7 @@ fn open<A: Allocator + Copy>(bench: &mut Bench<A>, rest: &str) -> Option<String>
     Some(text)
 }
 
-/// The number of pairs of a database, the size of its pages and the length of `.pag`.
+/// The number of pairs of a database, its page size and the length of `.pag`.
 pub fn count_text<A: Allocator + Copy>(global: Global, image: &Image<A>) -> Option<String> {
     let size = image.page_size();
     format!(in global; "{} {size:?} {}", image.count(), image.pag_len()).ok()

@@ -8,7 +8,7 @@ use std::alloc::{Allocator, Global};
 use std::fmt::Write;
 use test_support::{bytes_of, cut, number, show_bytes};
 
-/// Opens files in a heap of this size, and reports the result and the use of the heap afterwards.
+/// Opens files in a heap of this size. Returns the result as text, and how many bytes of the heap are in use afterwards.
 pub fn within_text(global: Global, known: &Known, count: &str) -> Option<String> {
     let heap = LocalHeap::new(global, number(count)).ok()?;
     let opened = open_known(&heap, known);
@@ -17,8 +17,8 @@ pub fn within_text(global: Global, known: &Known, count: &str) -> Option<String>
     format!(in global; "{text} used {}", heap.used()).ok()
 }
 
-// Opens files in some memory, and returns whether it is enough. Returns `None` if the files written from it differ, or if there is another
-// fault.
+// Opens files with an allocator. Returns `true` if there is enough memory and `false` if not. Returns `None` if writing the
+// database gives other files, or on any other fault.
 fn opens<A: Allocator + Copy>(
     global: Global,
     alloc: A,
@@ -47,8 +47,8 @@ fn opens_in(global: Global, size: usize, known: &Known, files: &Files) -> Option
     Some(enough)
 }
 
-// Returns `true` if sinks have the bytes that a write leaves: whole files if it was not refused, otherwise whole pages, and
-// the failure in the sink that refused.
+// Returns `true` if the sinks have the bytes that a write leaves. Without a fault these are the whole files. Otherwise they are
+// whole pages, and the sink with the fault has failed.
 fn are_written<A: Allocator>(
     ended: Result<(), WriteFault>,
     dir: &MemSink<A>,
@@ -71,7 +71,8 @@ fn are_written<A: Allocator>(
     dir.bytes().is_empty() && pag.bytes().len() % 1024 == 0 && is_whole == dir.has_failed()
 }
 
-// Writes a database in some memory, and returns whether it is enough. Returns `None` if the sinks have wrong bytes.
+// Writes a database with an allocator. Returns `true` if there is enough memory and `false` if not. Returns `None` if the sinks
+// have wrong bytes.
 fn writes<A: Allocator + Copy>(alloc: A, image: &Image<Global>, files: &Files) -> Option<bool> {
     let mut dir = MemSink::new(alloc);
     let mut pag = MemSink::new(alloc);
@@ -87,7 +88,7 @@ fn writes_in(global: Global, size: usize, image: &Image<Global>, files: &Files) 
     writes(&heap, image, files)
 }
 
-// The size of the first heap of 128, 144 and so on bytes that is large enough.
+// Tries heaps of 128, 144, 160 bytes and so on, and returns the size of the first that is large enough.
 fn least_heap(global: Global, known: &Known, is_opened: bool) -> Option<usize> {
     let image = open_known(global, known).ok()?;
     let files = files_of(global, &image)?;
@@ -105,7 +106,7 @@ fn least_heap(global: Global, known: &Known, is_opened: bool) -> Option<usize> {
     None
 }
 
-/// Reports whether a database is refused in each heap up to a larger one.
+/// Says whether the least heap that is large enough has more than `count` bytes; all smaller heaps were refused.
 pub fn heaps_text(global: Global, known: &Known, rest: &str) -> Option<String> {
     let (word, count) = cut(rest);
     let count = number(count);
@@ -118,7 +119,7 @@ pub fn heaps_text(global: Global, known: &Known, rest: &str) -> Option<String> {
     String::from_str(global, text).ok()
 }
 
-// Puts bytes in a sink, and writes its answer and its bytes.
+// Puts bytes in a sink, and writes the sink's answer and its bytes.
 fn show_put<S: Allocator>(out: &mut String, sink: &mut MemSink<S>, bytes: &[u8]) -> Option<()> {
     match sink.put(bytes) {
         Ok(count) => write!(out, " / {count} ").ok()?,
@@ -143,7 +144,7 @@ fn show_puts<A: Allocator>(
     Some(())
 }
 
-/// Puts bytes in a sink in a heap of this size.
+/// Puts bytes in a sink whose heap has this size, and returns the sink's answers.
 pub fn sink_text(global: Global, rest: &str) -> Option<String> {
     let (count, words) = cut(rest);
     let heap = LocalHeap::new(global, number(count)).ok()?;

@@ -5,21 +5,22 @@
 //! | Line | Answer |
 //! |---|---|
 //! | `open KIND SIZE dir FILE pag FILE` | `count N`: the database of both files; or the fault |
-//! | `count` | the number of pairs of the database, the size of its pages and the length of `.pag` |
+//! | `count` | the number of pairs of the database, its page size and the length of `.pag` |
 //! | `write` | the bytes of both files |
-//! | `widen COUNT` | `widened`, and whether it was refused more often than COUNT times |
+//! | `widen COUNT` | `widened`, and whether it was refused at first, and more than COUNT times |
 //! | `cut dir FROM STEP COUNT`, `cut pag FROM STEP COUNT` | the results of opening the files of the last `open`, with one truncated to COUNT lengths, and how often each occurred |
 //! | `within COUNT` | the result of opening these files in a heap of COUNT bytes, and the use of the heap afterwards |
-//! | `heaps open COUNT`, `heaps write COUNT` | whether the database is refused in each heap up to one of more than COUNT bytes |
+//! | `heaps open COUNT`, `heaps write COUNT` | whether the least heap that is large enough has more than COUNT bytes |
 //! | `short STOP COUNT COUNT` | the result of a write if the sinks of `.dir` and `.pag` stop after these numbers of bytes |
 //! | `sink COUNT BYTES ..` | the answers of a sink in a heap of COUNT bytes |
 //! | `whole files KIND SIZE dir FILE pag FILE` | `count N`: the database of both files; or the fault |
-//! | `full`, `free` | takes all memory, or gives it back |
+//! | `full`, `free` | takes all memory, or frees it |
 //! | `# TEXT` | the line itself |
 //!
-//! Bytes and files are as in `test_support`. A line after the word `lean` is for a bench in a heap. There `widen` is called with 16 bytes
-//! more each time until there is enough. A `whole` database is written, read again and written a second time: `again` says that it stayed
-//! the same. Except for that word, the answers there are those of an independent implementation.
+//! Bytes and files are as in `test_support`. A line after the word `lean` is for a bench in a heap. There `widen` is repeated
+//! with 16 bytes more until there is enough memory. A `whole` database is written, read again and written a second time, and
+//! the answer ends with `again` if it stayed the same. Apart from `again`, the answers to `whole` lines are those of an
+//! independent implementation.
 #![tactic(auto)]
 
 mod bench;
@@ -38,7 +39,7 @@ use std::alloc::{AllocError, Allocator, Global};
 use std::io;
 use test_support::read_all;
 
-// The answer to a line. A lean line is for the bench in a heap.
+// The answer to a line. A line after `lean` is for the bench in a heap.
 fn answer<A: Allocator + Copy>(
     lean: &mut Bench<A>,
     ample: &mut Bench<Global>,

@@ -11,11 +11,11 @@ use test_support::{cut, number};
 enum Stop {
     // It fails.
     Fails,
-    // It takes no byte.
+    // It accepts no more bytes.
     TakesNone,
 }
 
-// A sink that takes few bytes at a time and then stops.
+// A sink that accepts few bytes at a time and then stops.
 #[derive(Drop)]
 struct ShortSink {
     bytes: Vec<u8>,
@@ -71,7 +71,7 @@ fn write_short<A: Allocator + Copy>(
     image.write(dir, pag)
 }
 
-// Writes the number of bytes of a sink, whether it stopped, and whether its bytes differ from the first bytes of a file.
+// Writes the number of bytes in a sink, whether it stopped, and whether its bytes are not a prefix of a file.
 fn show_sink(out: &mut String, sink: &ShortSink, file: &[u8]) -> Result<(), AllocError> {
     write!(out, "{}", sink.bytes.len())?;
     if sink.stopped {
@@ -107,7 +107,7 @@ fn read_stop(word: &str) -> Option<Stop> {
     }
 }
 
-// Writes a database into sinks with limited room.
+// Writes a database into sinks that accept limited numbers of bytes.
 fn short<A: Allocator + Copy>(
     global: Global,
     image: &Image<A>,
@@ -121,7 +121,7 @@ fn short<A: Allocator + Copy>(
     show_short(global, ended, (&dir, &pag), &files).ok()
 }
 
-/// Reports the result of a write into sinks that stop.
+/// Returns the result of a write into sinks that stop.
 pub fn short_text<A: Allocator + Copy>(
     global: Global,
     image: &Image<A>,

@@ -1,11 +1,12 @@
-//! Databases that are given as bytes: their contents, and whether they are the same after they are written and read again.
+//! Databases that are given as bytes: the number of their pairs, and whether they stay the same when they are written and read
+//! again.
 
 use crate::files::{files_of, open_files, open_known, opened_text, read_known, same_files};
 use sdbm_files::Image;
 use std::alloc::Global;
 use test_support::tail;
 
-// Returns whether a database that is written and read again has the same number of pairs and is written as the same bytes.
+// Returns `true` if a database that is written and read again has the same number of pairs, and its files the same bytes.
 fn image_stays(global: Global, image: &Image<Global>) -> Option<bool> {
     let files = files_of(global, image)?;
     let dir = files.dir.bytes();
@@ -15,7 +16,7 @@ fn image_stays(global: Global, image: &Image<Global>) -> Option<bool> {
     Some(again.count() == image.count() && same_files(&second, &files))
 }
 
-/// The number of pairs of the database of both files, or their fault.
+/// The number of pairs of the database of both files and whether it stays the same, or the fault of the files.
 pub fn files_text(global: Global, rest: &str) -> Option<String> {
     let opened = open_known(global, &read_known(global, rest)?);
     let mut out = opened_text(global, &opened)?;

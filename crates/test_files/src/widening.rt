@@ -1,4 +1,4 @@
-//! Databases that are widened, with more memory each time until there is enough.
+//! Databases that are widened, with more and more memory until there is enough.
 
 use crate::bench::Bench;
 use crate::files::{Files, files_of, same_files};
@@ -14,7 +14,7 @@ fn widen_once<A: Allocator + Copy>(image: Image<A>) -> Result<Image<A>, Image<A>
     }
 }
 
-// Widens a database with all memory of the heap taken except `spared` bytes.
+// Widens a database while all memory of the heap except `spared` bytes is in use.
 fn widen_with<A: Allocator + Copy>(
     bench: &Bench<A>,
     image: Image<A>,
@@ -29,7 +29,7 @@ fn widen_with<A: Allocator + Copy>(
     Some(widened)
 }
 
-// Returns `true` if a database that was refused is unchanged.
+// Returns `true` if a refused database is unchanged.
 fn is_as_before<A: Allocator + Copy>(
     bench: &Bench<A>,
     image: &Image<A>,
@@ -52,7 +52,8 @@ fn widened_text(times: usize, count: usize) -> &'static str {
     }
 }
 
-/// Widens the database, and reports whether it was refused more than `count` times. It has to be unchanged each time.
+/// Widens the database with more and more memory until there is enough. Says whether it was refused at first, and if so,
+/// whether more than `count` times. A refusal has to leave the database unchanged.
 pub fn widen_text<A: Allocator + Copy>(bench: &mut Bench<A>, count: &str) -> Option<String> {
     let count = count.parse::<usize>().ok()?;
     let mut image = bench.image.take()?;

@@ -1,4 +1,4 @@
-//! Worked images, faults, results, and memory that runs out.
+//! Images with their codes or faults, and memory that runs out.
 
 use bpf_insn::{
     Code, DecodeFault, Insn, Op, Operand, Size, Test, Width, apply, decode, encode, holds,
@@ -141,7 +141,7 @@ fn faults(rt: HostRuntime) -> Result<(), Fail> {
     Ok(())
 }
 
-// The image of `units` units that end the program.
+// The image of `units` instructions `exit`.
 fn exits(alloc: std::alloc::Global, units: usize) -> Result<Vec<u8>, std::alloc::AllocError> {
     let mut image = Vec::new(alloc);
     for _ in 0..units {

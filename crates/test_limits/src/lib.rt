@@ -1,4 +1,4 @@
-//! Tests of the crates of programs that lines cannot express: codes and texts up to their limits, and memory that runs out.
+//! Tests of the crates for programs that lines cannot express: codes and texts up to their limits, and memory that runs out.
 #![tactic(auto)]
 
 #[cfg(test)]

@@ -1,4 +1,4 @@
-//! Memory that runs out.
+//! Submissions during which memory runs out.
 
 use bpf_asm::assemble;
 use bpf_insn::encode;
@@ -32,7 +32,7 @@ fn fill<'a>(
     Ok(blocks)
 }
 
-// A failed allocation changes nothing, and the same image gets its number from the same registry once there is memory.
+// A failed allocation changes nothing. Once there is memory, the same registry gives a number to the same image.
 #[test]
 fn each_growth_refused(rt: HostRuntime) -> Result<(), Fail> {
     let image = image_of(rt.alloc(), "mov r0, 0\nexit")?;
@@ -56,7 +56,7 @@ fn each_growth_refused(rt: HostRuntime) -> Result<(), Fail> {
     Err(Fail::from("the heap is too small"))
 }
 
-// A verdict is returned even if there is no memory to keep it.
+// A verdict is returned even if there is no memory to store it.
 #[test]
 fn verdict_without_room(rt: HostRuntime) -> Result<(), Fail> {
     let empty: [u8; 0] = [];

@@ -1,16 +1,16 @@
-//! Texts with the most units, and texts with the most labels.
+//! Texts with the maximum number of units, and with the maximum number of labels.
 
 use bpf_asm::{AsmFault, FaultKind, assemble, disassemble};
 use std::alloc::{AllocError, Global};
 use std::fmt::Write;
 use std::test::Fail;
 
-// The fault of a text, if it has one.
+// The fault of a text, or `None` if it is valid.
 fn fault_of(alloc: Global, text: &str) -> Option<AsmFault> {
     assemble(alloc, text).err()
 }
 
-// A text of `count` instructions.
+// A text of `count` instructions `exit`.
 fn exits(alloc: Global, count: usize) -> Result<String, AllocError> {
     let mut text = String::new(alloc);
     for _ in 0..count {

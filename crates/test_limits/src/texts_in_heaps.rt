@@ -1,4 +1,4 @@
-//! Memory that runs out, at each allocation of an assembler and a disassembler.
+//! Memory that runs out at each allocation of the assembler and of the disassembler.
 
 use bpf_asm::{AsmFault, FaultKind, assemble, disassemble};
 use bpf_insn::{Code, encode};
@@ -8,7 +8,7 @@ use std::fmt::Write;
 use std::process::Abort;
 use std::test::Fail;
 
-// A jump to each of some labels, and the labels.
+// A text with several labels and a jump to each of them.
 fn jumps(alloc: Global) -> Result<String, AllocError> {
     let mut text = String::new(alloc);
     for i in 0..20u32 {
@@ -29,7 +29,8 @@ fn same_image<A: Allocator, B: Allocator>(
     Ok(encode(alloc, one)?.as_slice() == encode(alloc, other)?.as_slice())
 }
 
-// The least number of blocks of 16 bytes for assembling a text. Smaller heaps have to refuse it, and to be empty again afterwards.
+// The least number of blocks of 16 bytes in which a text can be assembled. Smaller heaps have to refuse the text and to be
+// empty again afterwards.
 fn blocks_for_text(rt: &(impl Abort + AllocGlobal), text: &str) -> Result<usize, Fail> {
     let want = assemble(rt.alloc(), text)?;
     for blocks in 8..2000 {
@@ -52,7 +53,7 @@ fn blocks_for_text(rt: &(impl Abort + AllocGlobal), text: &str) -> Result<usize,
     Err(Fail::from("no heap is large enough"))
 }
 
-// The number of blocks of 16 bytes that a heap needs for the text of a code.
+// The least number of blocks of 16 bytes in which a code can be disassembled.
 fn blocks_for_code(rt: &(impl Abort + AllocGlobal), code: &Code) -> Result<usize, Fail> {
     let want = disassemble(rt.alloc(), code)?;
     for blocks in 8..2000 {

@@ -1,4 +1,4 @@
-//! Memory that runs out, the memory of states, and comparisons of programs.
+//! Verifications during which memory runs out, the memory that accepted programs keep, and comparisons of programs.
 
 use bpf_asm::assemble;
 use bpf_insn::Code;
@@ -22,7 +22,7 @@ fn jump_over(alloc: Global, count: usize) -> Result<String, AllocError> {
     Ok(text)
 }
 
-// A failed allocation returns the program, and leaves nothing in the heap.
+// After a failed allocation the program is returned, and nothing else is left in the heap.
 #[test]
 fn each_growth_refused(rt: HostRuntime) -> Result<(), Fail> {
     let want = assemble(rt.alloc(), COUNTER)?;
@@ -51,7 +51,7 @@ fn each_growth_refused(rt: HostRuntime) -> Result<(), Fail> {
     Err(Fail::from("no heap is large enough"))
 }
 
-// The same if the states are kept: a copy of a state may fail too.
+// `examine` also copies states, which may fail too. It returns the program, and leaves nothing else in the heap.
 #[test]
 fn each_growth_refused_to_examine(rt: HostRuntime) -> Result<(), Fail> {
     let want = assemble(rt.alloc(), COUNTER)?;
@@ -86,7 +86,7 @@ fn each_growth_refused_to_examine(rt: HostRuntime) -> Result<(), Fail> {
     Err(Fail::from("no heap is large enough"))
 }
 
-// A text of 4,096 units, all of them reached.
+// A text of 4,096 reachable units.
 fn straight_line(alloc: Global) -> Result<String, AllocError> {
     let mut text = String::from_str(alloc, "mov r0, 0\n")?;
     for _ in 0..4094 {
@@ -96,7 +96,8 @@ fn straight_line(alloc: Global) -> Result<String, AllocError> {
     Ok(text)
 }
 
-// The number of bytes that an accepted program keeps in addition to its code. All its states would take 2 MB: the heap has half of that.
+// The number of bytes that an accepted program keeps in addition to its code. All states together would take 2 MB; the heap has
+// half of that.
 fn kept(rt: &impl Abort, alloc: Global, text: &str) -> Result<usize, Fail> {
     let heap = LocalHeap::new(alloc, 1 << 20)?;
     let code = assemble(&heap, text)?;
@@ -108,8 +109,8 @@ fn kept(rt: &impl Abort, alloc: Global, text: &str) -> Result<usize, Fail> {
     Ok(heap.used().saturating_sub(before))
 }
 
-// A unit takes 8 bytes for itself, 8 for its ready form and 24 for the kinds of its registers, and 40 for each new kind. So
-// it takes 80 if each instruction makes a new kind, and 40 if it has no state.
+// A unit takes 8 bytes for itself, 8 for its ready form and 24 for the kinds of its registers, and 40 for each new kind. So it
+// takes 80 bytes if each instruction makes a new kind, and 40 if the unit has no state.
 #[test]
 fn units_take_little(rt: HostRuntime) -> Result<(), Fail> {
     let line = straight_line(rt.alloc())?;
@@ -119,7 +120,7 @@ fn units_take_little(rt: HostRuntime) -> Result<(), Fail> {
     Ok(())
 }
 
-// Returns `true` if a program has the kinds of a state at a unit, or no kinds if there is no state.
+// Returns `true` if a program has the kinds of this state at a unit, or no kinds if there is no state.
 fn has_kinds(verified: &Verified, state: Option<&State>, at: usize) -> bool {
     for register in 0..11u8 {
         let kind = match state {
@@ -133,7 +134,8 @@ fn has_kinds(verified: &Verified, state: Option<&State>, at: usize) -> bool {
     true
 }
 
-// Counts the states of an accepted program. Returns `None` if its kinds at some unit are not those of the state for which it was accepted.
+// Counts the states of an accepted program. Returns `None` if the program's kinds at some unit differ from those of its state
+// there.
 fn count_states(alloc: Global, text: &str) -> Result<Option<usize>, Fail> {
     let Ok(verified) = verify(alloc, assemble(alloc, text)?) else {
         return Err(Fail::from("it is refused"));
@@ -153,7 +155,7 @@ fn count_states(alloc: Global, text: &str) -> Result<Option<usize>, Fail> {
     Ok(Some(count))
 }
 
-// Kinds of a register, with joins, calls, a constant of two units and unreached units.
+// The kinds of a register, with joins, calls, a constant of two units, and unreachable units.
 #[test]
 fn kinds_of_registers(rt: HostRuntime) -> Result<(), Fail> {
     assert_eq!(rt; count_states(rt.alloc(), COUNTER)?, Some(8));

@@ -5,8 +5,8 @@ use sdbm_addr::{Bytes, Mode};
 use std::alloc::{AllocError, Global};
 use store_cmd::{Command, Program, Reply, SharedCommand};
 
-/// The keys, sorted by their bytes, and their hashes. Some differ in their first bits, `0000` and `0808` in the tenth, and `003f`,
-/// `0100` and `3f` only after that.
+/// The keys, sorted by their bytes, and their hashes. Some hashes differ in their first bits. Those of `0000` and `0808` differ
+/// first in the tenth bit, and those of `003f`, `0100` and `3f` only after it.
 pub const KEYS: [(&[u8], u32); 8] = [
     (b"\x00\x00", 0),
     (b"\x00\x3f", 63),
@@ -18,7 +18,7 @@ pub const KEYS: [(&[u8], u32); 8] = [
     (b"\x63", 99),
 ];
 
-/// A run on a key. The program is given by its place among the programs.
+/// A run on a key. The program is given by its index.
 #[derive(Clone, Copy, Debug)]
 pub struct Run {
     pub key: usize,
@@ -28,7 +28,7 @@ pub struct Run {
     pub now: u64,
 }
 
-/// A command on a key. The key is given by its place among `KEYS`.
+/// A command on a key. The key is given by its index in `KEYS`.
 #[derive(Clone, Copy, Debug)]
 pub enum Ask {
     Fetch(usize),
@@ -48,7 +48,7 @@ pub enum Told {
     Exists,
     Crowded,
     Deleted,
-    /// A program's number, and its reply word.
+    /// A program's exit number and its reply word.
     Ran(u64, u64),
     Count(usize),
     /// A value whose bytes after the first eight are not all the same.
@@ -116,7 +116,7 @@ fn command_of(
     }
 }
 
-/// The command as a shared one.
+/// Makes the shared command.
 pub fn shared_of(
     alloc: Global,
     programs: &[Program<Global>],
@@ -128,7 +128,7 @@ pub fn shared_of(
     }
 }
 
-/// The content of a reply.
+/// A reply without the memory that it owns.
 pub fn said_by(reply: &Reply<Global>) -> Told {
     match reply {
         Reply::Found(value) => match value_of(value.as_slice()) {
@@ -167,7 +167,7 @@ fn is_run(command: &Command<Global>, programs: &[Program<Global>], run: Run) -> 
         && *now == run.now
 }
 
-/// Returns `true` if a command is the one of `ask`.
+/// Returns `true` if a command is that of `ask`.
 pub fn is_asked(command: &Command<Global>, programs: &[Program<Global>], ask: Ask) -> bool {
     if let Ask::Run(run) = ask {
         return is_run(command, programs, run);

@@ -11,7 +11,7 @@ fn is_pair(pair: &(Bytes<Global>, Bytes<Global>), key: usize, value: Value) -> b
     pair.0.as_slice() == key_of(key) && is_value(pair.1.as_slice(), value)
 }
 
-/// Returns `true` if pairs are those of the keys that have values, in the order of the keys.
+/// Returns `true` if the pairs are those of the keys that have values, in the order of `KEYS`.
 pub fn are_pairs(pairs: &[(Bytes<Global>, Bytes<Global>)], values: &[Option<Value>]) -> bool {
     let mut rest = pairs.iter();
     for (key, value) in values.iter().enumerate() {
@@ -31,7 +31,7 @@ fn is_entry(entry: &KeptEntry<Global>, programs: &[Program<Global>], own: &Answe
         && said_by(entry.reply()) == own.told
 }
 
-/// Returns `true` if the entries of a trail are those of the model.
+/// Returns `true` if the entries of a trail equal those of the model.
 pub fn are_entries(
     entries: &[KeptEntry<Global>],
     programs: &[Program<Global>],

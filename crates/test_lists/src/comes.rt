@@ -32,7 +32,7 @@ pub enum Comes {
     NoHand,
 }
 
-/// Creates the event.
+/// Makes the desk's event.
 pub fn event_of(
     alloc: Global,
     programs: &[Program<Global>],
@@ -47,7 +47,7 @@ pub fn event_of(
     }
 }
 
-/// The content of an outcome.
+/// An outcome without the memory that it owns.
 pub fn come_of(outcome: &EventOutcome<Global>) -> Comes {
     match outcome {
         EventOutcome::Asked(ticket) => Comes::Asked(ticket.0),

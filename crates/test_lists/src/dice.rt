@@ -6,7 +6,7 @@ use crate::comes::Does;
 use crate::programs::PROGRAMS;
 use crate::values::{Value, same_bytes};
 
-/// Steps of a linear congruential generator, by Knuth's MMIX.
+/// A linear congruential generator with the constants of Knuth's MMIX.
 #[derive(Drop)]
 pub struct Dice {
     pub state: u64,
@@ -26,8 +26,8 @@ impl Dice {
     }
 }
 
-// Sizes whose pairs fit on one page, divide pages, crowd them, or are too large. Next to 600 bytes, with keys of two bytes, 410
-// fill a page and 411 are too many; 1,006 are the most with such a key.
+// Lengths of values whose pairs fit on one page, divide pages, crowd pages, or are too large. With keys of two bytes, a value
+// of 410 bytes still fits next to one of 600, and a value of 411 does not; 1,006 bytes are the maximum.
 const COUNTS: [usize; 8] = [1, 2, 300, 410, 411, 600, 1006, 1008];
 
 fn any_value(dice: &mut Dice) -> Value {
@@ -39,7 +39,7 @@ fn any_value(dice: &mut Dice) -> Value {
 // Lengths of arguments. The last is too long.
 const ARGUMENTS: [usize; 5] = [0, 7, 8, 1024, 1025];
 
-// Lengths of blanks. With keys of two bytes 1,006 are the most, and 1,007 are too large.
+// Lengths of blanks. With keys of two bytes, 1,006 is the maximum and 1,007 is too large.
 const BLANKS: [usize; 8] = [0, 7, 8, 410, 411, 600, 1006, 1007];
 
 fn any_blank(dice: &mut Dice) -> Option<usize> {
@@ -61,7 +61,7 @@ fn any_run(dice: &mut Dice, key: usize) -> Run {
     }
 }
 
-/// Any command.
+/// A random command.
 pub fn any_ask(dice: &mut Dice) -> Ask {
     let key = dice.roll(8) as usize;
     let value = any_value(dice);
@@ -75,7 +75,7 @@ pub fn any_ask(dice: &mut Dice) -> Ask {
     }
 }
 
-/// Any event.
+/// A random event.
 pub fn any_event(dice: &mut Dice) -> Does {
     let ticket = dice.roll(4) as usize;
     match dice.roll(16) {

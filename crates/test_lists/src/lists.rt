@@ -84,7 +84,7 @@ fn play_both(
     Ok(None)
 }
 
-// Does a step on both, and returns the difference, if there is one.
+// Makes a step on both, and returns the difference, if there is one.
 fn step_both(
     alloc: Global,
     programs: &[Program<Global>],
@@ -101,7 +101,7 @@ fn step_both(
     Ok(None)
 }
 
-// Does random steps while the tickets of a list that was played are still open.
+// Makes random steps while the tickets of a list that was played are still open. Returns the first difference, if there is one.
 fn steps_both(
     alloc: Global,
     programs: &[Program<Global>],
@@ -119,7 +119,7 @@ fn steps_both(
     Ok(None)
 }
 
-// Plays a list and its steps, and compares the pairs and entries after them. Returns the first difference, if there is one.
+// Plays a list, makes its steps, and compares the resulting pairs and entries. Returns the first difference, if there is one.
 fn difference(
     alloc: Global,
     programs: &[Program<Global>],
@@ -148,14 +148,14 @@ fn difference(
     Ok(None)
 }
 
-// A database, and the model of it.
+// A database, and its model.
 #[derive(Drop)]
 struct Pair {
     image: Image<Global>,
     store: Store,
 }
 
-// The result of a list: both databases, or the first difference.
+// The result of a list: the database and its model afterwards, or the first difference.
 #[derive(Drop)]
 enum After {
     Same(Pair, Seen),
@@ -209,7 +209,7 @@ fn agreement(alloc: Global, count: usize, seen: Seen) -> Result<String, AllocErr
     format!(in alloc; "{count} lists agree{splits}{crowded}{busy}{saved}{deleted}")
 }
 
-/// Plays random lists, and reports that they agree or the first difference.
+/// Plays random lists. Returns a text that says that they agree, or the first difference.
 pub fn run_lists(
     alloc: Global,
     programs: &[Program<Global>],

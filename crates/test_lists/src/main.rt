@@ -2,10 +2,11 @@
 //!
 //! | Line of standard input | Answer |
 //! |---|---|
-//! | `lists SEED COUNT LENGTH` | `COUNT lists agree`: COUNT random lists of LENGTH events, with five steps after each, on new desks and on a plain model, with the kinds of outcomes among them; or the first difference |
+//! | `lists SEED COUNT LENGTH` | `COUNT lists agree`: COUNT random lists of LENGTH events, with five steps after each, on new desks and on a plain model, and which kinds of outcomes occurred; or the first difference |
 //! | `# TEXT` | the line itself |
 //!
-//! A random list begins with the database that the list before it left, or with an empty one.
+//! The first list begins with an empty database. Each later list begins with the database after the previous list, or with an
+//! empty one.
 #![tactic(auto)]
 
 mod asks;
@@ -35,7 +36,7 @@ fn read_lists(words: &str) -> Option<(u64, usize, usize)> {
     ))
 }
 
-// Reports whether lists of events agree, given their seed, their number and their length.
+// Says whether lists of events agree, given their seed, their number and their length.
 fn show_lists(global: Global, words: &str) -> Result<String, AllocError> {
     let Some(programs) = all_programs(global) else {
         return String::from_str(global, "a program is refused");

@@ -1,4 +1,4 @@
-//! The model of a desk: its database, its open tickets, and the entries.
+//! The model of a desk: its database, its open tickets, and its entries.
 
 use crate::asks::{Ask, Told};
 use crate::comes::{Comes, Does};
@@ -22,7 +22,7 @@ fn go_together(one: Mode, other: Mode) -> bool {
     }
 }
 
-// An open ticket: its session, and its hold on a page.
+// An open ticket: its session, and the hold on its page.
 #[derive(Clone, Copy)]
 struct Open {
     session: u64,
@@ -30,7 +30,7 @@ struct Open {
     mode: Mode,
 }
 
-// A ticket: its hold if it is open, and the command in hand, with whether it was worked.
+// A ticket: its hold if it is open, and the command in hand, which may be computed already.
 #[derive(Clone, Copy)]
 struct Slot {
     open: Option<Open>,
@@ -50,19 +50,19 @@ pub struct Answered {
     pub told: Told,
 }
 
-/// Counts of the outcomes of lists, to show what they cover.
+/// Counts of outcomes, which show what the lists cover.
 #[derive(Clone, Copy)]
 pub struct Seen {
     pub splits: usize,
     pub crowded: usize,
     pub busy: usize,
-    /// Runs that saved or stored a record, and those that deleted one.
+    /// Runs that saved or stored a record, and runs that deleted one.
     pub saved: usize,
     pub deleted: usize,
 }
 
 impl Seen {
-    /// Zero for all.
+    /// All counts are zero.
     pub fn nothing() -> Self {
         Seen {
             splits: 0,
@@ -85,7 +85,7 @@ impl Seen {
     }
 }
 
-/// A desk: closed tickets are used again, the one that was closed last first.
+/// A desk. Closed tickets are used again: the ticket that was closed last comes first.
 #[derive(Drop)]
 pub struct Model {
     pub store: Store,
@@ -135,7 +135,7 @@ impl Model {
         self.limit <= self.entries.len().saturating_add(open)
     }
 
-    // Returns `true` if another ticket than `own` holds a page in a mode that excludes this one.
+    // Returns `true` if a ticket other than `own` holds a page in a mode that excludes this mode.
     fn bars(&self, page: u32, mode: Mode, own: Option<usize>) -> bool {
         for (ticket, slot) in self.slots.iter().enumerate() {
             if let Some(open) = slot.open {
@@ -159,7 +159,7 @@ impl Model {
         Ok(told)
     }
 
-    // Returns `true` if a session's command makes a change.
+    // Returns `true` if a session's command would change its page.
     fn changes(&self, session: u64, ask: Ask) -> bool {
         self.store.answer(session, ask).change.is_some()
     }
@@ -169,7 +169,7 @@ impl Model {
         Comes::AskRefused(AskFault::Busy)
     }
 
-    // The next ticket.
+    // The next ticket to open.
     fn next_ticket(&mut self) -> Result<usize, AllocError> {
         if let Some(ticket) = self.closed.pop() {
             return Ok(ticket);
@@ -202,7 +202,7 @@ impl Model {
         Ok(Comes::Asked(ticket))
     }
 
-    /// The outcome of a step.
+    /// Makes a step and returns its outcome.
     pub fn steps(&mut self, session: u64, ask: Ask) -> Result<Comes, AllocError> {
         if let Some(fault) = size_fault(ask) {
             return Ok(Comes::AskRefused(fault));
@@ -275,7 +275,7 @@ impl Model {
         Ok(Comes::Abandoned)
     }
 
-    /// The outcome of an event.
+    /// Plays an event and returns its outcome.
     pub fn happens(&mut self, does: Does) -> Result<Comes, AllocError> {
         match does {
             Does::Ask(session, ask) => self.asks(session, ask),

@@ -10,7 +10,7 @@ use store_cmd::Program;
 /// The number of programs.
 pub const PROGRAMS: usize = 6;
 
-// `end_of` has their results, in the same order.
+// The texts of the programs. `end_of` computes their results, in the same order.
 const TEXTS: [&str; PROGRAMS] = [
     "jlt r2, 8, +7\nldxdw r6, [r1+0]\nadd r6, 1\nstxdw [r1+0], r6\nmov r1, r6\ncall 1\nmov r0, 1\nexit\nmov r0, 0\nexit",
     "mov r0, 2\nexit",
@@ -30,7 +30,7 @@ pub struct Given {
     pub who: u64,
 }
 
-/// The end of a program: its number, its reply word and the value.
+/// The end of a program: its exit number, its reply word and the value.
 #[derive(Clone, Copy)]
 pub struct End {
     pub code: u64,
@@ -57,7 +57,7 @@ fn with_head(value: Value, head: u64) -> Value {
     Value { head, ..value }
 }
 
-// Adds 1 to the number in the first eight bytes, and replies it.
+// Adds 1 to the number in the first eight bytes, and returns it as the reply word.
 fn count_up(given: Given) -> End {
     let value = given.value;
     if value.count < 8 {
@@ -80,7 +80,7 @@ fn ended(code: u64, word: u64, value: Value) -> End {
     End { code, word, value }
 }
 
-/// The end of the program with this place.
+/// The end of the program with this index.
 pub fn end_of(program: usize, given: Given) -> End {
     let present = u64::from(given.present);
     let value = given.value;

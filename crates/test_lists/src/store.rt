@@ -6,14 +6,14 @@ use crate::values::{Value, same_bytes};
 use desk_core::AskFault;
 use std::alloc::{AllocError, Global};
 
-/// A value for each key, and the prefixes that were split, each as its length and its number.
+/// A value for each key, and the prefixes that were split, each as its length and its bits.
 #[derive(Drop)]
 pub struct Store {
     pub values: [Option<Value>; 8],
     splits: Vec<(u32, u32)>,
 }
 
-// The lowest bits of a hash, at most 31 of them.
+// The lowest bits of a hash, at most 31 bits.
 fn low(hash: u32, bits: u32) -> u32 {
     if bits > 31 {
         return hash;
@@ -35,7 +35,7 @@ fn length_of(key: usize) -> usize {
     }
 }
 
-// The bytes of a pair on a page, with its two offsets.
+// The room that a pair takes on a page, with its two offsets.
 fn taken_by(key: usize, value: Value) -> usize {
     length_of(key).saturating_add(value.count).saturating_add(4)
 }
@@ -44,7 +44,8 @@ fn is_too_large(key: usize, count: usize) -> bool {
     length_of(key).saturating_add(count) > 1008
 }
 
-/// Why a command is refused for a size. The size of the pair, if it may store one, is checked before that of the argument.
+/// The fault of a command's size, or `None` if the size is valid. If the command may store a pair, the pair's size is checked
+/// before the argument's.
 pub fn size_fault(ask: Ask) -> Option<AskFault> {
     let (pair, arg) = match ask {
         Ask::Insert(key, value) | Ask::Replace(key, value) => (is_too_large(key, value.count), 0),
@@ -63,7 +64,7 @@ pub fn size_fault(ask: Ask) -> Option<AskFault> {
     None
 }
 
-/// The answer to a command: the reply, and the change of one key to a value or to none.
+/// The answer to a command: the reply, and the new value of one key, if a value changes.
 #[derive(Clone, Copy)]
 pub struct Answer {
     pub told: Told,
@@ -82,7 +83,7 @@ fn changed(told: Told, key: usize, value: Option<Value>) -> Answer {
 }
 
 impl Store {
-    /// No values and no splits.
+    /// A database without values and splits.
     pub fn empty(alloc: Global) -> Self {
         Store {
             values: [None; 8],
@@ -90,7 +91,7 @@ impl Store {
         }
     }
 
-    // The number of bits of a hash that lead to its page.
+    // The depth of the place to which a hash leads.
     fn depth(&self, hash: u32) -> u32 {
         for bits in 0..32 {
             if !self.splits.contains(&(bits, low(hash, bits))) {
@@ -115,7 +116,7 @@ impl Store {
         self.values.iter().filter(|value| value.is_some()).count()
     }
 
-    // The bytes of all other keys whose hashes have the same last `bits` bits.
+    // The room that the pairs of all other keys take whose hashes have the same lowest `bits` bits.
     fn taken(&self, key: usize, bits: u32) -> usize {
         let own = low(hash_of(key), bits);
         let mut taken = 0usize;
@@ -141,7 +142,7 @@ impl Store {
         None
     }
 
-    // The answer to a new pair. If there is room, the reply is `told`.
+    // The answer to a store of a new pair: `told` if there is room, otherwise `Crowded`.
     fn stored(&self, told: Told, key: usize, value: Value) -> Answer {
         match self.splits_for(key, value) {
             Some(_) => changed(told, key, Some(value)),
@@ -202,7 +203,7 @@ impl Store {
         }
     }
 
-    // Splits `more` prefixes of a key's hash, beginning with its page.
+    // Splits `more` prefixes of a key's hash, beginning at the depth of its place.
     fn split(&mut self, key: usize, more: u32) -> Result<(), AllocError> {
         let hash = hash_of(key);
         let depth = self.depth(hash);

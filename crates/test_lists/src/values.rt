@@ -5,8 +5,9 @@ use std::alloc::{AllocError, Global};
 // The number of bytes of the head.
 const HEAD: usize = 8;
 
-/// A value: its first eight bytes as a number, lowest byte first, and the byte that all further ones are equal to. If it has fewer bytes,
-/// the number's other bytes are zeros; if it has no further bytes, `byte` is zero.
+/// A value whose bytes after the first eight are all equal. It stores the first eight bytes as a number, lowest byte first, the
+/// number of all bytes, and the equal byte. Missing bytes of the number are zeros, and `byte` is zero if the value has at most
+/// eight bytes.
 #[derive(Clone, Copy, Debug, PartialEq, Eq)]
 pub struct Value {
     pub head: u64,
@@ -23,7 +24,7 @@ fn number_of(bytes: &[u8]) -> u64 {
     number
 }
 
-/// The byte `byte`, `count` times.
+/// The value of `count` bytes that are all `byte`.
 pub fn same_bytes(byte: u8, count: usize) -> Value {
     let head = [byte; HEAD];
     Value {
@@ -43,7 +44,7 @@ pub fn bytes_of(alloc: Global, value: Value) -> Result<Vec<u8>, AllocError> {
     Ok(bytes)
 }
 
-/// The value of some bytes. Returns `None` if those after the first eight are not all the same.
+/// The value of a byte string. Returns `None` if the bytes after the first eight are not all the same.
 pub fn value_of(bytes: &[u8]) -> Option<Value> {
     let (head, rest) = bytes.split_at(bytes.len().min(HEAD));
     let byte = rest.first().copied().unwrap_or(0);
@@ -59,7 +60,7 @@ pub fn value_of(bytes: &[u8]) -> Option<Value> {
     })
 }
 
-/// Returns `true` if bytes are those of a value.
+/// Returns `true` if the bytes are those of a value.
 pub fn is_value(bytes: &[u8], value: Value) -> bool {
     value_of(bytes) == Some(value)
 }

@@ -5,17 +5,17 @@
 ; Argument, 16 bytes: the number of the caller, and the duration from now; 0 releases the lease.
 ;
 ; Code 1: granted, and the reply word is the token; or released or over, and the word is 0.
-; Code 0: another owner has the lease until the time in the reply word; or a length is too short,
-; and the word is 0.
+; Code 0: another owner has the lease until the time in the reply word.
 ; Code 3: the tokens are used up, after 2^64 - 1 of them.
+; Code 4: the record or the argument is too short.
 ;
 ; The first token is 1. An owner that renews the lease before its end keeps the token; any other
 ; grant has a greater one. Send the token with each request to the resource that the lease protects,
 ; and let the resource refuse every token that is lower than one it has seen.
 ; A lease ends at 2^64 - 1 at the latest: at that time all have ended, and anyone may take one.
 
-    jlt r2, 24, leave       ; R2 is the record's length
-    jlt r4, 16, leave       ; R4 is the argument's length
+    jlt r2, 24, short       ; R2 is the record's length
+    jlt r4, 16, short       ; R4 is the argument's length
     mov r6, r1              ; a call leaves R1 to R5 unset
     ldxdw r7, [r3]          ; the caller
     ldxdw r8, [r3+8]        ; the duration
@@ -63,6 +63,6 @@ used_up:
     mov r0, 3               ; change nothing
     exit
 
-leave:
-    mov r0, 0               ; change nothing
+short:
+    mov r0, 4               ; change nothing
     exit

@@ -3,10 +3,11 @@
 ; Record, 64 bytes: eight numbers of 8 bytes each, the lowest byte first.
 ; Argument, 1 byte or more: the lowest three bits of the first byte are the index of the number.
 ;
-; Code 1: it was counted. Code 0: a length is too short. The reply word is the number's new value.
+; Code 1: it was counted. The reply word is the number's new value.
+; Code 4: the record or the argument is too short.
 
-    jlt r2, 64, leave       ; R2 is the record's length
-    jlt r4, 1, leave        ; R4 is the argument's length
+    jlt r2, 64, short       ; R2 is the record's length
+    jlt r4, 1, short        ; R4 is the argument's length
     ldxb r6, [r3]
     and r6, 7               ; 0 to 7
     lsh r6, 3               ; 0 to 56, in steps of 8
@@ -19,6 +20,6 @@
     mov r0, 1               ; save the record
     exit
 
-leave:
-    mov r0, 0               ; change nothing
+short:
+    mov r0, 4               ; change nothing
     exit

@@ -6,7 +6,7 @@ use bpf_machine::{Checked, run, run_checked};
 use bpf_verify::{Verified, verify};
 use std::alloc::{AllocError, Global};
 
-/// The number of runs that were the same on both machines, and of those that were not.
+/// The number of runs that were the same on both machines, and the number of runs that were not.
 #[derive(Clone, Copy)]
 pub struct Tally {
     pub alike: u64,
@@ -54,7 +54,7 @@ pub fn is_alike(
     Ok(same && ended.steps <= steps)
 }
 
-/// Runs a program on a record and an argument, and on variants of them.
+/// Runs a program on a record and an argument, and on variants of these and of the environment. Counts the runs.
 pub fn count_runs(
     alloc: Global,
     program: &Verified,
@@ -83,7 +83,7 @@ pub fn count_runs(
     Ok(())
 }
 
-/// Changes each byte of a program's image in turn, and runs what is accepted.
+/// Changes each byte of a program's image in turn, runs the changed program if it is accepted, and counts the runs.
 pub fn count_changed(
     alloc: Global,
     program: &Verified,

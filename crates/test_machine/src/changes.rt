@@ -1,4 +1,4 @@
-//! All changes of one byte of an image, run on records of several lengths.
+//! All changes of one byte of an image, and runs of the changed images on records of several lengths.
 
 use crate::both::is_alike;
 use crate::lines::UNREAD;
@@ -11,14 +11,14 @@ use std::alloc::{AllocError, Global};
 // The lengths of the records, which are zeros.
 const LENGTHS: [usize; 5] = [0, 7, 8, 1008, 8008];
 
-// The results of the images.
+// The numbers of images with each result.
 #[derive(Clone, Copy)]
 struct Changes {
-    // Not decoded.
+    // cannot be decoded
     undecoded: u64,
-    // Not accepted.
+    // decoded, but not accepted
     refused: u64,
-    // Accepted, run to an end within their lengths, and the same on both machines.
+    // accepted, and every run ends within the program's length and is the same on both machines
     alike: u64,
     unlike: u64,
 }
@@ -41,7 +41,7 @@ fn is_alike_on_all(alloc: Global, program: &Verified, zeros: &[u8]) -> Result<bo
     Ok(true)
 }
 
-// Examines an image.
+// Counts an image by its result.
 fn count_image(
     alloc: Global,
     image: &[u8],
@@ -64,7 +64,7 @@ fn count_image(
     Ok(())
 }
 
-// Tries every other value of one byte of an image.
+// Counts the images with every other value of one byte.
 fn count_byte(
     alloc: Global,
     image: &mut Vec<u8>,
@@ -87,7 +87,7 @@ fn count_byte(
     Ok(())
 }
 
-// Reports all changes of one byte of a text's image.
+// Reports the results of all changes of one byte of a text's image.
 fn changes_text(alloc: Global, text: &str) -> Option<String> {
     let text = text.replace(alloc, " / ", "\n").ok()?;
     let code = assemble(alloc, text.as_str()).ok()?;
@@ -113,7 +113,7 @@ fn changes_text(alloc: Global, text: &str) -> Option<String> {
     ).ok()
 }
 
-/// Reports all changes of one byte of a text's image, or that the text cannot be read.
+/// Reports the results of all changes of one byte of a text's image, or that the text cannot be read.
 pub fn show_changes(alloc: Global, text: &str) -> Result<String, AllocError> {
     match changes_text(alloc, text) {
         Some(said) => Ok(said),

@@ -1,4 +1,4 @@
-//! Verdicts, and runs of accepted programs, with the value of the key afterwards.
+//! Verdicts on programs, and runs of accepted programs with the value of the key afterwards.
 
 use crate::lines::Input;
 use bpf_asm::assemble;
@@ -7,7 +7,7 @@ use bpf_machine::{Ended, run};
 use bpf_verify::{Verified, verify};
 use std::alloc::{AllocError, Global};
 
-// The program of a text, or why it is refused.
+// The accepted program of a text, or the reason why it is refused.
 fn accepted(alloc: Global, text: &str) -> Result<Result<Verified, String>, AllocError> {
     let code = match assemble(alloc, text) {
         Ok(code) => code,
@@ -29,7 +29,7 @@ pub fn show_verdict(alloc: Global, text: &str) -> Result<String, AllocError> {
     }
 }
 
-// The value of a key: bytes, which may be empty, or no value.
+// A value as text: bytes, which may be empty, or `none` if the key has no value.
 fn show_value(alloc: Global, value: Option<&[u8]>) -> Result<String, AllocError> {
     match value {
         None => String::from_str(alloc, "none"),
@@ -38,7 +38,7 @@ fn show_value(alloc: Global, value: Option<&[u8]>) -> Result<String, AllocError>
     }
 }
 
-// The end of a run: its answer, and the value of the key once the code has been obeyed.
+// The outcome of a run: its answer, and the value of the key after the exit number has taken effect.
 fn show_end(
     alloc: Global,
     end: Ended,
@@ -59,7 +59,7 @@ fn show_end(
     )
 }
 
-/// Runs a text on a record, or reports why it is refused.
+/// Runs a text on a record. If the text is refused, returns the reason.
 pub fn show_example(alloc: Global, text: &str, input: Input) -> Result<String, AllocError> {
     let program = match accepted(alloc, text)? {
         Ok(program) => program,

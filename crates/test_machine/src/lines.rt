@@ -16,7 +16,7 @@ pub struct Input {
     pub argument: Vec<u8>,
 }
 
-/// Bytes, with zeros after them.
+/// Reads bytes that may be followed by a number of zeros.
 pub fn read_bytes(alloc: Global, word: &str) -> Option<Vec<u8>> {
     let (digits, zeros) = match word.split_once('+') {
         Some((digits, zeros)) => (digits, zeros.parse::<u16>().ok()?),
@@ -30,7 +30,7 @@ pub fn read_bytes(alloc: Global, word: &str) -> Option<Vec<u8>> {
     Some(bytes)
 }
 
-// The environment for the helpers, and the rest of the words.
+// Reads the environment for the helpers. Also returns the rest of the words.
 fn read_env(words: &str) -> Option<(Env, &str)> {
     let (now, rest) = words.split_once(' ')?;
     let (key, rest) = rest.split_once(' ')?;
@@ -48,7 +48,7 @@ fn read_env(words: &str) -> Option<(Env, &str)> {
     Some((env, rest))
 }
 
-/// The input of a program, and the rest of the words.
+/// Reads the input of a program. Also returns the rest of the words.
 pub fn read_input(alloc: Global, words: &str) -> Option<(Input, &str)> {
     let (bytes, rest) = words.split_once(' ')?;
     let (argument, rest) = rest.split_once(' ')?;
@@ -76,7 +76,7 @@ fn read_program(alloc: Global, kind: &str, program: &str) -> Option<Code> {
     }
 }
 
-/// A program, given as a `kind`, and its input.
+/// Reads a program of the given kind, and its input.
 pub fn read_run(alloc: Global, kind: &str, words: &str) -> Option<(Code, Input)> {
     let (input, program) = read_input(alloc, words)?;
     Some((read_program(alloc, kind, program)?, input))

@@ -1,4 +1,4 @@
-//! Computes knowledge of numbers and runs programs on records as lines request, and measures both machines.
+//! Computes knowledge of numbers, runs programs on records, and measures both machines, as the lines of standard input request.
 //!
 //! Each line of standard input is a case. Its first word is the kind.
 //!
@@ -6,10 +6,10 @@
 //! |---|---|
 //! | `image RECORD ARGUMENT NOW KEY WHO IMAGE` | `ended CODE WORD STEPS RECORD` on the checked machine, or `stuck AT RECORD` |
 //! | `text RECORD ARGUMENT NOW KEY WHO TEXT` | the same for a text, with ` / ` instead of line feeds |
-//! | `changes TEXT` | for all images that differ from a text's in one byte: how many are invalid, how many are refused, and how many are alike and unlike on both machines on records of 0, 7, 8, 1,008 and 8,008 zeros, within their lengths |
-//! | `file RECORD ARGUMENT NOW KEY WHO NAME` | `code CODE, word WORD, STEPS steps, VALUE` for the program in a file of `data/`, or why it is refused |
+//! | `changes TEXT` | for all images that differ from a text's in one byte: the numbers of those that are invalid, that are refused, and that run alike and not alike on both machines on records of 0, 7, 8, 1,008 and 8,008 zeros |
+//! | `file RECORD ARGUMENT NOW KEY WHO NAME` | `code CODE, word WORD, STEPS steps, VALUE` for the program in a file of `data/`, or its refusal |
 //! | `example RECORD ARGUMENT NOW KEY WHO TEXT` | the same for a text |
-//! | `verdict TEXT` | `accepted`, or why the text is refused |
+//! | `verdict TEXT` | `accepted`, or the refusal of the text |
 //! | `MACHINE counter ROUNDS` | the steps and a sum of the results of ROUNDS runs of a program that adds 1 to a record of 8 bytes; `MACHINE` is `run` or `run_checked` |
 //! | `MACHINE line LENGTH ROUNDS` | the same for a straight line of LENGTH instructions, at least 4: arithmetic on two registers |
 //! | `MACHINE image RECORD ARGUMENT IMAGE ROUNDS` | the same for an accepted image; each run begins with that record |
@@ -24,17 +24,19 @@
 //! | `helper NUMBER` | the knowledge of the number that a helper returns, or `never` if there is no such helper |
 //! | `# WORDS` | the line itself |
 //!
-//! Bytes are in hex, `.` is the empty string, and `+N` after bytes means N more zeros. The printed record is the one that the run left,
-//! with its last zeros written so. `KEY` is `there`, or `absent`, in which case the record of an example is zeros. `VALUE` is the value of
-//! the key once the code has been obeyed: bytes, or `none`; such a program is verified before it runs. A range is `LO..HI`, knowledge is
-//! `LO..HI,VALUE,UNKNOWN`, and an edge is `taken` or `untaken`. Operations and tests have the names of the assembler.
+//! Bytes are in hex, `.` is the empty string, and `+N` after bytes means N more zeros. The printed record is the one that the
+//! run left, and its last zeros are written in this form. `KEY` is `there` or `absent`; if it is `absent`, the record of an
+//! example is zeros. `VALUE` is the value of the key after the exit number has taken effect: bytes, or `none`. Such a program
+//! is verified before it runs. A range is `LO..HI`, knowledge is `LO..HI,VALUE,UNKNOWN`, and an edge is `taken` or `untaken`.
+//! Operations and tests have the names of the assembler.
 //!
-//! The first 112 images were answered by an independent machine that tests everything, and the 402 after them by an independent
-//! implementation of the meaning of a run of an accepted program. The last 51 texts were answered by a model in Python. The other texts
-//! were worked out by hand from the rules of a step, and so were the examples, whose steps a separate interpreter counted. The first 48
-//! lines of `transfer`, 56 of `refine`, 18 of `known` and 4 of `join` have the answers of an independent implementation of the rules. The
-//! rest have those of a second one, which agrees with it on these; 15 lines, up to the helpers, were worked out by hand. The last 83 lines
-//! of ranges have the answers of a third one, which agrees on all the rest: each is a case that a correct but less precise answer would
+//! The first 112 images have the answers of an independent machine that tests everything. The next 402 have those of an
+//! independent implementation of the meaning of a run of an accepted program. The last 51 texts have the answers of a model in
+//! Python. The other texts were worked out by hand from the rules of a step. So were the examples; a separate interpreter
+//! counted their steps. The first 48 lines of `transfer`, 56 of `refine`, 18 of `known` and 4 of `join` have the answers of an
+//! independent implementation of the rules. The rest have those of a second implementation, which agrees with the first on
+//! these lines; 15 lines, up to the helpers, were worked out by hand. The last 83 lines of ranges have the answers of a third
+//! implementation, which agrees on all other lines. Each of the 83 lines is a case that a correct but less precise answer would
 //! miss.
 #![tactic(auto)]
 
@@ -57,7 +59,7 @@ use std::alloc::{AllocError, Global};
 use std::rt::{Clock, Files};
 use std::{fs, io};
 
-// The text of a program, which is written on one line or in a file.
+// The text of a program, which is given on one line or in a file.
 fn program_text<R: Files + AllocGlobal>(rt: &R, word: &str, program: &str) -> io::Result<String> {
     match word {
         "file" => fs::read_to_string(rt, program),

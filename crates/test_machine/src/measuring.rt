@@ -26,12 +26,12 @@ struct Measurement {
     program: Verified,
     bytes: Vec<u8>,
     argument: Vec<u8>,
-    // Each run begins with the same record.
+    // true if each run begins with the same record
     again: bool,
     rounds: u64,
 }
 
-/// The totals of the rounds.
+/// The sums over all rounds.
 #[derive(Clone, Copy)]
 struct Total {
     steps: u64,
@@ -45,7 +45,7 @@ const ENV: Env = Env {
     who: 3,
 };
 
-// One run, on the machine that tests nothing or on the one that tests everything. Returns the steps and the result.
+// Runs a program once, on the machine without tests or on the machine that tests everything. Returns the steps and the result.
 fn run_once(asked: &Measurement, bytes: &mut [u8]) -> Option<(u64, u64)> {
     if bytes.len() > RECORD_LIMIT || asked.argument.len() > ARGUMENT_LIMIT {
         return None;
@@ -83,7 +83,7 @@ fn run_rounds(rt: &impl Clock, alloc: Global, asked: &Measurement) -> io::Result
     Ok(total)
 }
 
-// Verifies a program once in each round. Its units count as steps.
+// Verifies a program once in each round. Counts its units as steps.
 fn verify_rounds(rt: &impl Clock, alloc: Global, asked: &Measurement) -> io::Result<Total> {
     let image = encode(alloc, asked.program.code())?;
     let mut total = Total {

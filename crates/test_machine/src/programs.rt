@@ -1,4 +1,4 @@
-//! The programs for measurements.
+//! The programs that are measured.
 
 use bpf_asm::assemble;
 use bpf_verify::{Verified, verify};

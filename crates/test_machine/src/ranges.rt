@@ -1,4 +1,4 @@
-//! Knowledge of numbers.
+//! Answers to the lines about ranges and knowledge of numbers.
 
 mod names;
 mod words;

@@ -1,4 +1,4 @@
-//! Runs on the checked machine, and of accepted programs on both.
+//! Runs on the checked machine, and runs of accepted programs on both machines.
 
 use crate::both::{Tally, count_changed, count_runs};
 use crate::lines::{Input, UNREAD, read_run};
@@ -8,7 +8,7 @@ use bpf_machine::{Checked, run_checked};
 use bpf_verify::{Verified, verify};
 use std::alloc::{AllocError, Global};
 
-// Bytes in hex, with the number of zeros at their end.
+// Bytes in hex, with the zeros at their end as a number.
 fn show_bytes(alloc: Global, bytes: &[u8]) -> Result<String, AllocError> {
     let all = hex::encode(alloc, bytes)?;
     let digits = all.as_str().trim_end_matches("00");
@@ -42,7 +42,8 @@ fn show_checked(
     }
 }
 
-// The answer of the checked machine to an accepted program. Also runs it and variants on both machines, and reports differences.
+// The answer of the checked machine to an accepted program. Also says whether the program and variants of it run alike on both
+// machines.
 fn show_both(
     alloc: Global,
     program: &Verified,
@@ -61,7 +62,7 @@ fn show_both(
     format!(in alloc; "{answer}, unlike in {} runs", tally.unlike)
 }
 
-// The result of a code.
+// The result of running a code.
 fn show_code(alloc: Global, code: Code, input: Input) -> Result<String, AllocError> {
     let Input {
         env,
@@ -74,7 +75,7 @@ fn show_code(alloc: Global, code: Code, input: Input) -> Result<String, AllocErr
     }
 }
 
-/// The result of a run. The program is given as a `kind`.
+/// The result of running a program of the given kind.
 pub fn show_run(alloc: Global, kind: &str, words: &str) -> Result<String, AllocError> {
     match read_run(alloc, kind, words) {
         Some((code, input)) => show_code(alloc, code, input),

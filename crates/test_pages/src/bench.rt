@@ -7,14 +7,14 @@ use sdbm_dir::Dir;
 use sdbm_page::Page;
 use std::alloc::{Allocator, Global};
 
-/// A directory, and a page with a copy and its list.
+/// A directory; a page and the list of its pairs; and a copy of the page.
 #[derive(Drop)]
 pub struct Bench<'h, A: Allocator> {
     /// The allocator of texts.
     pub global: Global,
     /// The allocator of the tested code.
     pub alloc: A,
-    /// The heap of that allocator, if it can run out.
+    /// The heap of `alloc`, if its memory can run out.
     pub heap: Option<&'h LocalHeap>,
     /// Blocks that fill the heap.
     pub blocks: Vec<Vec<u8, &'h LocalHeap>>,

@@ -1,4 +1,4 @@
-//! Places in directories of known bits, and the bytes of these directories.
+//! Places in directories of known bits, and the bytes of the directories.
 
 use crate::bench::Bench;
 use sdbm_dir::{Dir, DirFault, Place};
@@ -6,7 +6,7 @@ use std::alloc::{AllocError, Allocator, Global};
 use std::fmt::Write;
 use test_support::{read_file, show_file};
 
-// Splits the place to which a hash leads, and returns its bit.
+// Splits the place of a hash, and returns the bit that is set.
 fn split<A: Allocator>(dir: &mut Dir<A>, hash: u32) -> Result<Option<u32>, AllocError> {
     let place = dir.place(hash);
     if place.depth > 30 {

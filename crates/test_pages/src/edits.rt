@@ -1,4 +1,4 @@
-//! Generated edits of a page and of the list of its pairs.
+//! Generated edits, made both on a page and on the list of its pairs.
 
 use crate::list_page::ListPage;
 use crate::page_edits::{add_if_room, empty_page, has_room, place_of, take_out};
@@ -30,7 +30,7 @@ fn edit_both(page: &mut Page<Global>, list: &mut ListPage, number: u64) -> Resul
     Ok(())
 }
 
-// Returns `true` if a page equals its list, has as much room, and finds a key in the same place.
+// Returns `true` if a page equals its list, has as much room, and finds a key at the same index.
 fn agree(page: &Page<Global>, list: &ListPage, number: u64) -> Result<bool, AllocError> {
     let need = (number >> 52) as usize;
     if has_room(page, need) != list.fits(need) {
@@ -42,7 +42,7 @@ fn agree(page: &Page<Global>, list: &ListPage, number: u64) -> Result<bool, Allo
     list.is(page)
 }
 
-// Makes `count` edits, and returns the last number. Returns `None` if the page differs from its list.
+// Makes `count` edits, and returns the last pseudo-random number. Returns `None` if the page differs from its list.
 fn edit_all(
     page: &mut Page<Global>,
     list: &mut ListPage,
@@ -69,7 +69,7 @@ fn edited(global: Global, size: PageSize, first: u64, count: usize) -> Result<St
     }
 }
 
-/// The result of edits.
+/// Returns the result of generated edits as text.
 pub fn edits_text(global: Global, rest: &str) -> Option<String> {
     let (size, rest) = cut(rest);
     let (first, count) = cut(rest);

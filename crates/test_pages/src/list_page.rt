@@ -1,9 +1,10 @@
-//! A page as the list of its pairs, written after the rules alone. The page in bytes has to agree with it.
+//! A model of a page: the list of its pairs, implemented from the rules of the format alone. A page has to agree with its
+//! model.
 use sdbm_addr::{Bytes, PageSize};
 use sdbm_page::Page;
 use std::alloc::{AllocError, Allocator, Global};
 
-/// A page's pairs in their order.
+/// The pairs of a page, in their order.
 #[derive(Drop)]
 pub struct ListPage {
     alloc: Global,
@@ -21,12 +22,12 @@ impl ListPage {
         }
     }
 
-    /// The place of a key's pair.
+    /// The index of a key's pair.
     pub fn find(&self, key: &[u8]) -> Option<usize> {
         self.pairs.iter().position(|pair| pair.0.as_slice() == key)
     }
 
-    /// Returns `true` if a pair of `need` bytes fits: with two offsets, next to the other pairs and the count.
+    /// Returns `true` if a pair of `need` bytes fits on the page, with its two offsets, the other pairs and the count.
     pub fn fits(&self, need: usize) -> bool {
         let mut taken = 2usize;
         for (key, value) in &self.pairs {
@@ -38,7 +39,7 @@ impl ListPage {
         taken.saturating_add(need).saturating_add(4) <= self.size.bytes()
     }
 
-    /// Adds a pair as the last one.
+    /// Appends a pair.
     pub fn add(&mut self, key: &[u8], value: &[u8]) -> Result<(), AllocError> {
         let key = Bytes::from_slice(self.alloc, key)?;
         let value = Bytes::from_slice(self.alloc, value)?;
@@ -48,7 +49,7 @@ impl ListPage {
         }
     }
 
-    /// Removes the pair at a place.
+    /// Removes the pair at an index.
     pub fn remove(&mut self, i: usize) {
         if i < self.pairs.len() {
             let _pair = self.pairs.remove(i);
@@ -73,7 +74,7 @@ impl ListPage {
         Ok(bytes)
     }
 
-    /// Returns `true` if a page has the same pairs in the same places, and the same bytes.
+    /// Returns `true` if a page has the same pairs in the same order, and the same bytes.
     pub fn is<A: Allocator>(&self, page: &Page<A>) -> Result<bool, AllocError> {
         if page.page_size() != self.size || page.len() != self.pairs.len() {
             return Ok(false);
@@ -88,12 +89,12 @@ impl ListPage {
     }
 }
 
-// A number of a page's index, lowest byte first.
+// The two bytes of a number in the page's index, lowest byte first.
 fn two_bytes(number: usize) -> [u8; 2] {
     u16::try_from(number).unwrap_or(0).to_le_bytes()
 }
 
-// Overwrites bytes with a part, as far as it fits.
+// Overwrites bytes with `part`, from `at` on, as far as it fits.
 fn put(bytes: &mut [u8], at: usize, part: &[u8]) {
     for (i, byte) in part.iter().enumerate() {
         if let Some(place) = bytes.get_mut(at.saturating_add(i)) {

@@ -1,10 +1,10 @@
-//! Edits of pages.
+//! Edits of a page that first check their conditions.
 
 use sdbm_addr::PageSize;
 use sdbm_page::Page;
 use std::alloc::{AllocError, Allocator};
 
-/// Adds a pair if it fits on the page, and returns whether it did.
+/// Adds a pair if it fits on the page. Returns `true` if the pair was added.
 pub fn add_if_room<A: Allocator + Copy>(page: &mut Page<A>, key: &[u8], value: &[u8]) -> bool {
     let limit = page.page_size().pair_limit();
     if key.len() > limit || value.len() > limit - key.len() {
@@ -27,12 +27,12 @@ pub fn has_room<A: Allocator>(page: &Page<A>, count: usize) -> bool {
     page.fits(count)
 }
 
-/// The place of a key's pair.
+/// The index of a key's pair.
 pub fn place_of<A: Allocator>(page: &Page<A>, key: &[u8]) -> Option<usize> {
     page.find(key)
 }
 
-/// Removes the pair at a place, and returns whether there was one.
+/// Removes the pair at an index. Returns `false` if there is no such pair.
 pub fn take_out<A: Allocator>(page: &mut Page<A>, i: usize) -> bool {
     if i >= page.len() {
         return false;

@@ -1,4 +1,4 @@
-//! Pages: their pairs and places, writes in place, their room, and their bytes.
+//! Pages: their pairs and the indices of these, writes in place, their room, and their bytes.
 
 use crate::bench::Bench;
 use crate::edits::edits_text;
@@ -10,7 +10,7 @@ use std::alloc::{AllocError, Allocator, Global};
 use std::mem;
 use test_support::{bytes_of, cut, number, read_file, read_size, show_bytes, show_file};
 
-// Returns `true` if two pages have the same size and the same pairs in the same places.
+// Returns `true` if two pages have the same size and the same pairs in the same order.
 fn are_equal<A: Allocator>(a: &Page<A>, b: &Page<A>) -> bool {
     if a.page_size() != b.page_size() || a.len() != b.len() {
         return false;
@@ -34,7 +34,7 @@ pub fn show_pairs_of<A: Allocator>(out: &mut String, page: &Page<A>) -> Result<(
     Ok(())
 }
 
-// Writes a byte as the first of a value, and returns whether there is such a value.
+// Overwrites the first byte of a value. Returns `false` if there is no such value or it is empty.
 fn put_first<A: Allocator>(page: &mut Page<A>, i: usize, byte: u8) -> bool {
     if i >= page.len() {
         return false;
@@ -48,7 +48,7 @@ fn put_first<A: Allocator>(page: &mut Page<A>, i: usize, byte: u8) -> bool {
     }
 }
 
-/// The page of some bytes. Returns `None` unless they have the length of a page of that size.
+/// Reads bytes as a page. Returns `None` if their number is not that of a page of this size.
 pub fn read_page<A: Allocator + Copy>(
     alloc: A,
     bytes: &[u8],
@@ -79,7 +79,7 @@ fn empty<A: Allocator + Copy>(bench: &mut Bench<A>, size: &str) -> Option<String
     String::from_str(bench.global, text).ok()
 }
 
-// Puts the page of bytes on the bench.
+// Reads bytes as a page and puts it on the bench.
 fn put_read<A: Allocator + Copy>(
     bench: &mut Bench<A>,
     bytes: &[u8],
@@ -94,7 +94,7 @@ fn put_read<A: Allocator + Copy>(
     }
 }
 
-/// The bytes of a page, and its size.
+/// Reads the bytes of a page, and its size.
 pub fn read_page_bytes(global: Global, rest: &str) -> Option<(Vec<u8>, PageSize)> {
     let (size, segments) = cut(rest);
     let size = read_size(size)?;
@@ -209,7 +209,7 @@ fn same<A: Allocator>(bench: &Bench<A>) -> Option<String> {
     said(bench.global, same, "the same", "others")
 }
 
-// Describes a page. The word says which part.
+// The answer to a line about the page on the bench.
 fn told<A: Allocator>(bench: &Bench<A>, word: &str, rest: &str) -> Option<String> {
     let page = bench.page.as_ref()?;
     match word {

@@ -1,4 +1,4 @@
-//! Plans of stores whose splits are known: a second pair is stored next to a first, each with a value of 600 zeros.
+//! Plans of stores with known splits: a second pair is stored next to a first pair, each with a value of 600 zeros.
 ghost use Rattle.std.specs.Prelude.{◌≤◌, length};
 
 use crate::pages::show_pairs_of;
@@ -83,7 +83,7 @@ fn plan_told(global: Global, plan: &Plan<Global>) -> Result<String, AllocError> 
     Ok(out)
 }
 
-/// Answers a line `SIZE MODE FIRST SECOND`: the text of the plan that stores the second key, or its refusal.
+/// Answers a line `SIZE MODE FIRST SECOND` with the plan that stores the second key, or with its refusal.
 pub fn plan_text(global: Global, rest: &str) -> Option<String> {
     let (size, rest) = cut(rest);
     let (mode, rest) = cut(rest);

@@ -1,11 +1,11 @@
-//! Pages that are given as bytes: their contents, and whether they are the same when they are written and read again.
+//! Pages that are given as bytes: their pairs, and whether they stay the same when they are written and read again.
 
 use crate::pages::{read_page, read_page_bytes, show_pairs_of};
 use sdbm_page::Page;
 use std::alloc::Global;
 use test_support::tail;
 
-// Returns `true` if a page's own bytes are a page with the same bytes.
+// Returns `true` if the bytes of a page, read as a page, give the same bytes.
 fn page_stays(global: Global, page: &Page<Global>) -> bool {
     match read_page(global, page.bytes(), page.page_size()) {
         Some(Ok(again)) => again.bytes() == page.bytes(),
@@ -13,7 +13,7 @@ fn page_stays(global: Global, page: &Page<Global>) -> bool {
     }
 }
 
-/// The pairs of a page, in order, or its fault.
+/// The pairs of a page, in order, and whether it stays the same; or the fault of its bytes.
 pub fn page_text(global: Global, rest: &str) -> Option<String> {
     let (bytes, size) = read_page_bytes(global, rest)?;
     let page = match read_page(global, bytes.as_slice(), size)? {

@@ -44,7 +44,7 @@ fn size_text(global: Global, name: &str) -> Option<String> {
     format!(in global; "{bytes} {pair} {offsets}").ok()
 }
 
-// A byte string with another first byte, and a copy from before that change.
+// A byte string with another first byte, and a copy from before the change.
 fn changed(
     global: Global,
     bytes: &[u8],

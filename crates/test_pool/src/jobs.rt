@@ -28,11 +28,11 @@ pub struct Pool<'a> {
     pub closed: Option<Closed<Global>>,
 }
 
-/// The replies of tasks or the fault, and the calls of all workers.
+/// The replies to the tasks or the fault, and the calls of all workers.
 pub type Outcome = (Result<Vec<Reply<Global>>, PoolFault>, Vec<Calls<Global>>);
 
 impl<'a> Pool<'a> {
-    /// Begins without programs, store and tasks. The gates of its stores meet at `meeting`.
+    /// A test without programs, store and tasks. The gates of its stores use `meeting`.
     pub fn new(alloc: Global, meeting: &'a Meeting) -> Result<Self, AllocError> {
         Ok(Pool {
             alloc,
@@ -45,7 +45,7 @@ impl<'a> Pool<'a> {
         })
     }
 
-    /// Opens a store. It has no calls, and no session has to meet.
+    /// Opens a store without calls, whose sessions need not meet.
     pub fn open(&mut self, image: Image<Global>, limit: usize) -> Option<()> {
         self.meeting.want(0);
         let gate = MeetingGate {
@@ -61,7 +61,7 @@ impl<'a> Pool<'a> {
         Image::empty(self.alloc, KeyBytes::Signed, PageSize::Small)
     }
 
-    /// Submits a program.
+    /// Submits a program and returns its number.
     pub fn submit(&mut self, text: &str) -> Option<u32> {
         let text = text.replace(self.alloc, " / ", "\n").ok()?;
         let code = assemble(self.alloc, text.as_str()).ok()?;
@@ -70,7 +70,7 @@ impl<'a> Pool<'a> {
         Some(id.0)
     }
 
-    /// Adds a waiting task.
+    /// Adds a waiting task. Returns the number of waiting tasks.
     pub fn wait(&mut self, words: &[&str]) -> Option<usize> {
         let [key, prog, arg, blank, now] = words else {
             return None;
@@ -86,7 +86,7 @@ impl<'a> Pool<'a> {
         Some(self.tasks.len())
     }
 
-    /// Adds `count` waiting tasks, with the times from 0.
+    /// Adds `count` waiting tasks, with the times from 0. Returns the number of waiting tasks.
     pub fn wait_often(&mut self, count: u64, words: &[&str]) -> Option<usize> {
         let [key, prog, arg, blank] = words else {
             return None;
@@ -98,7 +98,7 @@ impl<'a> Pool<'a> {
         Some(self.tasks.len())
     }
 
-    /// Lets workers do the waiting tasks, and removes them. Reserves the memory that `keep` needs.
+    /// Runs the waiting tasks by workers, and removes the tasks. Reserves the memory that `keep` needs.
     pub fn run<R: Threads + Wait + Sync>(&mut self, rt: &R, workers: usize) -> Option<Outcome> {
         self.calls.reserve(workers).ok()?;
         let store = self.store.as_ref()?;
@@ -111,7 +111,7 @@ impl<'a> Pool<'a> {
         Some(outcome)
     }
 
-    /// Keeps calls until the store is closed.
+    /// Stores calls until the store is closed.
     pub fn keep(&mut self, calls: Vec<Calls<Global>>) -> Result<(), AllocError> {
         for its in calls {
             self.calls.push(its)?;
@@ -119,13 +119,13 @@ impl<'a> Pool<'a> {
         Ok(())
     }
 
-    /// The number of a session that makes no calls.
+    /// Makes a session that makes no calls, and returns its number.
     pub fn session<R: Wait>(&self, rt: &R) -> Option<u64> {
         let session = self.store.as_ref()?.session(rt).ok()?;
         Some(session.into_calls().number())
     }
 
-    /// Closes the store with the calls that were kept, or returns why it does not close. Removes the store in both cases.
+    /// Closes the store with the stored calls. Returns the fault if it does not close. Removes the store in both cases.
     pub fn close(&mut self) -> Option<Result<(), CloseFault>> {
         let store = self.store.take()?;
         let calls = mem::replace(&mut self.calls, Vec::new(self.alloc));

@@ -1,4 +1,4 @@
-//! A gate for sessions to meet.
+//! A gate at which sessions meet.
 ghost use Rattle.std.specs.Prelude.{◌≡◌, IfOk, IfErr};
 
 use desk_core::{Done, Job};
@@ -6,11 +6,11 @@ use std::alloc::{AllocError, Allocator};
 use std::sync::atomic::{AtomicU64, Ordering};
 use store_shared::Gate;
 
-// The number of looks before a thread stops waiting.
+// The number of polls after which a thread stops waiting.
 const TURNS: u64 = 1_000_000_000;
 
-/// A meeting of sessions at work: the number of sessions that have to meet, whether they pass by instead, the number of jobs that came, how
-/// often session 1 was done, and the number of waits that timed out.
+/// A meeting of sessions at work. It has the number of sessions that have to meet, a flag that no job comes to the gate, the
+/// number of jobs that came, the number of times that session 1 finished, and the number of waits that timed out.
 #[derive(Drop)]
 pub struct Meeting {
     wanted: AtomicU64,
@@ -32,12 +32,12 @@ impl Meeting {
         }
     }
 
-    /// From now on no session comes to the gate.
+    /// Lets no job come to the gate from now on.
     pub fn pass(&self) {
         self.passed.store(1, Ordering::SeqCst);
     }
 
-    /// From now on `wanted` sessions have to meet; 0 means no meeting. Resets the counts, and all sessions come to the gate.
+    /// Makes `wanted` sessions meet from now on, or none if it is 0. Resets the counts, and lets all jobs come to the gate.
     pub fn want(&self, wanted: u64) {
         self.passed.store(0, Ordering::SeqCst);
         for count in [&self.came, &self.done, &self.vain] {
@@ -46,7 +46,7 @@ impl Meeting {
         self.wanted.store(wanted, Ordering::SeqCst);
     }
 
-    /// The number of jobs that came, and of sessions whose wait timed out.
+    /// The number of jobs that came, and the number of waits that timed out.
     pub fn counts(&self) -> (u64, u64) {
         (
             self.came.load(Ordering::SeqCst),
@@ -54,7 +54,7 @@ impl Meeting {
         )
     }
 
-    // Waits until a count is reached, and counts a timeout.
+    // Waits until a count is reached. If the wait times out, counts that.
     fn wait_for(&self, count: &AtomicU64, wanted: u64) {
         for _ in 0..TURNS {
             if count.load(Ordering::SeqCst) >= wanted {
@@ -64,7 +64,7 @@ impl Meeting {
         self.vain.fetch_add(1, Ordering::SeqCst);
     }
 
-    // A session is at work.
+    // Records that a session is at work, and waits for the others.
     fn come(&self, session: u64) {
         self.came.fetch_add(1, Ordering::SeqCst);
         let wanted = self.wanted.load(Ordering::SeqCst);
@@ -78,7 +78,7 @@ impl Meeting {
     }
 }
 
-/// A gate that holds sessions at work until they have met, if they have to.
+/// A gate that holds sessions at work until they have met, if a meeting is set.
 #[derive(Clone, Copy)]
 pub struct MeetingGate<'a> {
     pub meeting: &'a Meeting,

@@ -8,7 +8,7 @@ use store_cmd::{Command, KeptEntry};
 use store_shared::Calls;
 use test_support::show_reply;
 
-// The time of a call.
+// Writes the time of a call.
 fn show_time(out: &mut String, entry: &KeptEntry<Global>) -> Result<(), AllocError> {
     match entry.command() {
         Command::Run { now, .. } => write!(out, " {now}"),
@@ -16,7 +16,7 @@ fn show_time(out: &mut String, entry: &KeptEntry<Global>) -> Result<(), AllocErr
     }
 }
 
-// The times of the calls of each session, up to the last that has calls.
+// Writes the times of the calls of each session, up to the last session that has calls.
 fn show_calls(out: &mut String, calls: &[Calls<Global>]) -> Result<(), AllocError> {
     write!(out, "; sessions {}", calls.len())?;
     let last = calls.iter().rposition(|its| !its.entries().is_empty());
@@ -32,7 +32,7 @@ fn show_calls(out: &mut String, calls: &[Calls<Global>]) -> Result<(), AllocErro
     Ok(())
 }
 
-// The outcome of tasks.
+// Writes the outcome of tasks.
 fn show_outcome(out: &mut String, outcome: &Outcome) -> Result<(), AllocError> {
     match &outcome.0 {
         Ok(replies) => {

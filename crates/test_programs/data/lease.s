@@ -7,13 +7,13 @@
 ;
 ; Code 1: the caller has the lease, new or renewed, until the time in the reply word.
 ; Code 2: the lease was released, or had ended, and its pair is deleted.
-; Code 0: another owner has the lease until the time in the reply word; or a length is too short,
-; and the word is 0.
+; Code 0: another owner has the lease until the time in the reply word.
+; Code 4: the record or the argument is too short.
 ;
 ; A lease ends at 2^64 - 1 at the latest: at that time all have ended, and anyone may take one.
 
-    jlt r2, 16, leave       ; R2 is the record's length
-    jlt r4, 16, leave       ; R4 is the argument's length
+    jlt r2, 16, short       ; R2 is the record's length
+    jlt r4, 16, short       ; R4 is the argument's length
     mov r6, r1              ; a call leaves R1 to R5 unset
     ldxdw r7, [r3]          ; the caller
     ldxdw r8, [r3+8]        ; the duration
@@ -45,6 +45,6 @@ give_back:
     mov r0, 2               ; delete the pair
     exit
 
-leave:
-    mov r0, 0               ; change nothing
+short:
+    mov r0, 4               ; change nothing
     exit

@@ -11,26 +11,26 @@
 //! | `program TEXT` | `accepted`, or the fault |
 //! | `ends TEXT` | the same, for the text with `mov r0, 0 / exit` after it |
 //! | `filled COUNT TEXT` | the same, with each `*` replaced by COUNT times `mov r0, 0` |
-//! | `kinds UNIT TEXT` | the kinds of the registers before the instruction at a unit, except registers that may hold anything; `nothing` if there is no state |
-//! | `why TEXT` | why a program is refused, in a sentence |
+//! | `kinds UNIT TEXT` | the kinds of the registers before the instruction at a unit, without registers that may hold anything; `nothing` if the unit has no state |
+//! | `why TEXT` | the reason why a program is refused, in a sentence |
 //! | `explain TEXT` | the explanation of a program, ` / ` between its lines |
 //! | `submit TEXT` | `program ID`, or `refused FAULT` |
 //! | `offer BYTES` | the same for an image |
-//! | `each FROM TO TEXT` | the answers for the first and the last number from FROM up to TO instead of `#`, and the number of refusals |
+//! | `each FROM TO TEXT` | the first and the last answer and the number of refusals, with FROM to TO - 1 in place of `#` |
 //! | `get ID` | the text of a program, or `none` |
-//! | `counts` | the number of verdicts that are kept, and of answers that were found among them |
+//! | `counts` | the number of stored verdicts, and the number of answers that were found among these |
 //! | `new` | `new`; the following lines use a new registry |
 //! | `# WORDS` | the line itself |
 //!
-//! Images are in hex, and `.` is the empty one; `+N` after the bytes of an offer means N more zeros. From `program` on a
-//! text has ` / ` instead of line feeds, and `.` is the empty one.
+//! Images are in hex, and `.` is the empty image; `+N` after the bytes of an offer means N more zeros. From `program` on, a
+//! text has ` / ` instead of line feeds, and `.` is the empty text.
 //!
-//! The forms were confirmed by LLVM's assembler and disassembler. The first 112 images and the first 196 texts have the answers of
-//! an independent decoder and assembler. The remaining texts were worked out from the rules, and the last of them are the examples of
-//! `docs/ASSEMBLER.md`. After them come the image of the counter and the programs of `examples/`; `data/` has unchanged
-//! copies of these. The first 364 verdicts have the answers of an independent verifier that was written from the rules. Those from the
-//! 436th to the 471st have the answers of a second one, which agrees on all, and the 3,000 from the 481st on, at the edges of every rule,
-//! have those of a third. The remaining ones were worked out by hand.
+//! LLVM's assembler and disassembler confirmed the forms. The first 112 images and the first 196 texts have the answers of an
+//! independent decoder and assembler. The other texts were worked out from the rules, and the last of these are the examples of
+//! `docs/ASSEMBLER.md`. Next come the image of the counter and the programs of `examples/`; `data/` has unchanged copies of
+//! these. The first 364 verdicts have the answers of an independent verifier that was written from the rules. Verdicts 436 to
+//! 471 have the answers of a second verifier, which agrees on all others. The 3,000 verdicts from 481 on, at the edges of every
+//! rule, have those of a third. The other verdicts were worked out by hand.
 #![tactic(auto)]
 
 mod submissions;

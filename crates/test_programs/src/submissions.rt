@@ -15,7 +15,7 @@ fn image_of(alloc: Global, text: &str) -> Result<Option<Vec<u8>>, AllocError> {
     }
 }
 
-// Bytes, with zeros after them.
+// Reads bytes that may be followed by a number of zeros.
 fn read_bytes(alloc: Global, word: &str) -> Option<Vec<u8>> {
     let (digits, zeros) = match word.split_once('+') {
         Some((digits, zeros)) => (digits, zeros.parse::<u16>().ok()?),
@@ -28,7 +28,7 @@ fn read_bytes(alloc: Global, word: &str) -> Option<Vec<u8>> {
     Some(bytes)
 }
 
-// The answer to an image, and whether it is a number.
+// The answer to an image, and `true` if the answer is a number.
 fn submitted(
     alloc: Global,
     registry: &mut Registry,
@@ -51,13 +51,13 @@ fn show_image(
     }
 }
 
-// The text with a number instead of each mark.
+// The text with each mark replaced by a number.
 fn numbered(alloc: Global, text: &str, number: u32) -> Result<String, AllocError> {
     let digits = format!(in alloc; "{number}")?;
     text.replace(alloc, "#", digits.as_str())
 }
 
-// The first answer and the last one, and the number of refusals.
+// The first answer and the last answer, and the number of refusals.
 fn show_range(
     alloc: Global,
     registry: &mut Registry,
@@ -85,7 +85,7 @@ fn show_range(
     format!(in alloc; "{first}, {last}, {refused} refused")
 }
 
-// The first and the last answer, and the number of refusals, for the range and the text in a line's words.
+// The first and the last answer and the number of refusals, for a range and a text in the words of a line.
 fn show_each(alloc: Global, registry: &mut Registry, words: &str) -> Result<String, AllocError> {
     let Some((from, rest)) = words.split_once(' ') else {
         return String::from_str(alloc, "a line without a range");

@@ -1,11 +1,11 @@
-//! Describes images and texts.
+//! Answers to the lines about images and texts.
 
 use bpf_asm::{assemble, disassemble};
 use bpf_insn::{Code, decode, encode};
 use std::alloc::{AllocError, Global};
 use std::fmt::Write;
 
-// The instructions of a code, with a mark between them.
+// Appends the instructions of a code, separated by a mark.
 fn push_insns(out: &mut String, code: &Code) -> Result<(), AllocError> {
     for unit in 0..code.units() {
         if let Some(insn) = code.insn_at(unit) {
@@ -16,14 +16,14 @@ fn push_insns(out: &mut String, code: &Code) -> Result<(), AllocError> {
     Ok(())
 }
 
-// The text of a code, with marks instead of line feeds.
+// Appends the text of a code, with a mark between its lines.
 fn push_text(alloc: Global, out: &mut String, code: &Code) -> Result<(), AllocError> {
     let text = disassemble(alloc, code)?;
     let marked = text.as_str().trim_end().replace(alloc, "\n", " / ")?;
     out.push_str(marked.as_str())
 }
 
-// The content of an image: its instructions and their text, or its fault.
+// Appends the description of an image: its instructions and their text, or its fault.
 fn push_image(alloc: Global, out: &mut String, image: &[u8]) -> Result<(), AllocError> {
     let code = match decode(alloc, image) {
         Ok(code) => code,
@@ -38,7 +38,7 @@ fn push_image(alloc: Global, out: &mut String, image: &[u8]) -> Result<(), Alloc
     Ok(())
 }
 
-/// The content of an image in hex.
+/// The description of an image in hex.
 pub fn show_image(alloc: Global, digits: &str) -> Result<String, AllocError> {
     let digits = if digits == "." { "" } else { digits };
     let Ok(image) = hex::decode(alloc, digits) else {
@@ -58,7 +58,7 @@ pub fn show_text(alloc: Global, text: &str) -> Result<String, AllocError> {
     }
 }
 
-/// A text and an image that should be equivalent, each with its content.
+/// Describes a text and an image that should be equivalent.
 pub fn show_form(alloc: Global, line: &str) -> Result<String, AllocError> {
     let Some((digits, line)) = line.split_once(' ') else {
         return String::from_str(alloc, "a form without a text");

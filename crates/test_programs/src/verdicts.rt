@@ -8,7 +8,7 @@ use bpf_verify::{Examined, Refused, examine, verify};
 use std::alloc::{AllocError, Global};
 use std::fmt::Write;
 
-// A program that is written on one line.
+// The code of a program that is written on one line.
 fn code_of(alloc: Global, text: &str) -> Result<Result<Code, String>, AllocError> {
     let text = if text == "." { "" } else { text };
     let lines = text.replace(alloc, " / ", "\n")?;
@@ -30,7 +30,7 @@ fn accepted(alloc: Global, text: &str) -> Result<Result<Examined, String>, Alloc
     }
 }
 
-// The verdict. It has to be the same whether the states are kept or not.
+// The verdict on a text. `verify` and `examine` have to agree.
 fn show_verdict(alloc: Global, text: &str) -> Result<String, AllocError> {
     let code = match code_of(alloc, text)? {
         Ok(code) => code,
@@ -50,13 +50,13 @@ fn show_verdict(alloc: Global, text: &str) -> Result<String, AllocError> {
     Ok(verdict)
 }
 
-// The verdict of a text, with instructions appended that answer 0.
+// The verdict on a text, with instructions appended that return 0.
 fn show_ended(alloc: Global, text: &str) -> Result<String, AllocError> {
     let text = format!(in alloc; "{text} / mov r0, 0 / exit")?;
     show_verdict(alloc, text.as_str())
 }
 
-// The verdict of a text, with each mark replaced by some instructions.
+// The verdict on a text in which each mark is replaced by a number of instructions.
 fn show_filled(alloc: Global, words: &str) -> Result<String, AllocError> {
     let Some((count, text)) = words.split_once(' ') else {
         return String::from_str(alloc, "a line without a text");
@@ -128,7 +128,7 @@ fn show_kinds(alloc: Global, words: &str) -> Result<String, AllocError> {
     }
 }
 
-// The explanation of a program, and its text.
+// The explanation of a text, and its code as text.
 fn explained(alloc: Global, text: &str) -> Result<Option<(Explanation, String)>, AllocError> {
     let text = if text == "." { "" } else { text };
     let lines = text.replace(alloc, " / ", "\n")?;
@@ -142,7 +142,7 @@ fn explained(alloc: Global, text: &str) -> Result<Option<(Explanation, String)>,
     Ok(Some((explanation, lines)))
 }
 
-// The whole explanation, with its lines in a row, or why a program is refused.
+// The explanation of a program with a mark between its lines; if not `is_whole`, only the refusal in a sentence.
 fn show_explained(alloc: Global, text: &str, is_whole: bool) -> Result<String, AllocError> {
     let Some((explanation, lines)) = explained(alloc, text)? else {
         return String::from_str(alloc, "no program");
@@ -155,7 +155,7 @@ fn show_explained(alloc: Global, text: &str, is_whole: bool) -> Result<String, A
     told.as_str().trim_end().replace(alloc, "\n", " / ")
 }
 
-/// The answer to a line, by its word and the words after.
+/// The answer to a line, given its first word and its other words.
 pub fn show_verified(alloc: Global, word: &str, rest: &str) -> Result<String, AllocError> {
     match word {
         "program" => show_verdict(alloc, rest),

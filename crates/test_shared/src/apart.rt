@@ -1,4 +1,4 @@
-//! Sessions that make their calls in parallel, each in a separate thread.
+//! Sessions that make calls in parallel, each in a separate thread.
 
 use crate::bench::Bench;
 use crate::calls::{Came, begin, make, make_group};
@@ -13,16 +13,16 @@ use store_cmd::{Command, Refusal, Reply};
 use store_shared::{Calls, Gate, Session, Store};
 use test_support::{read_command, show_reply};
 
-// The largest number of threads at once.
+// The maximum number of threads at once.
 const THREADS: usize = 8;
 
 // The number of calls in a group.
 const GROUP: usize = 16;
 
-// Up to this number of calls, each reply is shown.
+// The maximum number of replies that are shown one by one.
 const FEW: usize = 8;
 
-// A session, its commands, whether it makes them in groups, and its replies up to the first refused call, with the refusal.
+// A session, its commands, whether it makes calls in groups, and its replies up to the first refused call, with the refusal.
 #[derive(Drop)]
 struct Caller<'s, G: Gate> {
     session: Session<'s, Global, G>,
@@ -49,7 +49,7 @@ fn read_times(alloc: Global, words: &str) -> Option<Vec<Command<Global>>> {
     Some(commands)
 }
 
-// The commands of the session with this place among the sessions of a line.
+// The commands of the session with index `place` among the sessions of a line.
 fn read_commands(alloc: Global, words: &str, place: u64) -> Option<Vec<Command<Global>>> {
     let (kind, rest) = words.split_once(' ')?;
     match kind {
@@ -129,7 +129,7 @@ fn run_callers<R: Threads + Wait + Sync, G: Gate>(
     thread::for_each_mut(rt, callers, THREADS, &share);
 }
 
-// Writes a session's replies, or their number, and why a call was refused.
+// Writes the number of a session's replies if there are many; otherwise the replies, and the refusal if a call was refused.
 fn show_replies(
     out: &mut String,
     replies: &[Reply<Global>],
@@ -151,7 +151,7 @@ fn show_replies(
     }
 }
 
-// Returns `true` if the replies that a session received are those of its calls.
+// Returns `true` if a session received the replies that its calls record.
 fn are_kept(replies: &[Reply<Global>], calls: &Calls<Global>) -> bool {
     let entries = calls.entries();
     let same = replies
@@ -187,7 +187,7 @@ impl<'h, R: Threads + Wait + Sync> Bench<'h, R, Global> {
         Some(())
     }
 
-    // Ends the sessions, and compares their calls with their replies.
+    // Ends the sessions, and compares the calls of each session with its replies.
     fn end_callers<G: Gate>(&mut self, callers: Vec<Caller<'_, G>>) -> Option<()> {
         let mut sessions = Vec::new(self.global);
         let mut replies = Vec::new(self.global);
@@ -206,7 +206,7 @@ impl<'h, R: Threads + Wait + Sync> Bench<'h, R, Global> {
         Some(())
     }
 
-    /// Makes the calls of a case, all sessions at the same time, and ends the sessions.
+    /// Makes the calls of a case, by all sessions at the same time, and ends the sessions.
     pub fn work_apart<G: Gate>(&mut self, store: &Store<Global, G>, case: Case<'_>) -> Option<()> {
         let mut callers = Vec::new(self.global);
         for line in case.calls.lines() {

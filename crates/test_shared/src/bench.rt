@@ -1,4 +1,4 @@
-//! The state of cases, and how stores are opened.
+//! The state of cases, and the opening of stores.
 
 use crate::calls::{open, opening};
 use crate::case::Case;
@@ -12,28 +12,28 @@ use store_cmd::Trail;
 use store_shared::{Calls, Gate, Store};
 use test_support::{MOST_TIMES, fill, show_pairs};
 
-/// The additional bytes for each new attempt of a call.
+/// The number of additional bytes for each new attempt of a call.
 pub const STEP: usize = 16;
 
 /// The state that is carried from one case to the next.
 #[derive(Drop)]
 pub struct Bench<'h, R, A: Allocator> {
     pub rt: &'h R,
-    /// The allocator of texts, and that of stores.
+    /// The allocator of texts, and the allocator of stores.
     pub global: Global,
     pub alloc: A,
-    /// The heap of stores, if it can run out.
+    /// The heap of stores, if its memory can run out.
     pub heap: Option<&'h LocalHeap>,
     /// The answers so far.
     pub out: String,
     /// The database and the trail of the store that was closed last.
     pub image: Option<Image<A>>,
     pub trail: Option<Trail<A>>,
-    /// The calls of the sessions that were ended since.
+    /// The calls of sessions that ended since then.
     pub hands: Vec<Option<Calls<A>>>,
 }
 
-/// The note for a call that was refused `times` times for lack of memory.
+/// The note on a call that was refused `times` times because memory ran out.
 pub fn more_text(times: usize) -> &'static str {
     if times > 0 { ", with more memory" } else { "" }
 }
@@ -53,7 +53,7 @@ impl<'h, R, A: Allocator + Copy> Bench<'h, R, A> {
         }
     }
 
-    /// Takes the answers out.
+    /// Takes the answers and leaves an empty text.
     pub fn take_out(&mut self) -> String {
         mem::replace(&mut self.out, String::new(self.global))
     }
@@ -80,7 +80,7 @@ impl<'h, R, A: Allocator + Copy> Bench<'h, R, A> {
         Some(Image::empty(self.alloc, KeyBytes::Signed, PageSize::Small))
     }
 
-    /// Opens the store of a case, with more memory each time. A refused database has to be unchanged.
+    /// Opens the store of a case with more and more memory until there is enough. A refused database has to be unchanged.
     pub fn open_store<G: Gate>(&mut self, case: Case<'_>, gate: G) -> Option<Store<A, G>> {
         let mut given = (self.take_image(case.kept)?, gate);
         let before = self.pairs_text(&given.0)?;

@@ -13,26 +13,26 @@ use store_cmd::Command;
 use store_shared::{Gate, Session, Store};
 use test_support::read_command;
 
-// The number of short calls that have to be answered, each well before the programs of its round have ended.
+// The number of short calls that have to be answered well before the programs of their round end.
 const WANTED: u64 = 3;
 
-// The largest number of rounds. Few more than `WANTED` are needed if two threads run at once.
+// The maximum number of rounds. If two threads run at once, few more than `WANTED` are needed.
 const ROUNDS: u64 = 24;
 
 // The value of `began` after the last round.
 const OVER: u64 = u64::MAX;
 
-// The number of looks before a thread stops waiting.
+// The number of polls after which a thread stops waiting.
 const TURNS: u64 = 1_000_000_000;
 
-// The rounds of two sessions, numbered from 1. In each round the first session runs its group of programs. Meanwhile the second session
-// makes its call, except in the first round, in which it only measures.
+// The rounds of two sessions, numbered from 1. In each round the first session runs its group of programs. Meanwhile the second
+// session makes its calls, except in the first round, in which it only measures the time.
 #[derive(Drop)]
 struct Rounds {
     began: AtomicU64,
     ended: AtomicU64,
     called: AtomicU64,
-    // The number of calls that were answered well before the programs of their round had ended.
+    // The number of rounds whose short calls were answered well before the programs of the round ended.
     beside: AtomicU64,
     refused: AtomicU64,
 }
@@ -55,12 +55,12 @@ impl Rounds {
         }
     }
 
-    // Returns `true` if no round follows.
+    // Returns `true` if there is no further round.
     fn are_over(&self) -> bool {
         self.beside.load(Ordering::SeqCst) >= WANTED || self.refused.load(Ordering::SeqCst) > 0
     }
 
-    // Polls a count until it has reached a value, and returns how often it looked.
+    // Polls a count until it has reached a value. Returns the number of polls.
     fn look_for(count: &AtomicU64, wanted: u64) -> u64 {
         for looks in 0..TURNS {
             if count.load(Ordering::SeqCst) >= wanted {
@@ -70,14 +70,14 @@ impl Rounds {
         TURNS
     }
 
-    // Waits for the time of this number of looks.
+    // Waits for the time that this number of polls takes.
     fn linger(&self, looks: u64) {
         for _ in 0..looks {
             self.ended.load(Ordering::SeqCst);
         }
     }
 
-    // Waits for a round, and returns whether it began.
+    // Waits for a round. Returns `true` if it began.
     fn enter(&self, round: u64) -> bool {
         Rounds::look_for(&self.began, round);
         self.began.load(Ordering::SeqCst) == round
@@ -102,8 +102,8 @@ impl<'s, G: Gate> Party<'s, G> {
         rounds.began.store(OVER, Ordering::SeqCst);
     }
 
-    // Makes its calls a sixteenth of the programs' time after the round began. Counts them if the programs still run for at least a
-    // quarter of their time after them. If this thread had to wait for the programs, or was not scheduled, they run for less.
+    // Makes its calls when a sixteenth of the programs' time has passed. Counts the round if the programs then still run for at
+    // least a quarter of their time. They run for less if this thread had to wait for the programs or was not scheduled.
     fn call_beside<R: Wait>(&mut self, rt: &R, rounds: &Rounds, round: u64, whole: u64) {
         rounds.linger(whole / 16);
         for command in self.commands.iter() {
@@ -116,7 +116,7 @@ impl<'s, G: Gate> Party<'s, G> {
         }
     }
 
-    // Measures how long the programs take in the first round, and makes its calls in the later ones.
+    // Measures the time of the programs in the first round, and makes its calls in the later rounds.
     fn call_in_rounds<R: Wait>(&mut self, rt: &R, rounds: &Rounds) {
         let mut whole = 0;
         for round in 1..ROUNDS {
@@ -149,7 +149,8 @@ fn run_parties<R: Threads + Wait + Sync, G: Gate>(
     thread::for_each_mut(rt, parties, 2, &share);
 }
 
-// Reads the commands of a line `CALLS COUNT UNIT COMMAND`: `CALLS` times the command, with its `~` replaced by `COUNT` times the unit.
+// Reads the commands of a line `CALLS COUNT UNIT COMMAND`: `CALLS` times the command, with `COUNT` copies of the unit instead
+// of `~`.
 fn read_long(alloc: Global, words: &str) -> Option<Vec<Command<Global>>> {
     let (calls, rest) = words.split_once(' ')?;
     let (count, rest) = rest.split_once(' ')?;
@@ -169,8 +170,8 @@ fn read_long(alloc: Global, words: &str) -> Option<Vec<Command<Global>>> {
 }
 
 impl<'h, R: Threads + Wait + Sync> Bench<'h, R, Global> {
-    /// Runs the programs of a case's first line in a group and makes the call of its second line meanwhile. It repeats this until enough
-    /// calls were answered well before their group had ended.
+    /// Runs the programs of a case's first line in a group, and meanwhile makes the call of its second line. Repeats this until
+    /// enough calls were answered well before their group ended.
     pub fn work_beside<G: Gate>(&mut self, store: &Store<Global, G>, case: Case<'_>) -> Option<()> {
         let (long, short) = case.calls.split_once('\n')?;
         let mut commands = Vec::new(self.global);

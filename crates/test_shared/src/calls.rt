@@ -12,7 +12,7 @@ pub type Came<A> = Result<Reply<A>, Refusal>;
 /// The outcome of closing a store.
 pub type CloseCame<A, G> = Result<Closed<A>, (CloseFault, Store<A, G>, Vec<Calls<A>, A>)>;
 
-/// The outcomes of the calls of a group. Fails if there was no memory to make any.
+/// Makes the calls of a group, and returns their outcomes. Returns an error if there is no memory to make any call.
 pub fn make_group<R: Wait, A: Allocator + Copy, G: Gate>(
     rt: &R,
     alloc: A,
@@ -33,7 +33,7 @@ pub fn make_group<R: Wait, A: Allocator + Copy, G: Gate>(
     }
 }
 
-/// A store over a database.
+/// Opens a store over a database.
 pub fn open<A: Allocator + Copy, G: Gate>(
     alloc: A,
     image: Image<A>,
@@ -51,7 +51,7 @@ pub fn opening<A: Allocator + Copy, G: Gate>(store: &Store<A, G>) -> usize {
     store.opening().len()
 }
 
-/// A new session.
+/// Makes a new session.
 pub fn begin<'s, R: Wait, A: Allocator + Copy, G: Gate>(
     rt: &R,
     store: &'s Store<A, G>,

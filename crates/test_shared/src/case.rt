@@ -2,11 +2,11 @@
 
 use crate::gate::Manner;
 
-/// How the store is opened, the calls, and the lines after `end`, if there are any.
+/// A case: how to open its store, its calls, and the lines after `end`, if any.
 #[derive(Clone, Copy)]
 pub struct Case<'t> {
     pub who: &'t str,
-    /// The store is opened over the database of the last closed store, not over an empty one.
+    /// true if the store is opened over the database of the last closed store, not over an empty one
     pub kept: bool,
     pub limit: usize,
     pub manner: Manner,
@@ -32,7 +32,7 @@ fn read_manner(words: &str) -> Option<Manner> {
     }
 }
 
-/// Reads the lines of a case without its title.
+/// Reads the lines of a case after its title.
 pub fn read_case(lines: &str) -> Option<Case<'_>> {
     let (front, closing) = match lines.split_once("\nend") {
         Some((front, closing)) => (front, Some(closing.trim_start())),

@@ -1,4 +1,4 @@
-//! Cases: a store is opened, sessions make their calls and end, and it is closed.
+//! Cases: a store is opened, sessions make calls and end, and the store is closed.
 
 use crate::bench::Bench;
 use crate::case::{Case, read_case};
@@ -30,7 +30,7 @@ impl<'h, R: Threads + Wait + Sync> Bench<'h, R, Global> {
     }
 }
 
-/// Two benches: one with its stores in a heap, for sessions that make their calls in turn, and one for parallel sessions.
+/// Two benches: one has its stores in a heap, for sessions that make their calls in turn; the other is for parallel sessions.
 #[derive(Drop)]
 pub struct Benches<'h, R> {
     heap: &'h LocalHeap,
@@ -62,7 +62,7 @@ impl<'h, R: Threads + Wait + Sync> Benches<'h, R> {
         }
     }
 
-    /// The answers to the lines of a case, under its title.
+    /// The answers to the lines of a case, after its title.
     pub fn answer(&mut self, text: &str) -> Option<String> {
         let (title, lines) = text.split_once('\n')?;
         let case = read_case(lines)?;

@@ -1,4 +1,4 @@
-//! Sessions end, stores are closed, and the results are kept.
+//! Ends sessions, closes stores, and keeps the results.
 
 use crate::bench::Bench;
 use crate::calls::{close, end, opening};
@@ -8,7 +8,8 @@ use std::fmt::Write;
 use store_shared::{Calls, Closed, Gate, Session, Store};
 
 impl<'h, R, A: Allocator + Copy> Bench<'h, R, A> {
-    /// Ends sessions with no memory in the heap, appends their calls to those in hand, and reports those that made any.
+    /// Ends sessions while the heap has no memory, and appends their calls to those in hand. Reports each session that made
+    /// calls.
     pub fn end_all<G: Gate>(&mut self, sessions: Vec<Session<'_, A, G>>) -> Option<()> {
         let _blocks = self.take_memory(0).ok()?;
         let count = sessions.len();
@@ -38,7 +39,7 @@ impl<'h, R, A: Allocator + Copy> Bench<'h, R, A> {
         Some(places)
     }
 
-    // Takes the calls at these places.
+    // Takes the calls at these indices.
     fn take_calls(&mut self, places: &[usize]) -> Option<Vec<Calls<A>, A>> {
         let mut handed = Vec::new(self.alloc);
         for place in places {
@@ -55,7 +56,7 @@ impl<'h, R, A: Allocator + Copy> Bench<'h, R, A> {
         }
     }
 
-    // Keeps the image and the trail of a closed store. Drops all else in hand.
+    // Keeps the image and the trail of a closed store. Drops all calls in hand.
     fn keep(&mut self, closed: Closed<A>) -> Result<(), AllocError> {
         let Closed { image, trail } = closed;
         let (entries, pairs) = (trail.entries.len(), trail.opening.as_slice().len());
@@ -72,7 +73,7 @@ impl<'h, R, A: Allocator + Copy> Bench<'h, R, A> {
         Ok(())
     }
 
-    // Closes a store with the calls at these places and no memory in the heap. If that is refused, returns the store.
+    // Closes a store with the calls at these indices, while the heap has no memory. If that fails, returns the store.
     fn close<G: Gate>(&mut self, store: Store<A, G>, words: &str) -> Option<Option<Store<A, G>>> {
         let places = self.read_places(words)?;
         let handed = self.take_calls(places.as_slice())?;
@@ -97,7 +98,7 @@ impl<'h, R, A: Allocator + Copy> Bench<'h, R, A> {
         }
     }
 
-    // The sessions of the entries of the trail, in order.
+    // The session of each entry of the trail, in order.
     fn order_text(&self) -> Option<String> {
         let mut text = String::from_str(self.global, "order").ok()?;
         for entry in self.trail.as_ref()?.entries.iter() {
@@ -114,7 +115,7 @@ impl<'h, R, A: Allocator + Copy> Bench<'h, R, A> {
         }
     }
 
-    /// Closes a store according to lines, and shows the result.
+    /// Closes a store as the lines say, and shows the result.
     pub fn show_closing<G: Gate>(&mut self, store: Store<A, G>, lines: &str) -> Option<()> {
         let mut store = Some(store);
         for line in lines.lines() {

@@ -10,26 +10,26 @@ use store_shared::Gate;
 /// The behavior of a gate.
 #[derive(Clone, Copy)]
 pub enum Manner {
-    /// It works the jobs.
+    /// It computes the jobs.
     Free,
     /// It wants no jobs, so that sessions take no ticket.
     Passing,
-    /// It hands the first job back, as if allocation failed.
+    /// It returns the first job, as if allocation failed.
     Refusing,
-    /// It holds each of two sessions at work until both have arrived, and the first until the second has finished.
+    /// It holds each of two sessions at work until both have arrived, and session 0 until the other has finished.
     Meeting,
-    /// It holds the first job of session 0 at work until this number of jobs arrived, and then for a while, so that other jobs wait for its
-    /// page; then it works it.
+    /// It holds the first job of session 0 at work until this number of jobs arrived. It then holds the job for a while, so
+    /// that other jobs wait for its page, and computes it.
     Keeping(u64),
-    /// It holds that job as long, and hands it back, as if allocation failed.
+    /// It holds that job for the same time, and then returns it, as if allocation failed.
     Dropping(u64),
-    /// It wants only the job of the first call, and holds that at work for a while. The other calls wait until it has arrived, and take no
-    /// ticket.
+    /// It wants a job only for the first call, and holds that job at work for a while. The other calls wait until the job has
+    /// arrived, and take no ticket.
     First,
 }
 
-/// The number of questions whether a gate wants jobs; whether session 0 or the first job began; the numbers of jobs that arrived, of jobs
-/// that were finished, and of waits that timed out.
+/// The state of a gate: its behavior, and counts of the calls of `wants_jobs`, of the held jobs that began, of the jobs that
+/// arrived, of the jobs that finished, and of the waits that timed out.
 #[derive(Drop)]
 pub struct Watch {
     manner: Manner,
@@ -40,14 +40,14 @@ pub struct Watch {
     gave_up: AtomicU64,
 }
 
-// The number of looks before a thread stops waiting.
+// The number of polls after which a thread stops waiting.
 const TURNS: u64 = 1_000_000_000;
 
-// The number of looks at a count that is already reached. This takes far longer than another thread needs to begin to wait.
+// The number of polls of a count that is already reached. They take far longer than another thread needs to begin to wait.
 const LINGERED: u64 = 20_000_000;
 
 impl Watch {
-    /// A watch that has seen nothing.
+    /// A watch whose counts are zero.
     pub fn new(manner: Manner) -> Self {
         Watch {
             manner,
@@ -75,7 +75,7 @@ impl Watch {
         )
     }
 
-    // Waits until a count is reached, and records a timeout.
+    // Waits until a count is reached. If the wait times out, counts that.
     fn wait_for(&self, count: &AtomicU64, wanted: u64) {
         for _ in 0..TURNS {
             if count.load(Ordering::SeqCst) >= wanted {
@@ -85,8 +85,8 @@ impl Watch {
         self.gave_up.fetch_add(1, Ordering::SeqCst);
     }
 
-    // Holds the first job of session 0 until `wanted` jobs arrived, and then for a while. The other sessions wait until it has arrived.
-    // Returns whether the job was held.
+    // Holds the first job of session 0 until `wanted` jobs arrived, and then for a while. The other sessions wait until that
+    // job has arrived. Returns `true` if the job was held.
     fn keeps(&self, session: u64, wanted: u64) -> bool {
         if session != 0 {
             self.wait_for(&self.began, 1);
@@ -122,7 +122,7 @@ impl Watch {
         }
     }
 
-    // Records that a session's job arrives, and returns whether it should be worked.
+    // Records that a session's job arrived. Returns `true` if it should be computed.
     fn comes(&self, session: u64) -> bool {
         let before = self.came.fetch_add(1, Ordering::SeqCst);
         match self.manner {

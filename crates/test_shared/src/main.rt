@@ -1,45 +1,47 @@
 //! Executes lines on stores and their sessions, and prints the results.
 //!
-//! Standard input is a list of cases, separated by empty lines. The first line of a case is its title. The second line
-//! says how its store is opened: `WHO FROM LIMIT GATE`.
+//! Standard input is a list of cases, separated by empty lines. The first line of a case is its title. The second line says how
+//! to open its store: `WHO FROM LIMIT GATE`.
 //!
 //! | Word | Meaning |
 //! |---|---|
 //! | `WHO` | `turns`: the sessions make their calls in turn; `lean`: the same, in memory that runs out; `apart`: each session in a separate thread; `beside`: two sessions in two threads, and one of them runs long programs |
-//! | `FROM` | the store is opened over an `empty` database, or over the one that was `kept` from the last closed store |
-//! | `LIMIT` | the largest number of entries in the trail |
-//! | `GATE` | `free` works the jobs, and in `apart` there is no gate; `passing` wants no jobs, so that calls take no ticket; `refusing` hands the first job back, and `meeting` has two sessions at work at once; `keeping COUNT` holds the first job of session 0 at work until COUNT jobs arrived and other jobs wait for its page, and `dropping COUNT` then hands it back; `first` wants only the job of the first call, and holds it at work for a while |
+//! | `FROM` | `empty`: the store is opened over an empty database; `kept`: over the database of the store that was closed last |
+//! | `LIMIT` | the maximum number of entries in the trail |
+//! | `GATE` | `free` computes the jobs, and in `apart` means no gate; `passing` wants no jobs, so that calls take no ticket; `refusing` returns the first job; `meeting` has two sessions at work at once; `keeping COUNT` holds the first job of session 0 at work until COUNT jobs arrived and other jobs wait for its page; `dropping COUNT` does the same and then returns the job; `first` wants a job only for the first call, and holds it at work for a while |
 //!
 //! The following lines make calls, up to `end`.
 //!
 //! | Line | Answer |
 //! |---|---|
-//! | `sessions COUNT` | the number of sessions after COUNT more, or why no more are made |
-//! | `SESSION COMMAND` | the reply, or why the call is refused |
-//! | `watch SESSION COMMAND` | the reply; the session makes the call again after each call that is refused because memory ran out |
-//! | `group SESSION COMMAND / COMMAND / ..` | the outcome of each of these calls, which are made at once, or that there was no memory to make any |
-//! | `COUNT calls COMMAND / COMMAND / ..` | in `apart`, for each of COUNT sessions: its replies, or the number of many replies, and why one was refused, after which it makes no more |
+//! | `sessions COUNT` | makes COUNT more sessions: the number of all sessions, or the reason why no more are made |
+//! | `SESSION COMMAND` | the reply, or the refusal |
+//! | `watch SESSION COMMAND` | the reply; the session repeats this call after each call that is refused because memory ran out |
+//! | `group SESSION COMMAND / COMMAND / ..` | the outcome of each of these calls, which are made as a group, or that there was no memory to make any |
+//! | `COUNT calls COMMAND / COMMAND / ..` | in `apart`, for each of COUNT sessions: the number of its replies if there are many, otherwise its replies and the refusal that ended its calls |
 //! | `COUNT times CALLS COMMAND` | the same for CALLS calls of one command |
 //! | `COUNT rolls SEED KEYS CALLS` | the same for CALLS random calls on KEYS keys |
-//! | `COUNT grouped ..` | the same for each of these, 16 calls at once |
+//! | `COUNT grouped ..` | the same for any of these three lines, with groups of 16 calls |
 //!
-//! In `beside` there are two lines, and no gate. The first line is `CALLS COUNT UNIT COMMAND`: a group of CALLS calls of one command, a
-//! run of a program with the `~` in its image replaced by COUNT times this unit. The second line is a short command. The answer is whether
-//! that is answered while the programs run.
+//! A `beside` case has two lines, and no gate. The first line is `CALLS COUNT UNIT COMMAND`: a group of CALLS calls of one
+//! command. The command runs a program; its image has COUNT copies of the unit instead of `~`. The second line is a short
+//! command. The answer says whether the short command is answered while the programs run.
 //!
-//! `end` ends the sessions in order, and reports the number of each that made calls, and the number of its calls. Their calls are appended
-//! to those in hand, which have places from 0. The following lines close the store; without them it is dropped.
+//! `end` ends the sessions in order. It reports each session that made calls, and the number of its calls. Their calls are
+//! appended to those in hand, which have indices from 0. The following lines close the store; without such lines the store is
+//! dropped.
 //!
 //! | Line | Answer |
 //! |---|---|
 //! | `close PLACE PLACE ..` | `closed` with the calls at these places, and the numbers of entries and of opening pairs of the trail; or the fault |
 //! | `order`, `pairs` | for the closed store, the sessions of its trail's entries, and its pairs |
 //!
-//! A trail is replayed on a plain map, which has to give the same replies and pairs. Its keys have up to two bytes. A run on it is
-//! one of the counter, which adds 1 to the number in the first 8 bytes of the record and replies it, and leaves a shorter record unchanged.
+//! A trail is replayed on a plain map, which has to give the same replies and pairs. Its keys have up to two bytes. Each run on
+//! it is a run of the counter, which adds 1 to the number in the first 8 bytes of the record and returns it as the reply word.
+//! The counter leaves a shorter record unchanged.
 //!
-//! In a `lean` case each call begins with a full heap and gets 16 bytes more each time until there is enough, which
-//! is reported as `with more memory`. Creating sessions, ending them and closing have no memory at all.
+//! In a `lean` case each call begins with a full heap. It is repeated with 16 bytes more until there is enough memory, which is
+//! reported as `with more memory`. Sessions are made and ended, and stores closed, while the heap has no memory.
 #![tactic(auto)]
 
 mod apart;

@@ -25,7 +25,7 @@ fn number_of(key: &[u8]) -> usize {
     }
 }
 
-// Runs the counter on a record, and returns its number and its word.
+// Runs the counter on a record, and returns its exit number and its reply word.
 fn count_up(record: &mut [u8]) -> (u64, u64) {
     let Some(word) = record.first_chunk_mut::<8>() else {
         return (0, 0);
@@ -90,7 +90,7 @@ impl<A: Allocator + Copy> Plain<A> {
         Reply::Deleted
     }
 
-    // Runs the counter. Its record is stored if its number is not 0.
+    // Runs the counter, and stores its record if the exit number is not 0.
     fn run(&mut self, key: &[u8], blank: Option<usize>) -> Result<Reply<A>, AllocError> {
         let mut record = match (self.value(key), blank) {
             (Some(value), _) => Vec::from_slice(self.global, value)?,
@@ -116,7 +116,7 @@ impl<A: Allocator + Copy> Plain<A> {
         }
     }
 
-    // Returns `true` if it answers all entries as a trail does.
+    // Returns `true` if the map gives the reply of each entry.
     fn plays(&mut self, entries: &[KeptEntry<A>]) -> Result<bool, AllocError> {
         for entry in entries {
             if self.answer(entry.command())? != *entry.reply() {
@@ -126,7 +126,7 @@ impl<A: Allocator + Copy> Plain<A> {
         Ok(true)
     }
 
-    // Returns `true` if it has exactly these pairs.
+    // Returns `true` if the map has these pairs and no others.
     fn has(&self, pairs: &[(Bytes<A>, Bytes<A>)]) -> bool {
         for (key, value) in pairs {
             if self.value(key.as_slice()) != Some(value.as_slice()) {
@@ -137,7 +137,8 @@ impl<A: Allocator + Copy> Plain<A> {
     }
 }
 
-/// Returns `true` if a plain map with the opening of a trail answers its entries as the trail does, and then has the pairs of a database.
+/// Returns `true` if a plain map, begun with the opening of a trail, gives the reply of each entry and then has the pairs of a
+/// database.
 pub fn is_as_plain<A: Allocator + Copy>(
     global: Global,
     alloc: A,

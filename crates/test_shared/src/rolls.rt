@@ -5,7 +5,7 @@ use sdbm_addr::{Bytes, Mode};
 use std::alloc::{AllocError, Global};
 use store_cmd::Command;
 
-// Steps of a linear congruential generator, by Knuth's MMIX.
+// A linear congruential generator with the constants of Knuth's MMIX.
 #[derive(Drop)]
 struct Dice {
     state: u64,
@@ -25,7 +25,7 @@ impl Dice {
     }
 }
 
-// A command on one of `keys` keys. A value is one byte, repeated up to 40 times.
+// A random command on one of `keys` keys. A value is one byte, repeated up to 40 times.
 fn roll_command(alloc: Global, dice: &mut Dice, keys: u16) -> Result<Command<Global>, AllocError>
     requires { 0 < keys }
 {
@@ -47,7 +47,8 @@ fn roll_command(alloc: Global, dice: &mut Dice, keys: u16) -> Result<Command<Glo
     })
 }
 
-/// Reads `SEED KEYS CALLS`: `CALLS` commands on `KEYS` keys. The seed is that of the first session; each further session adds 1.
+/// Reads `SEED KEYS CALLS`: `CALLS` random commands on `KEYS` keys. `SEED` is the seed of the first session; each further
+/// session adds 1.
 pub fn read_rolls(alloc: Global, words: &str, place: u64) -> Option<Vec<Command<Global>>> {
     let (seed, rest) = words.split_once(' ')?;
     let (keys, calls) = rest.split_once(' ')?;

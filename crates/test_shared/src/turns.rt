@@ -10,7 +10,7 @@ use store_cmd::{Command, Refusal};
 use store_shared::{Gate, Session, SessionFault, Store};
 use test_support::{MOST_TIMES, read_command, show_reply};
 
-// The sessions on a store, and the call of one of them that watches while calls of another are refused.
+// The sessions of a store, and the watching call: a call that one session makes again after each refused call of another.
 #[derive(Drop)]
 struct Table<'s, A: Allocator, G: Gate> {
     sessions: Vec<Session<'s, A, G>>,
@@ -48,14 +48,14 @@ fn outcomes_text<A: Allocator>(global: Global, outcomes: &[Came<A>]) -> Option<S
     Some(text)
 }
 
-// A session's number and its command.
+// Reads a session's number and its command.
 fn read_call<A: Allocator + Copy>(alloc: A, words: &str) -> Option<(usize, Command<A>)> {
     let (number, command) = words.split_once(' ')?;
     let number = number.parse::<usize>().ok()?;
     Some((number, read_command(alloc, command)?))
 }
 
-// Creates another session, or reports why it cannot.
+// Makes another session, or reports why that is refused.
 fn add_session<'s, R: Wait, A: Allocator + Copy, G: Gate>(
     rt: &R,
     store: &'s Store<A, G>,
@@ -71,7 +71,7 @@ fn add_session<'s, R: Wait, A: Allocator + Copy, G: Gate>(
 }
 
 impl<'s, A: Allocator + Copy, G: Gate> Table<'s, A, G> {
-    // The reply to the session that watches.
+    // The reply to the watching call.
     fn seen<R: Wait>(&mut self, bench: &Bench<'_, R, A>) -> Option<String> {
         let Some((number, command)) = &self.watched else {
             return Some(String::new(bench.global));
@@ -80,7 +80,7 @@ impl<'s, A: Allocator + Copy, G: Gate> Table<'s, A, G> {
         came_text(bench.global, &make(bench.rt, session, command))
     }
 
-    // Makes a call with all memory of the heap taken except `spared` bytes.
+    // Makes a call while all memory of the heap except `spared` bytes is in use.
     fn make_with<R: Wait>(
         &mut self,
         bench: &Bench<'_, R, A>,
@@ -95,7 +95,7 @@ impl<'s, A: Allocator + Copy, G: Gate> Table<'s, A, G> {
         Some(came)
     }
 
-    // Makes a call in a heap with more memory each time. The reply to the session that watches must not change.
+    // Makes a call with more and more memory until there is enough. The reply to the watching call must not change.
     fn answer_call<R: Wait>(
         &mut self,
         bench: &Bench<'_, R, A>,
@@ -117,8 +117,8 @@ impl<'s, A: Allocator + Copy, G: Gate> Table<'s, A, G> {
         None
     }
 
-    // Makes the calls of a group in a heap with more memory each time, until they are made. Until then the reply to the session that
-    // watches must not change.
+    // Makes the calls of a group with more and more memory until they are made. Until then, the reply to the watching call must
+    // not change.
     fn answer_group<R: Wait>(
         &mut self,
         bench: &Bench<'_, R, A>,
@@ -146,7 +146,7 @@ impl<'s, A: Allocator + Copy, G: Gate> Table<'s, A, G> {
         None
     }
 
-    // Creates `count` more sessions with no memory in the heap, and reports the number of sessions.
+    // Makes `count` more sessions while the heap has no memory, and reports the number of sessions.
     fn answer_sessions<R: Wait>(
         &mut self,
         bench: &Bench<'_, R, A>,

@@ -5,11 +5,12 @@
 ; it represents that number minus 2^64, so 2^64 - 1 subtracts 1.
 ;
 ; Code 1: added. The reply word is the new number, from the floor to the ceiling.
-; Code 0: the sum would be below the floor or above the ceiling, and the reply word is the
-; unchanged number; or a length is too short, and the word is 0.
+; Code 0: the sum would be below the floor or above the ceiling. The reply word is the unchanged
+; number.
+; Code 4: the record or the argument is too short.
 
-    jlt r2, 8, leave        ; R2 is the record's length
-    jlt r4, 24, leave       ; R4 is the argument's length
+    jlt r2, 8, short        ; R2 is the record's length
+    jlt r4, 24, short       ; R4 is the argument's length
     mov r6, r1              ; a call leaves R1 to R5 unset
     ldxdw r7, [r6]          ; the number
     ldxdw r8, [r3]          ; the amount
@@ -41,6 +42,6 @@ refuse:
     mov r0, 0               ; change nothing
     exit
 
-leave:
-    mov r0, 0               ; change nothing
+short:
+    mov r0, 4               ; change nothing
     exit

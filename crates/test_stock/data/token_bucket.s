@@ -7,13 +7,13 @@
 ;
 ; Code 1: taken. The reply word is the amount that is left.
 ; Code 0: there is too little, and the reply word is the time to wait until there is enough. It is
-; 2^64 - 1 if there never is: the cost is above the capacity, or the time would be past 2^64 - 1. If
-; a length is too short, it is 0.
+; 2^64 - 1 if there never is: the cost is above the capacity, or the time would be past 2^64 - 1.
+; Code 4: the record or the argument is too short.
 ;
 ; A time ahead of the clock is accepted: if a clock was wrong, delete the key.
 
-    jlt r2, 8, leave        ; R2 is the record's length
-    jlt r4, 16, leave       ; R4 is the argument's length
+    jlt r2, 8, short        ; R2 is the record's length
+    jlt r4, 16, short       ; R4 is the argument's length
     mov r6, r1              ; a call leaves R1 to R5 unset
     ldxdw r7, [r3]          ; the cost
     ldxdw r8, [r3+8]        ; the capacity
@@ -49,6 +49,6 @@ never:
     mov r0, 0               ; change nothing
     exit
 
-leave:
-    mov r0, 0               ; change nothing
+short:
+    mov r0, 4               ; change nothing
     exit

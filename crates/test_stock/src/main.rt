@@ -1,7 +1,8 @@
-//! Compares the codes of the stock programs with texts.
+//! Compares the codes of the stock programs with the texts of `examples/`.
 //!
-//! Each line of standard input is the name of a program and a file of `data/`, which has the texts of `examples/`. The answer is `same` if
-//! the text denotes the code of that name, `other` if it denotes another one, and `none` if there is no such name or the text is invalid.
+//! Each line of standard input is the name of a program and a file of `data/`, which has copies of the texts of `examples/`.
+//! The answer is `same` if the text denotes the code with that name and `other` if it denotes another code. It is `none` if no
+//! stock program has the name or the text is invalid.
 #![tactic(auto)]
 
 use bpf_asm::assemble;
@@ -13,7 +14,7 @@ use stock_programs::{
     lease_code, rate_limit_code, semaphore_code, sequence_code, token_bucket_code,
 };
 
-// The code of a name.
+// The code of the stock program with a name.
 fn code_named(alloc: Global, name: &str) -> Result<Option<Code>, AllocError> {
     let code = match name {
         "counter" => counter_code(alloc)?,

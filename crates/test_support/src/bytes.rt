@@ -1,12 +1,12 @@
-//! Bytes as words.
+//! Bytes as the words of a line.
 
 use std::alloc::{AllocError, Allocator};
 use std::fmt::Write;
 
-/// The least number of equal bytes that are written as one byte and their number.
+/// The least number of equal bytes that are written as the byte and their number.
 pub const LONG_RUN: usize = 8;
 
-/// Reads bytes: in hex, `.` for no bytes, or `BYTE*COUNT` for a repeated byte.
+/// Reads bytes in hex, `.` for no bytes, or `BYTE*COUNT` for a repeated byte.
 pub fn read_bytes<A: Allocator + Copy>(alloc: A, word: &str) -> Option<Vec<u8, A>> {
     let Some((digits, count)) = word.split_once('*') else {
         let digits = if word == "." { "" } else { word };
@@ -18,7 +18,7 @@ pub fn read_bytes<A: Allocator + Copy>(alloc: A, word: &str) -> Option<Vec<u8, A
     vec![in alloc; byte; count].ok()
 }
 
-/// Writes bytes as such a word.
+/// Writes bytes as a word that `read_bytes` reads.
 pub fn show_bytes(out: &mut String, bytes: &[u8]) -> Result<(), AllocError> {
     let Some(first) = bytes.first() else {
         return out.push_str(".");

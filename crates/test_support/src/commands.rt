@@ -30,7 +30,7 @@ fn read_program<A: Allocator + Copy>(alloc: A, word: &str) -> Option<Program<A>>
     Some(Program::new(Arc::new(alloc, accepted).ok()?))
 }
 
-// The length of a blank, `.` for no blank.
+// Reads the length of a blank, or `.` for no blank.
 fn read_blank(word: &str) -> Option<Option<usize>> {
     if word == "." {
         return Some(None);
@@ -52,8 +52,8 @@ fn read_run<A: Allocator + Copy>(alloc: A, words: &str) -> Option<Command<A>> {
     })
 }
 
-/// A command: `fetch KEY`, `insert KEY VALUE`, `replace KEY VALUE`, `delete KEY`, `run KEY IMAGE ARG BLANK NOW` or `count`. The
-/// image of a program has to be accepted; `.` means no blank.
+/// Reads a command: `fetch KEY`, `insert KEY VALUE`, `replace KEY VALUE`, `delete KEY`, `run KEY IMAGE ARG BLANK NOW` or
+/// `count`. The image has to be that of an accepted program; `.` means no blank.
 pub fn read_command<A: Allocator + Copy>(alloc: A, words: &str) -> Option<Command<A>> {
     let (name, rest) = words.split_once(' ').unwrap_or((words, ""));
     match name {
@@ -87,7 +87,7 @@ fn show_blank(out: &mut String, blank: Option<usize>) -> Result<(), AllocError> 
     }
 }
 
-/// Writes a command in the same words.
+/// Writes a command in the words that `read_command` reads.
 pub fn show_command<A: Allocator>(
     global: Global,
     out: &mut String,

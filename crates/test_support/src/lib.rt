@@ -1,4 +1,4 @@
-//! Shared parts of the tests of the store: bytes, commands and replies in the words of lines, comparisons of trails, and heaps
+//! Shared parts of the tests of the store: bytes, commands and replies as the words of lines, comparisons of trails, and heaps
 //! without memory.
 #![tactic(auto)]
 

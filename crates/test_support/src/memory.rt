@@ -2,10 +2,10 @@
 use linked_list_allocator::LocalHeap;
 use std::alloc::{AllocError, Global};
 
-/// The largest number of attempts of a call, with more memory each time.
+/// The maximum number of attempts of a call that is repeated with more memory.
 pub const MOST_TIMES: usize = 4000;
 
-/// Takes all memory of a heap except `spared` bytes.
+/// Takes all memory of a heap except `spared` bytes, and returns the blocks.
 pub fn fill<'a>(
     alloc: Global,
     heap: &'a LocalHeap,

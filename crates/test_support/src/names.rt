@@ -1,8 +1,8 @@
-//! Sizes of pages and kinds of key bytes by their names.
+//! Page sizes and hash kinds by their names.
 
 use sdbm_addr::{KeyBytes, PageSize};
 
-/// `Small` or `Wide`.
+/// Reads `Small` or `Wide`.
 pub fn read_size(word: &str) -> Option<PageSize> {
     match word {
         "Small" => Some(PageSize::Small),
@@ -11,7 +11,7 @@ pub fn read_size(word: &str) -> Option<PageSize> {
     }
 }
 
-/// `Signed` or `Unsigned`.
+/// Reads `Signed` or `Unsigned`.
 pub fn read_kind(word: &str) -> Option<KeyBytes> {
     match word {
         "Signed" => Some(KeyBytes::Signed),

@@ -3,17 +3,17 @@
 use crate::bytes::read_bytes;
 use std::alloc::Global;
 
-/// The first word, and the rest of the words. Without a space, the whole text and an empty one.
+/// The first word and the rest of the words. Without a space, the whole text and an empty text.
 pub fn cut(text: &str) -> (&str, &str) {
     text.split_once(' ').unwrap_or((text, ""))
 }
 
-/// A number. Returns 0 if the word is not a number.
+/// Reads a number. Returns 0 if the word is not a number.
 pub fn number(word: &str) -> usize {
     word.parse::<usize>().unwrap_or(0)
 }
 
-/// Bytes. Returns no bytes if the word is invalid.
+/// Reads bytes. Returns no bytes if the word is invalid.
 pub fn bytes_of(global: Global, word: &str) -> Vec<u8> {
     match read_bytes(global, word) {
         Some(bytes) => bytes,
@@ -21,7 +21,7 @@ pub fn bytes_of(global: Global, word: &str) -> Vec<u8> {
     }
 }
 
-/// The end of an answer: whether the data stays the same when it is read again.
+/// The end of an answer, which says whether the data stays the same when it is written and read again.
 pub fn tail(same: bool) -> &'static str {
     if same {
         " again"

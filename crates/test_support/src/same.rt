@@ -4,7 +4,7 @@ use sdbm_addr::Bytes;
 use std::alloc::Allocator;
 use store_cmd::{KeptEntry, Trail};
 
-// Returns `true` if pairs are the same, in the same order.
+// Returns `true` if both lists have equal pairs in the same order.
 fn same_pairs<A: Allocator>(a: &[(Bytes<A>, Bytes<A>)], b: &[(Bytes<A>, Bytes<A>)]) -> bool {
     if a.len() != b.len() {
         return false;
@@ -17,7 +17,7 @@ fn same_pairs<A: Allocator>(a: &[(Bytes<A>, Bytes<A>)], b: &[(Bytes<A>, Bytes<A>
     true
 }
 
-// Returns `true` if two entries are the same, with the same sessions, commands and replies.
+// Returns `true` if two entries have equal sessions, commands and replies.
 fn same_entry<A: Allocator>(a: &KeptEntry<A>, b: &KeptEntry<A>) -> bool {
     a.equals(b)
         && a.session() == b.session()
@@ -25,7 +25,7 @@ fn same_entry<A: Allocator>(a: &KeptEntry<A>, b: &KeptEntry<A>) -> bool {
         && a.reply() == b.reply()
 }
 
-/// Returns `true` if two trails are the same.
+/// Returns `true` if two trails have equal openings and entries.
 pub fn same_trail<A: Allocator>(a: &Trail<A>, b: &Trail<A>) -> bool {
     if a.entries.len() != b.entries.len() {
         return false;

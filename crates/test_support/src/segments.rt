@@ -1,4 +1,4 @@
-//! The bytes of files in segments: `LENGTH`, and a word `OFFSET:BYTES` for each. Bytes outside segments are zeros.
+//! The bytes of files as segments: `LENGTH`, and a word `OFFSET:BYTES` for each segment. Bytes outside segments are zeros.
 
 use crate::bytes::{LONG_RUN, read_bytes};
 use std::alloc::{AllocError, Global};
@@ -15,7 +15,7 @@ fn put_segment(alloc: Global, bytes: &mut [u8], segment: &str) -> Option<()> {
     Some(())
 }
 
-/// The bytes of a file.
+/// Reads the bytes of a file.
 pub fn read_file(alloc: Global, text: &str) -> Option<Vec<u8>> {
     let (length, segments) = text.split_once(' ').unwrap_or((text, ""));
     let length = length.parse::<usize>().ok()?;
@@ -59,7 +59,7 @@ fn runs_of(alloc: Global, bytes: &[u8]) -> Result<Vec<Run>, AllocError> {
     Ok(runs)
 }
 
-// Writes equal bytes, and returns whether the next ones continue in the same segment.
+// Writes a run of equal bytes. Returns `true` if the next run continues in the same segment.
 fn show_run(out: &mut String, run: Run, goes_on: bool) -> Result<bool, AllocError> {
     let Run { start, byte, count } = run;
     if count >= LONG_RUN {
@@ -77,7 +77,8 @@ fn show_run(out: &mut String, run: Run, goes_on: bool) -> Result<bool, AllocErro
     Ok(true)
 }
 
-/// Writes the bytes of a file. Omits eight or more zeros; writes eight or more equal bytes as a separate segment.
+/// Writes the bytes of a file. Omits runs of eight or more zeros, and writes a run of eight or more other equal bytes as a
+/// separate segment.
 pub fn show_file(alloc: Global, out: &mut String, bytes: &[u8]) -> Result<(), AllocError> {
     write!(out, "{}", bytes.len())?;
     let mut goes_on = false;

@@ -5,8 +5,8 @@ use dbm_script::ScriptFault;
 use linked_list_allocator::LocalHeap;
 use std::alloc::Global;
 
-// Runs a script in a heap of `size` bytes, and returns whether it comes to its end. Returns `None` if it has other answers than `told`, if
-// a refused script has another fault or wrote something, or if something stays in the heap.
+// Runs a script in a heap of `size` bytes. Returns `true` if there is enough memory and `false` if not. Returns `None` if the
+// answers differ from `told`, if a refused script has another fault or wrote something, or if the heap is not empty afterwards.
 fn is_answered(global: Global, size: usize, script: &[u8], told: &[u8]) -> Option<bool> {
     let heap = LocalHeap::new(global, size).ok()?;
     let mut writer = Collected::new(global, 4096, None);
@@ -22,7 +22,7 @@ fn is_answered(global: Global, size: usize, script: &[u8], told: &[u8]) -> Optio
     }
 }
 
-// The size of the first heap of 128, 144 and so on bytes in which a script is answered.
+// Tries heaps of 128, 144, 160 bytes and so on, and returns the size of the first in which a script is answered.
 fn least_heap(global: Global, script: &[u8]) -> Option<usize> {
     let told = answers(global, script);
     for blocks in 8..4000 {
@@ -33,7 +33,8 @@ fn least_heap(global: Global, script: &[u8]) -> Option<usize> {
     None
 }
 
-/// Reports whether a script is refused in each heap up to one of more than `count` bytes, with nothing written, and then answered.
+/// Says whether the least heap in which a script is answered has more than `count` bytes. Every smaller heap has to refuse it
+/// and to write nothing.
 pub fn heaps_text(global: Global, script: &[u8], count: &str) -> Option<String> {
     let count = count.parse::<usize>().ok()?;
     let text = if least_heap(global, script)? > count {

@@ -4,25 +4,25 @@
 //!
 //! | Line | Answer |
 //! |---|---|
-//! | `words WORD ..` | the request, with its base, its file and whether it writes; or why it is refused; or that it is answered by a text |
-//! | `help WORD ..` | that text, or `none` |
-//! | `part TEXT \| WORD ..` | whether that text contains another |
+//! | `words WORD ..` | the request, with its base, its file and whether it writes; or its refusal; or that a text answers it |
+//! | `help WORD ..` | the text of help or the version that answers the words, or `none` |
+//! | `part TEXT \| WORD ..` | whether that text contains TEXT |
 //! | `time UNIT WORD ..` | the request of the words with the time `1700000000`, if it needs the time in that unit, or `none` |
-//! | `faults` | for the faults other than refusals: the text, and whether it is an answer |
+//! | `faults` | for each fault that is not a refusal: its text, and whether it is an answer |
 //! | `script TEXT` | `said`, and the answers of the script |
-//! | `again READ WRITE` | the number of pairs after the script of the line before, and its answers, or the fault: READ bytes are read and WRITE bytes written at a time |
-//! | `reader FAULT COUNT`, `writer FAULT COUNT` | the same if the stream fails once, with COUNT bytes left or written, and how much of the answers is written |
+//! | `again READ WRITE` | the number of pairs after the last `script` line, and its answers, or the fault, if READ bytes are read and WRITE bytes written at a time |
+//! | `reader FAULT COUNT`, `writer FAULT COUNT` | the same if the stream fails once, with COUNT bytes unread or written, and how much is written |
 //! | `lines COUNT` | the same for COUNT empty lines |
-//! | `within BYTES` | `said` and the answers of the script of that line, if they have at most this number of bytes, or the fault |
-//! | `heaps COUNT` | for that script: whether it is refused in each heap up to one of more than COUNT bytes, and then answered as with ample memory |
+//! | `within BYTES` | `said` and the answers of that script, if they have at most this number of bytes, or the fault |
+//! | `heaps COUNT` | for that script: whether the least heap in which it is answered has more than COUNT bytes |
 //! | `read WORD` | the bytes of a word as text, in hex, or `none` |
-//! | `show HEX` | those bytes as text, and `back` if that text is read as the same bytes |
+//! | `show HEX` | the bytes as text, and `back` if that text is read as the same bytes |
 //! | `by LAYOUT HEX` | the same with a layout, or `no layout` |
 //! | `text LAYOUT TEXT` | `said`, and the answers of a script whose bytes are text, and whose values are printed with a layout unless it is `.` |
 //! | `# TEXT` | the line itself |
 //!
 //! In texts `\n`, `\r` and `\t` are a line feed, a carriage return and a tab. A script runs on an empty database. The answers
-//! under `cases` are those of an independent model of the store.
+//! after the comment `cases` are those of an independent model of the store.
 #![tactic(auto)]
 
 mod heaps;

@@ -22,7 +22,7 @@ fn read_line(global: Global, word: &str) -> Option<String> {
     }
 }
 
-// Shows a text, and whether it is read as these bytes.
+// Shows a text, and `back` if it is read as these bytes.
 fn told(global: Global, text: &[u8], bytes: &[u8]) -> Option<String> {
     let read = read_text(global, text).ok()??;
     let back = if read.as_slice() == bytes {
@@ -62,7 +62,7 @@ fn notation_in(global: Global, word: &str) -> Option<Notation<Global>> {
     Some(Notation::Layout(layout_in(global, word)??))
 }
 
-// The answers of a script on an empty database.
+// Runs a script on an empty database, and returns its answers.
 fn text_line(global: Global, rest: &str) -> Option<String> {
     let (layout, script) = rest.split_once(' ')?;
     let notation = notation_in(global, layout)?;

@@ -15,7 +15,7 @@ fn escaped(global: Global, text: &[u8]) -> Option<String> {
     text.replace(global, "\n", "\\n").ok()
 }
 
-// The end of a run, and the written bytes.
+// The outcome of a run, and the written bytes.
 fn ended(global: Global, came: Result<usize, ScriptFault>, written: &[u8]) -> Option<String> {
     let text = escaped(global, written)?;
     match came {
@@ -95,7 +95,7 @@ fn empty_lines(global: Global, count: &str) -> Option<String> {
     ended(global, came, writer.text.as_slice())
 }
 
-// The answers of a script on an empty database, if they have at most `most` bytes.
+// Runs a script on an empty database. Returns its answers, or the fault if they have more than `most` bytes.
 fn within_text(global: Global, script: &[u8], most: &str) -> Option<String> {
     let most = most.parse::<u64>().ok()?;
     let image = Image::empty(global, KeyBytes::Signed, PageSize::Small);

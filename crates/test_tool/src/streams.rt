@@ -1,4 +1,4 @@
-//! Readers and writers of every kind, and scripts that run between them.
+//! Readers and writers that are slow or fail, and scripts that run between them.
 
 use dbm_script::{Notation, ScriptFault, run_script};
 use sdbm_addr::{KeyBytes, PageSize};
@@ -7,7 +7,7 @@ use std::alloc::{Allocator, Global};
 use std::io;
 use std::io::{ErrorKind, Read, Write};
 
-/// Returns a text, some bytes at each call, and fails once, when a given number of bytes is left.
+/// A reader of a text. It returns `step` bytes at each call, and fails once, when a given number of bytes is left.
 #[derive(Drop)]
 pub struct Given<'a> {
     pub text: &'a [u8],
@@ -31,7 +31,7 @@ impl Read for Given<'_> {
     }
 }
 
-/// Returns some empty lines without storing them.
+/// A reader of empty lines, which it does not store.
 #[derive(Drop)]
 pub struct EmptyLines {
     pub left: usize,
@@ -48,7 +48,7 @@ impl Read for EmptyLines {
     }
 }
 
-/// Takes some bytes at each call, and fails once, when it has taken a given number.
+/// A writer that accepts some bytes at each call, and fails once, when it has accepted a given number.
 #[derive(Drop)]
 pub struct Collected {
     pub text: Vec<u8>,
@@ -85,7 +85,7 @@ impl Write for Collected {
     }
 }
 
-/// Runs a script on an empty database, and returns the number of pairs after it.
+/// Runs a script on an empty database, and returns the number of pairs afterwards.
 pub fn run<A: Allocator + Copy, R: Read>(
     alloc: A,
     reader: &mut R,
@@ -98,7 +98,7 @@ pub fn run<A: Allocator + Copy, R: Read>(
     }
 }
 
-/// Returns a text, `step` bytes at each call.
+/// A reader of a text that returns `step` bytes at each call.
 pub fn giving(text: &[u8], step: usize) -> Given<'_> {
     Given {
         text,
@@ -107,7 +107,7 @@ pub fn giving(text: &[u8], step: usize) -> Given<'_> {
     }
 }
 
-/// The answers of a script if nothing fails.
+/// The answers of a script, from streams that do not fail.
 pub fn answers(global: Global, script: &[u8]) -> Vec<u8> {
     let mut writer = Collected::new(global, 4096, None);
     let _came = run(global, &mut giving(script, 4096), &mut writer);

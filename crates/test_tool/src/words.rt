@@ -68,7 +68,7 @@ fn wish_text(global: Global, wish: &Wish<'_>) -> Option<String> {
     Some(out)
 }
 
-// The request, and how its database is accessed if the words say so.
+// The request as text, and how its database is accessed if the words say so.
 fn request_text(global: Global, request: &Request<'_>) -> Option<String> {
     let mut out = match &request.ask {
         Ask::Wish(wish) => wish_text(global, wish)?,
@@ -136,7 +136,7 @@ fn part_text(global: Global, rest: &str) -> Option<String> {
     String::from_str(global, if is_there { "there" } else { "not there" }).ok()
 }
 
-// The request with a time, if it needs the time in a unit.
+// The request with a time, if it needs the time in this unit.
 fn time_text(global: Global, rest: &str) -> Option<String> {
     let (unit, words) = rest.split_once(' ')?;
     let words = words_of(global, words)?;

@@ -1,4 +1,4 @@
--- The results of tasks: all were run, or the reason why not.
+-- The results of tasks: all tasks were run, or there is a fault.
 use Rattle.std.specs.Prelude.{◌≡◌, ◌<◌, ◌⊎◌, ℕ, List, [], length, Option, Some, None}
 use Rattle.std.specs.List.{All, slice_get}
 use Rattle.sdbm_addr.specs.declared.PageSize.{PageSize}
@@ -18,12 +18,12 @@ pub record MayBegin {A : Type 0} (programs : List Accepted) (tasks : List (Task 
   pub some : 0 < workers
   pub known : AreTasksKnown programs tasks
 
--- The calls of a worker are the runs of its whole share, and their replies are its share of the replies.
+-- The calls of a worker are the runs of its whole share, and the replies to these calls are its share of the replies.
 pub record IsShareDone {A : Type 0} (programs : List Accepted) (tasks : List (Task A)) (workers worker : ℕ) (replies : List (Reply A)) (calls : CallsState A) : Type 0 where
   pub runs : AreRuns programs (share_of workers worker tasks) calls.number calls.calls
   pub replied : replies_of calls.calls ≡ share_of workers worker replies
 
--- All tasks were run, and their sizes were valid: one reply for each task, and the calls of each worker.
+-- All tasks were run, and their sizes were valid. There is one reply for each task, and one list of calls for each worker.
 pub record AreDone {A : Type 0} (size : PageSize) (programs : List Accepted) (tasks : List (Task A)) (workers : ℕ) (replies : List (Reply A)) (calls : List (CallsState A)) : Type 0 where
   pub begun : MayBegin programs tasks workers
   pub small : (at : ℕ) (task : Task A) → slice_get tasks at ≡ Some task → IsSmall size (run_of programs task)
@@ -31,10 +31,11 @@ pub record AreDone {A : Type 0} (size : PageSize) (programs : List Accepted) (ta
   pub all_workers : length calls ≡ workers
   pub shares : (worker : ℕ) (its : CallsState A) → slice_get calls worker ≡ Some its → IsShareDone programs tasks workers worker replies its
 
--- This task is the first that was refused, with the reason. Every task was tried: either it was run, and its size was valid, or
--- it was refused for a separate reason. The calls of each worker are the runs of the tasks in its share that were not refused.
+-- This task is the first that was refused, with its refusal. Every task was tried: either it was run, and its size was valid,
+-- or it was refused for a separate reason. The calls of each worker are the runs of the tasks in its share that were not
+-- refused.
 pub record AreRefused {A : Type 0} (size : PageSize) (programs : List Accepted) (tasks : List (Task A)) (workers at : ℕ) (refusal : Refusal) (calls : List (CallsState A)) : Type 0 where
-  -- by index, the reason for a task's refusal; `None` if the task was run
+  -- by index, the refusal of a task; `None` if the task was run
   pub refusals : ℕ → Option Refusal
   pub within : at < length tasks
   pub here : refusals at ≡ Some refusal
@@ -47,7 +48,7 @@ pub record AreRefused {A : Type 0} (size : PageSize) (programs : List Accepted) 
 abbrev pub AreIdle : {A : Type 0} → List (CallsState A) → Type 0
 AreIdle {A} calls = All (λ (its : CallsState A). its.calls ≡ []) calls
 
--- why the pool does not begin, and makes no session
+-- the faults before any session is made, each with its condition
 abbrev pub IsUnready : {A : Type 0} → List Accepted → List (Task A) → ℕ → PoolFault → Type 0
 IsUnready programs tasks workers NoWorkers = workers ≡ 0
 IsUnready programs tasks workers (NoProgram at) = (0 < workers) × IsFirstUnknown programs tasks at
@@ -56,7 +57,7 @@ IsUnready programs tasks workers (NoThread worker) = ⊥
 IsUnready programs tasks workers (Refused at refusal) = ⊥
 IsUnready programs tasks workers NoMemory = MayBegin programs tasks workers
 
--- why a pool that may begin does not run all tasks, with the calls of the sessions made
+-- the faults after sessions were made, each with its condition and the calls of these sessions
 abbrev pub IsUnfinished : {A : Type 0} → PageSize → List Accepted → List (Task A) → ℕ → PoolFault → List (CallsState A) → Type 0
 IsUnfinished size programs tasks workers NoWorkers calls = ⊥
 IsUnfinished size programs tasks workers (NoProgram at) calls = ⊥
@@ -65,7 +66,7 @@ IsUnfinished size programs tasks workers (NoThread worker) calls = ⊥
 IsUnfinished size programs tasks workers (Refused at refusal) calls = AreRefused size programs tasks workers at refusal calls
 IsUnfinished size programs tasks workers NoMemory calls = ⊥
 
--- The condition of each fault, and the calls of the sessions made.
+-- The condition of each fault, and the calls of the sessions that were made.
 abbrev pub IsPoolFault : {A : Type 0} → PageSize → List Accepted → List (Task A) → ℕ → PoolFault → List (CallsState A) → Type 0
 IsPoolFault size programs tasks workers fault calls =
     (IsUnready programs tasks workers fault × (calls ≡ [])) ⊎ (MayBegin programs tasks workers × IsUnfinished size programs tasks workers fault calls)

@@ -14,7 +14,7 @@ use std::thread::Threads;
 use store_cmd::{Refusal, Reply};
 use store_shared::{Gate, Session, Store};
 
-/// A worker: its session, its replies, and its first refused task with the reason.
+/// A worker: its session, its replies, and its first refused task with the refusal.
 #[derive(Drop)]
 pub(crate) struct Worker<'a, A: Allocator, G: Gate> {
     pub(crate) session: Session<'a, A, G>,
@@ -22,7 +22,7 @@ pub(crate) struct Worker<'a, A: Allocator, G: Gate> {
     pub(crate) refused: Option<(usize, Refusal)>,
 }
 
-/// Makes the workers, each with a new session. Makes fewer if the store makes too few sessions.
+/// Makes the workers, each with a new session. If the store refuses to make more sessions, returns fewer workers.
 pub(crate) fn hire<'a, R: Wait, A: Allocator + Copy, G: Gate>(
     rt: &R,
     alloc: A,
@@ -52,7 +52,8 @@ pub(crate) fn hire<'a, R: Wait, A: Allocator + Copy, G: Gate>(
     Ok(crew)
 }
 
-/// Runs each worker's share. A worker runs in its own thread if one can be made; otherwise it runs in turn with the rest.
+/// Runs each worker's share. A worker runs in its own thread if a thread can be made; the workers without a thread run one
+/// after another.
 pub(crate) fn set_to_work<R: Threads + Wait + Sync, A: Allocator + Copy + Send + Sync, G: Gate>(
     rt: &R,
     registry: &Registry<A>,

@@ -37,7 +37,7 @@ impl<A: Allocator + Copy> Room<A> {
     }
 }
 
-/// The first refused task of all workers, with the reason.
+/// The first refused task of all workers, with its refusal.
 pub(crate) fn first_refused<A: Allocator, G: Gate>(
     crew: &[Worker<'_, A, G>],
 ) -> Option<(usize, Refusal)>
@@ -50,7 +50,7 @@ pub(crate) fn first_refused<A: Allocator, G: Gate>(
     first
 }
 
-// Returns the refusal with the lower task number; if only one exists, returns that one.
+// Returns the refusal with the lower task index, or the only one if one is missing.
 fn lower(one: Option<(usize, Refusal)>, other: Option<(usize, Refusal)>) -> Option<(usize, Refusal)>
     ensures { IsLowerOf one other result }
 {
@@ -88,7 +88,7 @@ pub(crate) fn dismiss<A: Allocator + Copy, G: Gate>(
     }
 }
 
-/// Takes replies from the lists of all workers in turn, which yields them in the order of the tasks.
+/// Takes one reply from each worker's list in turn, which gives the replies in the order of the tasks.
 pub(crate) fn gather<A: Allocator>(
     tasks: &[Task<A>],
     lists: &mut [IntoIter<Reply<A>, A>],

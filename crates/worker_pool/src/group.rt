@@ -1,4 +1,4 @@
-//! Groups: runs of one worker's tasks that are called together.
+//! Groups: runs of one worker's tasks that are made by one call.
 ghost use Rattle.std.specs.Prelude.{◌≡◌, ◌<◌, ◌≤◌, ◌+◌, IfOk, IfErr, OnErr, Some, length, vec_len, vec_capacity};
 ghost use Rattle.std.specs.List.{slice_get};
 ghost use Rattle.std.specs.Vec.Iter.{into_iter_items};
@@ -13,12 +13,13 @@ use std::vec::IntoIter;
 use store_cmd::{Command, Program, Refusal, Reply, SharedCommand, SizeFault, check_run};
 use store_shared::{Gate, Session};
 
-/// The maximum number of calls in a group. With fewer, four workers lose more time to lock handovers; for a full group of short
-/// runs, the lock is held for about 30 microseconds.
+/// The maximum number of calls in a group. With smaller groups, four workers lose more time when the lock changes hands. For a
+/// full group of short runs, the lock is held for about 30 microseconds.
 const GROUP: usize = 128;
 
-/// Calls a group of a worker's runs, beginning with the task at index `at`, and returns the outcome of each. Reserves room for
-/// all replies first. If the task at `at` cannot be prepared, returns the reason and calls nothing.
+/// Makes the calls of a group of a worker's runs, beginning with the task at index `at`, and returns the outcome of each.
+/// Reserves room for all replies first. If the task at `at` cannot be prepared, or memory runs out, returns the refusal and
+/// makes no call.
 pub(crate) fn call_group<R: Wait, A: Allocator + Copy, G: Gate>(
     rt: &R,
     registry: &Registry<A>,
@@ -50,8 +51,8 @@ pub(crate) fn call_group<R: Wait, A: Allocator + Copy, G: Gate>(
     }
 }
 
-// Prepares the runs of a worker's tasks from index `at`, up to the first that cannot be prepared. If that is the task at `at`,
-// returns the reason.
+// Prepares the runs of a worker's tasks from index `at`, up to the first task that cannot be prepared. If that is the task at
+// `at`, returns its refusal.
 fn ready_group<A: Allocator + Copy, G: Gate>(
     alloc: A,
     registry: &Registry<A>,
@@ -79,7 +80,7 @@ fn ready_group<A: Allocator + Copy, G: Gate>(
     }
 }
 
-// Adds the following runs, up to the first that cannot be prepared.
+// Appends the runs of the next tasks, up to the first task that cannot be prepared.
 fn ready_more<A: Allocator + Copy, G: Gate>(
     alloc: A,
     registry: &Registry<A>,
@@ -190,7 +191,7 @@ fn command_of<A: Allocator + Copy>(
     }
 }
 
-// The registered program with a number; adds an owner. Returns an error if the owner count is at its maximum.
+// The registered program with a number, with one more owner. Returns an error if the owner count is at its maximum.
 fn program_of<A: Allocator + Copy>(
     registry: &Registry<A>,
     id: ProgId,

@@ -15,18 +15,18 @@ use std::sync::Wait;
 use std::thread::Threads;
 use store_shared::{Calls, Gate, Store};
 
-/// Runs tasks by a number of workers. Each worker has a new session of the store, and its own thread if one can be made. Worker
-/// `i % workers` runs task `i`; each worker runs its tasks in rising order. A refused task is skipped, and all remaining tasks
-/// are run.
+/// Runs tasks by a number of workers. Each worker has a new session of the store, and its own thread if a thread can be made.
+/// Worker `i % workers` runs task `i`; each worker runs its tasks in rising order. A refused task is skipped, and all other
+/// tasks are run.
 ///
 /// # Errors
-/// On any error, the calls of the sessions made are returned in the order of the workers, so that the store can be closed; they
-/// say which tasks were run. Checked in this order:
+/// On any error, the calls of the sessions that were made are returned in the order of the workers. The store needs these calls
+/// to be closed, and they say which tasks were run. Checked in this order:
 /// - `NoWorkers` if `workers` is 0.
 /// - `NoProgram` with the first task whose program is not in the registry.
 /// - `NoMemory` if there is no memory for the lists of replies, calls and workers, or `NoSession` if the store makes too few
 ///   sessions. No task was run.
-/// - `Refused` with the first refused task and the reason, which is `NoMemory` if there was no memory for that task.
+/// - `Refused` with the first refused task and its refusal. The refusal is `NoMemory` if there was no memory for that task.
 pub fn run_jobs<R: Threads + Wait + Sync, A: Allocator + Copy + Send + Sync, G: Gate>(
     rt: &R,
     alloc: A,
@@ -44,14 +44,14 @@ pub fn run_jobs<R: Threads + Wait + Sync, A: Allocator + Copy + Send + Sync, G: 
     }
 }
 
-// The lists that are needed before a session is made: one for the workers, and those for their results.
+// The lists that are allocated before a session is made: one for the workers, and those for their results.
 #[derive(Drop)]
 struct Ready<'a, A: Allocator, G: Gate> {
     crew: Vec<Worker<'a, A, G>, A>,
     room: Room<A>,
 }
 
-// Allocates all lists. It does not borrow the store, so if it fails nothing was run.
+// Allocates all lists. It has no access to the store, so if it fails, no task was run.
 fn make_ready<'a, A: Allocator + Copy, G: Gate>(
     alloc: A,
     registry: &Registry<A>,
@@ -113,7 +113,7 @@ fn run_ready<'a, R: Threads + Wait + Sync, A: Allocator + Copy + Send + Sync, G:
     }
 }
 
-// Runs all tasks by the workers, and gathers their results.
+// Runs all tasks and gathers the results.
 fn run_crew<R: Threads + Wait + Sync, A: Allocator + Copy + Send + Sync, G: Gate>(
     rt: &R,
     registry: &Registry<A>,

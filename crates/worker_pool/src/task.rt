@@ -17,7 +17,7 @@ pub struct Task<A: Allocator> {
     pub now: u64,
 }
 
-/// The results of tasks that were all run.
+/// The results of tasks, all of which were run.
 #[derive(Drop)]
 pub struct Answers<A: Allocator> {
     /// A reply for each task, in the order of the tasks.
@@ -26,18 +26,18 @@ pub struct Answers<A: Allocator> {
     pub calls: Vec<Calls<A>, A>,
 }
 
-/// Why some task was not run.
+/// The reasons why not all tasks were run.
 #[derive(Clone, Copy, Debug, PartialEq, Eq)]
 pub enum PoolFault {
     /// There are no workers. No session was made.
     NoWorkers,
-    /// The program of this task is not in the registry; it is the first such task. No session was made.
+    /// The program of this task is not in the registry; this is the first such task. No session was made.
     NoProgram(usize),
-    /// The store makes no more sessions. No task was run.
+    /// The store made too few sessions. No task was run.
     NoSession,
-    /// No thread could be made for this worker. Never returned: a worker without its own thread runs in turn with the rest.
+    /// Never returned. A worker for which no thread can be made runs without its own thread.
     NoThread(usize),
-    /// This task was refused; it is the first such task.
+    /// This task was refused; it is the first refused task.
     Refused(usize, Refusal),
     /// There is no memory for the lists of replies, calls and workers. No session was made.
     NoMemory,

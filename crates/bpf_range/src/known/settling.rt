@@ -9,8 +9,8 @@ use crate::bits::any_bits;
 use crate::filling::fill;
 use crate::values::{Bits, Range};
 
-/// The range with its bits. The bits above the highest one in which the ends differ are those of
-/// the lower end: all numbers of the range agree in them.
+/// The numbers of a range that have these bits. All numbers of the range agree in the bits above the
+/// highest one in which the ends differ, so these bits are taken from the lower end.
 #[tactic(auto, using(crate::proofs::FillFacts::shared, crate::proofs::FillFacts::shared_apart))]
 pub fn share_high_bits(range: Range, bits: Bits) -> Known
     ensures keeps { (x : ℕ) → In range x → HasBits bits x → Contains result x }

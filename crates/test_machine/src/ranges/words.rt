@@ -19,7 +19,7 @@ pub fn read_range(word: &str) -> Option<Range> {
     Some(Range { lo, hi })
 }
 
-// The knowledge of a number, of the form `LO..HI,VALUE,UNKNOWN`.
+// Reads the knowledge of a number, of the form `LO..HI,VALUE,UNKNOWN`.
 fn read_known(word: &str) -> Option<Known> {
     let (range, bits) = word.split_once(',')?;
     let (value, unknown) = bits.split_once(',')?;
@@ -40,7 +40,7 @@ pub fn read_two_known(words: &str) -> Option<(Known, Known)> {
     Some((read_known(a)?, read_known(b)?))
 }
 
-/// An operation and its width, and the rest of the words.
+/// Reads an operation and its width. Also returns the rest of the words.
 pub fn read_operation(words: &str) -> Option<(Op, Width, &str)> {
     let (op, rest) = words.split_once(' ')?;
     let (width, rest) = rest.split_once(' ')?;
@@ -55,7 +55,7 @@ pub struct Edge {
     pub taken: bool,
 }
 
-/// An edge, and the rest of the words.
+/// Reads an edge. Also returns the rest of the words.
 pub fn read_jump(words: &str) -> Option<(Edge, &str)> {
     let (test, rest) = words.split_once(' ')?;
     let (width, rest) = rest.split_once(' ')?;

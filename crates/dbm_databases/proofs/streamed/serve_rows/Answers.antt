@@ -3,7 +3,7 @@ use Rattle.std.proofs.lemmas.Result.{IfErr-weaker, IfOk-weaker}
 use Rattle.dbm_reports.specs.Reports.{OnDatabase}
 use Rattle.dbm_reports.proofs.Asked.{within}
 use Rattle.dbm_databases.specs.Listings.{Lists, listing_causes}
-use Rattle.dbm_databases.specs.Rows.{prefix_asked}
+use Rattle.dbm_reports.specs.Words.{prefix_asked}
 use Rattle.dbm_databases.proofs.Streams.{printed_as, unserved_as}
 use Rattle.dbm_databases.proofs.streamed.serve_rows.Goals as goal
 

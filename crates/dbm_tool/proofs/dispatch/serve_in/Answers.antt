@@ -69,7 +69,7 @@ pub returns-in-Compact : goal.returns-in-Compact
 returns-in-Compact g c = rw (c.in-Compact.is) (reported (compact_in c.in-Compact.compact c.args.given.now) _ _ _ _ _ _ c.serve-in-Compact.result c.outcome_of-in-Compact.result c.outcome_of-in-Compact.ensures c.serve-in-Compact.ensures.ok c.serve-in-Compact.ensures.fault c.serve-in-Compact.ensures.database c.serve-in-Compact.ensures.unread)
 
 pub returns-in-Dump : goal.returns-in-Dump
-returns-in-Dump g c = rw (c.in-Dump.is) (dumped (dump_in c.in-Dump.dump c.args.given.now) _ _ _ _ _ _ c.serve-in-Dump.result c.outcome_of-in-Dump.result c.outcome_of-in-Dump.ensures c.serve-in-Dump.ensures.ok c.serve-in-Dump.ensures.fault c.serve-in-Dump.ensures.database c.serve-in-Dump.ensures.unread)
+returns-in-Dump g c = rw (c.in-Dump.is) (dumped (dump_in c.args.n.now c.in-Dump.dump c.args.given.now) _ _ _ _ _ _ c.serve-in-Dump.result c.outcome_of-in-Dump.result c.outcome_of-in-Dump.ensures c.serve-in-Dump.ensures.ok c.serve-in-Dump.ensures.fault c.serve-in-Dump.ensures.database c.serve-in-Dump.ensures.unread)
 
 pub returns-in-Load : goal.returns-in-Load
 returns-in-Load g c = rw (c.in-Load.is) (dumped (load_in c.in-Load.load c.args.given.now (g.R.Read.remaining c.args.reader.now)) _ _ _ _ _ _ c.serve-in-Load.result c.outcome_of-in-Load.result c.outcome_of-in-Load.ensures c.serve-in-Load.ensures.ok c.serve-in-Load.ensures.fault c.serve-in-Load.ensures.database c.serve-in-Load.ensures.unread)

@@ -5,7 +5,8 @@ use Rattle.sdbm_addr.specs.Database.{map_of}
 use Rattle.dbm_reports.specs.Reports.{OnDatabase}
 use Rattle.dbm_reports.proofs.Asked.{within}
 use Rattle.dbm_databases.specs.Count.{CountsChosen, count_line}
-use Rattle.dbm_databases.specs.Rows.{chosen, prefix_asked}
+use Rattle.dbm_databases.specs.Rows.{chosen}
+use Rattle.dbm_reports.specs.Words.{prefix_asked}
 use Rattle.dbm_databases.proofs.count.CountSubcommand.report.Goals as goal
 
 pub returns-clause-ok : goal.returns-clause-ok

@@ -3,7 +3,7 @@ use Rattle.dbm_reports.specs.Causes.{IsCaused}
 use Rattle.dbm_reports.specs.Reports.{OnDatabase}
 use Rattle.dbm_reports.specs.Served.{IsPrinted, IsUnserved}
 use Rattle.dbm_databases.specs.Listings.{Lists, listing_causes}
-use Rattle.dbm_databases.specs.Rows.{prefix_asked}
+use Rattle.dbm_reports.specs.Words.{prefix_asked}
 use Rattle.dbm_databases.specs.declared.rows.Listing.{Listing}
 use Rattle.dbm_databases.proofs.list.List.serve.Goals as goal
 

@@ -23,7 +23,7 @@ returns-in_err-image-clause-fault g c =
 pub returns-clause-ok : goal.returns-clause-ok
 returns-clause-ok g c =
     let is : format_of c.args.self.now.format ≡ Some c.in-Some.format = search rules in
-    within (format_of c.args.self.now.format) c.in-Some.format (λ format. OnDatabase c.args.self.now.form c.args.given.now (Dumps format c.in_ok-dumped.field-0)) is
+    within (format_of c.args.self.now.format) c.in-Some.format (λ format. OnDatabase c.args.self.now.form c.args.given.now (Dumps c.args.notation.now format c.in_ok-dumped.field-0)) is
     (c.in_ok-image.image, (c.in_ok-image.ensures.ok, c.in_ok-dumped.ensures))
 
 pub returns-clause-database : goal.returns-clause-database

@@ -17,7 +17,7 @@ returns-clause-ok g c = record {
   image_is = rw c.as_slice-2.ensures.value c.in_ok-image.ensures;
   run = c.in_ok-report.report;
   runs = subst (λ (words : RunWords Global). RunsImage c.args.notation.now c.in_ok-database.database words (Some 1) c.as_slice-2.result.now c.in_ok-report.report)
-      (λ i. record { key = c.key.view_is i; arg = c.in_ok-argument.ensures i; blank = Some 8; now = 0 })
+      (λ i. record { key = c.key.view_is i; arg = c.in_ok-counter_argument.ensures i; blank = Some 8; now = 0 })
       c.in_ok-report.ensures;
   text_is = c.in_ok-with_number_alone.ensures.text;
   status_is = c.in_ok-with_number_alone.ensures.status;

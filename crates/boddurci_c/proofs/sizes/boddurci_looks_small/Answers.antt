@@ -1,7 +1,7 @@
 use Rattle.std.proofs.Common.{subst}
 use Rattle.sdbm_addr.specs.declared.KeyBytes.{KeyBytes}
 use Rattle.boddurci_c.specs.Sizes.{IsLook}
-use Rattle.boddurci_c.proofs.boddurci_looks_small.Goals as goal
+use Rattle.boddurci_c.proofs.sizes.boddurci_looks_small.Goals as goal
 
 pub returns : goal.returns
 returns c = record {

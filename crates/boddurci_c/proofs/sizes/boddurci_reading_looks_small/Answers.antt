@@ -2,7 +2,7 @@ use Rattle.std.proofs.Common.{subst}
 use Rattle.sdbm_addr.specs.declared.KeyBytes.{KeyBytes}
 use Rattle.boddurci_handles.specs.Pieces.{bytes_read}
 use Rattle.boddurci_c.specs.Sizes.{IsLook}
-use Rattle.boddurci_c.proofs.boddurci_reading_looks_small.Goals as goal
+use Rattle.boddurci_c.proofs.sizes.boddurci_reading_looks_small.Goals as goal
 
 pub returns-clause-look : goal.returns-clause-look
 returns-clause-look c = record {

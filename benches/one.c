@@ -1,4 +1,4 @@
-/* Stores or fetches one pair in a process, as a shell command would, with another store than Boddurci. A stored pair is on the disk when
+/* Stores or fetches one pair in a process, as a shell command would, with a store other than Boddurci. A stored pair is on the disk when
  * the process ends.
  *
  * cc -O2 -DHAVE_GDBM .. benches/one.c -lgdbm .. -o one, with one -DHAVE_ for the installed store (benches/run does it)

@@ -1,5 +1,5 @@
-/* The pairs of benches/one.c and benches/saves.c, and the keys of benches/durable.c: a key for each number, and a value of one
- * repeated byte. */
+/* The pairs of benches/one.c and benches/saves.c, and the keys of benches/durable.c, shared.c and sizes.c: a key for each
+ * number, and a value of one repeated byte. */
 #include <stdint.h>
 #include <string.h>
 

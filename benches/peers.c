@@ -1,4 +1,4 @@
-/* Does the work of bindings/c/bench.c with other stores than Boddurci: N stores, N fetches and N increments (fetch, add, store) of 16-byte
+/* Does the work of bindings/c/bench.c with stores other than Boddurci: N stores, N fetches and N increments (fetch, add, store) of 16-byte
  * keys and 8-byte values, in files of a folder. It syncs nothing.
  *
  * cc -O2 -DHAVE_GDBM .. benches/peers.c -lgdbm .. -o peers, with one -DHAVE_ for each installed store (benches/run does it)

@@ -28,7 +28,7 @@
  * writes no file. The caller reads both files before boddurci_open, and writes both files after boddurci_files.
  *
  * Handles. Initialize a handle with BODDURCI_CLOSED. Never copy, compare or write the contents of a handle. Any thread may use a handle,
- * but only one call at a time: to share a handle, protect it by a mutex. Two handles are independent. Do not call the library in a signal
+ * but only one call at a time: to share a handle, protect it with a mutex. Two handles are independent. Do not call the library in a signal
  * handler, nor in the forked child of a process that has threads.
  *
  * NULL. A handle, a reading and a ticket may be NULL. If the handle or the reading is NULL, a call returns IS_CLOSED, even boddurci_open.
@@ -43,9 +43,9 @@
  * pass BODDURCI_NO_BYTES for no bytes. Arguments that a call only reads may overlap. Memory that a call writes (buffers, lengths, numbers,
  * the handle) must not overlap any other argument.
  *
- * Results. The caller passes a buffer for a result, with its size as the argument `.._room`. The call always sets `*.._length` to the
- * length of the result. It writes the result if the result fits, and otherwise leaves the buffer unchanged. A text does not end in a zero
- * byte. If there is no memory for the text of a fault, the call returns NO_MEMORY instead of the fault, and the length of the text is 0.
+ * Results. The caller passes a buffer for a result, with its size as the argument `.._room`. The call sets `*.._length` to the length of
+ * the result, whether the result fits or not. If it does not fit, the buffer is unchanged. A text does not end in a zero byte. If there is
+ * no memory for the text of a fault, the call returns NO_MEMORY instead of the fault, and the length of the text is 0.
  *
  * Statuses. Each call returns a status. The comment on a call names the statuses that the call may return besides DONE, without BODDURCI_.
  * After CHANGED and every greater status the handle, the ticket and all results are unchanged, unless the comment says otherwise.
@@ -97,7 +97,7 @@ enum boddurci_status {
     BODDURCI_EXISTS = 2,         /* the key exists already; nothing was inserted */
     BODDURCI_CROWDED = 3,        /* the pair does not fit, however often its page is split; nothing changed */
     BODDURCI_SHORT_ROOM = 4,     /* a buffer is too short; the lengths are set */
-    BODDURCI_REFUSED = 5,        /* the image is not an accepted program, or there are 4,096 programs; the text says why */
+    BODDURCI_REFUSED = 5,        /* the image is not an accepted program, or there are 4,096 programs already; the text says why */
     BODDURCI_BAD_TEXT = 6,       /* the text is not a program; the line and the text of the fault are set */
     BODDURCI_BAD_FILES = 7,      /* the bytes are not a database; the text says why; the handle stays closed */
     BODDURCI_CHANGED = 8,        /* the page of the key has changed since boddurci_ask: ask again. From boddurci_save: another program has
@@ -161,8 +161,8 @@ uint32_t boddurci_open(boddurci *db, const uint8_t *dir, size_t dir_length, cons
 
 /* Sets *looks_small to 1 if the bytes of both files look like a database with small pages, and to 0 otherwise. Call this before opening
  * files with wide pages: small pages can be valid wide pages by chance, and a change would destroy them. If *looks_small is 0, the files
- * are not a database with small pages, unless all their bytes are zeros. Needs no handle. boddurci_open_files makes this check, and
- * boddurci_open does not. NO_MEMORY. */
+ * are not a database with small pages, unless all whole pages of 8,192 bytes in .pag are zeros. Needs no handle. boddurci_open_files makes
+ * this check, and boddurci_open does not. NO_MEMORY. */
 uint32_t boddurci_looks_small(const uint8_t *dir, size_t dir_length, const uint8_t *pag, size_t pag_length, uint32_t unsigned_keys,
                               uint32_t *looks_small);
 
@@ -201,13 +201,13 @@ uint32_t boddurci_is_open(boddurci *db);
 /* Closes the handle and frees its memory. Saves nothing. Does nothing if the handle is closed. */
 void boddurci_close(boddurci *db);
 
-/* Sets the greatest length of .pag in bytes that a command may cause while the handle is open. The default, 1 GiB, is also the maximum. A
+/* Sets the length in bytes up to which commands may extend .pag while the handle is open. The default, 1 GiB, is also the maximum. A
  * command that needs a page above the limit returns FILE_TOO_LONG; existing pages stay. Set a limit if untrusted users choose your keys.
- * With a few keys these users can make .pag as long as the limit, since a page far out leaves holes before it. Then every opening takes
- * time for the whole length. IS_CLOSED. */
+ * With a few keys they can make .pag as long as the limit, with holes between its pages, and every later opening takes time for the whole
+ * length. IS_CLOSED. */
 uint32_t boddurci_limit(boddurci *db, size_t bytes);
 
-/* Fetches the value of a key, which may have any length. Allocates no memory. SHORT_ROOM, IS_CLOSED, and MISSING, which leaves
+/* Fetches the value of a key. The key may have any length. Allocates no memory. SHORT_ROOM, IS_CLOSED, and MISSING, which leaves
  * *value_length unchanged. */
 uint32_t boddurci_fetch(boddurci *db, const uint8_t *key, size_t key_length, uint8_t *value, size_t value_room, size_t *value_length);
 
@@ -227,16 +227,16 @@ uint32_t boddurci_count(boddurci *db, size_t *count);
 uint32_t boddurci_assemble(const uint8_t *source, size_t source_length, uint8_t *image, size_t image_room, size_t *image_length,
                            size_t *line, uint8_t *text, size_t text_room, size_t *text_length);
 
-/* Verifies the image of a program, which has 8 bytes a unit, and gives the program a number. Numbers begin at 0, and are valid until the
- * handle is closed. The same image always gets the same number. IS_CLOSED, NO_MEMORY (the unit is BODDURCI_NOWHERE, and the text may be
- * set), REFUSED with a text, for example "Verify(OutOfRecord(3))", and the offending unit, here 3, or BODDURCI_NOWHERE. */
+/* Verifies the image of a program, which consists of units of 8 bytes, and gives the program a number. Numbers begin at 0, and are valid
+ * until the handle is closed. The same image always gets the same number. IS_CLOSED, NO_MEMORY (the unit is BODDURCI_NOWHERE, and the text
+ * may be set), REFUSED with a text, for example "Verify(OutOfRecord(3))", and the offending unit, here 3, or BODDURCI_NOWHERE. */
 uint32_t boddurci_submit(boddurci *db, const uint8_t *image, size_t image_length, uint32_t *number, size_t *unit, uint8_t *text,
                          size_t text_room, size_t *text_length);
 
 /* Submits a stock program by its name, one of BODDURCI_STOCKS, for example "counter". Sets *number as boddurci_submit does for the image of
  * the program, so a program that was submitted before keeps its number. docs/PROGRAMS.md says what each program does; that is proved.
- * NO_STOCK, IS_CLOSED and NO_MEMORY leave *number unchanged. REFUSED if there are 4,096 programs. boddurci_submit_stock takes a name that
- * does not end in a zero byte. */
+ * NO_STOCK, IS_CLOSED and NO_MEMORY leave *number unchanged. REFUSED if there are 4,096 programs. boddurci_submit_stock takes the name by
+ * its length, without a zero byte at its end. */
 uint32_t boddurci_stock(boddurci *db, const char *name, uint32_t *number);
 uint32_t boddurci_submit_stock(boddurci *db, const uint8_t *name, size_t name_length, uint32_t *number);
 
@@ -248,21 +248,29 @@ uint32_t boddurci_submit_stock(boddurci *db, const uint8_t *name, size_t name_le
 uint32_t boddurci_run(boddurci *db, uint32_t number, const uint8_t *key, size_t key_length, const uint8_t *arg, size_t arg_length,
                       uint32_t has_blank, size_t blank, uint64_t now, uint64_t *end, uint64_t *word);
 
+/* Writes the argument of the stock program bounded_counter: an amount, the least number and the greatest number. */
+static inline void boddurci_add_argument(int64_t amount, uint64_t least, uint64_t greatest, uint8_t argument[24])
+{
+    const uint64_t values[3] = {(uint64_t)amount, least, greatest};
+
+    for (int i = 0; i < 24; i++)
+        argument[i] = (uint8_t)(values[i / 8] >> (8 * (i % 8)));
+}
+
 /* Adds an amount to the number in the first 8 bytes of a record, the lowest byte first, as one step. If the key does not exist, the number
- * is 0. Runs the stock program bounded_counter. *end is 1 if the amount was added. It is 0, and nothing changes, if the new number would be
- * below `least` or above `greatest`. *number is the number after the call. The statuses are those of boddurci_stock and boddurci_run. */
+ * is 0. *end is 1 if the amount was added, and *number is then the new number. Nothing changes if *end is 0 or 4. It is 0 if the new number
+ * would be below `least` or above `greatest`, and *number is then the present number. It is 4 if the record has fewer than 8 bytes, and
+ * *number is then 0. Each call runs the stock program bounded_counter, and first submits it, which allocates memory: to add often, call
+ * boddurci_stock once and then boddurci_run. The statuses are those of these two calls. */
 static inline uint32_t boddurci_add(boddurci *db, const uint8_t *key, size_t key_length, int64_t amount, uint64_t least,
                                     uint64_t greatest, uint64_t *end, uint64_t *number)
 {
-    const uint64_t values[3] = {(uint64_t)amount, least, greatest};
-    uint8_t argument[sizeof values];
-    uint32_t program, status;
+    uint8_t argument[24];
+    uint32_t program, status = boddurci_stock(db, "bounded_counter", &program);
 
-    for (size_t i = 0; i < sizeof argument; i++)
-        argument[i] = (uint8_t)(values[i / 8] >> (8 * (i % 8)));
-    status = boddurci_stock(db, "bounded_counter", &program);
     if (status != BODDURCI_DONE)
         return status;
+    boddurci_add_argument(amount, least, greatest, argument);
     return boddurci_run(db, program, key, key_length, argument, sizeof argument, 1, 8, 0, end, number);
 }
 
@@ -283,15 +291,15 @@ static inline uint32_t boddurci_add(boddurci *db, const uint8_t *key, size_t key
  *     boddurci_abandon(&ticket);
  *
  * boddurci_ask puts the run and the present page of its key into the ticket, and drops an earlier run in the ticket. It does not run the
- * program, so boddurci_finish returns MISSING, CROWDED and FILE_TOO_LONG. boddurci_ask may return the other statuses of boddurci_run; after
- * these the ticket is unchanged.
+ * program, so it never returns MISSING, CROWDED or FILE_TOO_LONG: boddurci_finish returns these. It may return the other statuses of
+ * boddurci_run; after these the ticket is unchanged.
  *
  * boddurci_work runs the program on that page. It does not use the handle, so another thread may use the handle meanwhile. NO_TICKET if the
  * ticket has no run, NO_MEMORY.
  *
- * boddurci_finish does the same as boddurci_run, with the same results, if the page has not changed since boddurci_ask. The ticket is free
- * afterwards. CHANGED if any pair of the page has changed or the page was split. (A page of 1,024 bytes has room for some 25 pairs of 24
- * bytes.) IS_CLOSED, NO_TICKET. After FILE_TOO_LONG and NO_MEMORY it may be called again.
+ * boddurci_finish does the same as boddurci_run, with the same results, if the page has not changed since boddurci_ask. After DONE, MISSING
+ * and CROWDED the ticket is free. CHANGED if any pair of the page has changed or the page was split. (A page of 1,024 bytes has room for
+ * some 25 pairs of 24 bytes.) IS_CLOSED, NO_TICKET. After FILE_TOO_LONG and NO_MEMORY it may be called again.
  *
  * boddurci_abandon drops the run of a ticket, if the ticket has one. */
 uint32_t boddurci_ask(boddurci *db, boddurci_ticket *ticket, uint32_t number, const uint8_t *key, size_t key_length, const uint8_t *arg,
@@ -315,7 +323,7 @@ uint32_t boddurci_files(boddurci *db, uint8_t *dir, size_t dir_room, size_t *dir
 
 /* Lists the numbers of the pages of .pag that may have changed since the handle was opened or since its last plan. Page numbers begin at 0.
  * The list has no order. If the list is empty, nothing has changed. A page whose bytes differ from those that the library would write, for
- * example by garbage in its free bytes, is listed from the opening on. Allocates no memory. SHORT_ROOM, IS_CLOSED. */
+ * example because its free bytes are not zeros, is listed from the opening on. Allocates no memory. SHORT_ROOM, IS_CLOSED. */
 uint32_t boddurci_changed(boddurci *db, uint32_t *numbers, size_t room, size_t *count);
 
 /* Plans a save: the changes that make the files equal to the database. Pass the bytes of .dir, the length of .pag in bytes, and the bytes

@@ -30,9 +30,9 @@
  * Readers. Opening a base with BODDURCI_READ_ONLY does not wait for the writer, and reads the writer's last save. Readers and writers share
  * the files by a flock on BASE.lock: a writer holds that lock while it opens the base, during each save and while it closes the base, and a
  * reader holds it while it reads. So a save waits for active readers, but calls in memory do not. In three cases a writer keeps BASE.lock
- * between its calls, since readers would find no complete save: after a save that could not be written, until the next save succeeds;
- * before the first save of a new database; and, if it cannot mark BASE.redo when it opens the base (no room, no permission), until it can.
- * Versions of this library that do not know the log do not write while the mark is set.
+ * between its calls: after a save that could not be written, until the next save succeeds, and before the first save of a new database,
+ * since readers would find no complete save; and if it cannot mark BASE.redo when it opens the base (no room, no permission), until it can.
+ * Versions of this library that do not know the log do not write while the mark is 1.
  *
  * Other programs. A program that does not know these locks, such as Perl, does not wait. If such a program has written, the next save
  * returns CHANGED and overwrites nothing, unless the save insists.
@@ -43,10 +43,10 @@
  *
  * Owners. BASE.redo, BASE.lock and BASE.writer must be files with one name, owned by you, by root or by the owner of BASE.pag, and writable
  * only by users who may write BASE.pag. Otherwise the call returns UNSAFE. (But a reader ignores a BASE.writer that breaks this rule.) A
- * lock may also belong to a user who may write BASE.pag, by its group or because all may. After UNSAFE, find out who made the file, and
- * remove the file if you do not trust that user. If a redo file belongs to a user you trust, let that user's next command recover it, or
- * give it to the owner of BASE.pag: the data files may contain half of its saves. Closing a base removes a redo file that could not get the
- * owner, the group and the permissions of BASE.pag, so only a killed process leaves one.
+ * lock may also belong to a user who may write BASE.pag as a member of its group, or because all users may. After UNSAFE, find out who made
+ * the file, and remove the file if you do not trust that user. If a redo file belongs to a user you trust, let that user's next command
+ * recover it, or give it to the owner of BASE.pag: the data files may contain half of its saves. Closing a base removes a redo file that
+ * could not get the owner, the group and the permissions of BASE.pag, so only a killed process leaves one behind.
  *
  * Forks. A base belongs to the process that opened it. In a forked child, boddurci_save returns FORKED, boddurci_take returns NULL,
  * boddurci_give does nothing, and boddurci_close_files only frees memory: the parent keeps the locks.
@@ -87,7 +87,8 @@ enum boddurci_save_flags {
 
 /* Statuses in addition to those of boddurci.h. */
 enum boddurci_files_status {
-    BODDURCI_FILE_FAILED = 32, /* a system call failed: fault.system is its errno. If it is 0, the links of a base lead to two bases */
+    BODDURCI_FILE_FAILED = 32, /* a system call failed: fault.system is its errno. If the errno is 0, the links of a base lead to two
+                                  bases */
     BODDURCI_LOCKED = 33,      /* another process has the database open for writing, or a reader or writer uses its files */
     BODDURCI_BAD_REDO = 34,    /* BASE.redo is marked, and does not belong to these files: no save has left it, an older copy of the
                                   files was put back, or another program wrote the files. Or a record in the middle of its log is damaged;
@@ -148,14 +149,14 @@ void boddurci_give(boddurci_base *base);
  * NO_MEMORY of boddurci.h.
  *
  * Crashes. After a crash at any time the next opening finds the database from before the save or the one from after the save. Once the save
- * has returned DONE, it finds the one from after the save. If the save has returned a fault, the next opening finds the database from
- * before the save, with one exception: if the text says that BASE.redo cannot be written, the save may be committed or not, and the next
- * save or opening finds out. A fault leaves the base open and unchanged, so you can save again.
+ * has returned DONE, the next opening finds the database from after the save. If the save has returned a fault, the next opening finds the
+ * database from before the save, with one exception: if the text says that BASE.redo cannot be written, the save may be committed or not,
+ * and the next save or opening finds out. A fault leaves the base open and unchanged, so you can save again.
  *
  * Costs. A save is one sync and a few writes. The log has room for 1 MiB, or for 64 KiB if the disk or the process's limit allows no more.
  * A log that saves fill within a second gets 4 MiB, if there is room. A save takes some more syncs in three cases: it finds the log full
  * and empties it, .pag or .dir gets shorter, or it is the first save of a new database. A save reads .dir and the pages that may have
- * changed, so its cost depends on the changes and not on the size of the base. But it reads and compares the whole files if a time of a
+ * changed, so its cost depends on the changes and not on the size of the base. But a save reads and compares the whole files if a time of a
  * file is not the one that this base has left or read, or if the base was opened with EMPTY. A page may have changed if a program ran on
  * it, even if the program saved nothing. The save holds the mutex while it compares pages, and not while it reads and writes pages.
  * (Exception: if other threads have changed further pages during the reads, three times in succession, it reads once under the mutex.)
@@ -164,18 +165,19 @@ void boddurci_give(boddurci_base *base);
  * CHANGED: another program has changed a data file since this base read or saved it. The save writes neither file, and the base does not
  * change. The text says what was found: another length, a file that was made, a later write, or a page with other bytes. Each later save
  * returns CHANGED too, until boddurci_save_with with INSIST overwrites the files. To keep the data of the other program, close the base and
- * open it again. Nothing is merged. A new empty file, or another owner, mode or link, does not count as a change. Nor does a new time alone
- * (touch), if this base has changed no page. After a write during the sync of a save, the next save returns CHANGED. A write within the
- * same tick of the clock (some milliseconds) as a save of this base may remain unnoticed. On a file system whose times are set elsewhere,
- * such as NFS, SMB and FUSE, a save compares pages and not times, so it does not notice a write on a page that this base has changed too.
+ * open it again. Nothing is merged. A new empty file, or another owner, mode or link, does not count as a change. A new time alone (touch)
+ * does not count either, if this base has changed no page. If another program writes during the sync of a save, the next save returns
+ * CHANGED. A write within the same tick of the clock (some milliseconds) as a save of this base may remain unnoticed. On NFS, SMB, FUSE and
+ * other file systems that get their times from a server, a save compares pages and not times, so it does not notice a write on a page that
+ * this base has changed too.
  *
- * Threads may save at the same time, each after its own changes. A call returns the result of a save that began after the call, so its
- * changes are in that save. A save waits for readers that hold BASE.lock. Calls that come during a save wait until it has ended. Then one
- * of these calls saves for all of them, and all of them return the status and the fault of that save. After a fault each caller may save
- * again. No thread is served twice while another one waits. A single thread never waits for other threads. If a thread is cancelled during
- * the call, the cancellation takes effect after the call. While saves take less than half a millisecond, a waiting thread polls and yields
- * the processor for twice as long as the last save took, and then sleeps. Under SCHED_FIFO a thread yields only to threads of the same
- * priority.
+ * Threads may save at the same time, each after its own changes. A call returns the result of a save that began after the call, so the
+ * caller's changes are in that save. A save waits for readers that hold BASE.lock. Calls that come during a save wait until it has ended.
+ * Then one of these calls saves for all of them, and all of them return the status and the fault of that save. After a fault each caller
+ * may save again. No thread is served twice while another one waits. A single thread never waits for other threads. If a thread is
+ * cancelled during the call, the cancellation takes effect after the call. While saves take less than half a millisecond, a waiting thread
+ * polls and yields the processor for twice as long as the last save took, and then sleeps. Under SCHED_FIFO a thread yields only to threads
+ * of the same priority.
  *
  * Full disks. Before a save is committed, both files get the blocks that they need, if the file system can allocate them. So a save on a
  * full disk returns FILE_FAILED, and nothing has changed. A save also returns FILE_FAILED if it would make one of the three files longer
@@ -204,39 +206,40 @@ void boddurci_close_files(boddurci_base *base);
  *         fprintf(stderr, "visits: %s\n", fault.text);
  *     boddurci_close_shared(shared);
  *
- * A shared base holds no lock and no pages between its calls. Each boddurci_shared_fetch, _store, _delete and _run is one atomic step among
- * all processes and threads that use the base, including commands of dbm. A call takes the locks, reads the page of its key, makes its
- * change, and saves the change. A change that returns DONE is durable. No separate save is needed, and no call returns CHANGED.
+ * A shared base holds no lock and no pages between its calls. Each boddurci_shared_fetch, _store, _delete, _run, _run_now and _add is one
+ * atomic step among all processes and threads that use the base, including commands of dbm. A call takes the locks, reads the page of its
+ * key, makes its change, and saves the change. A change that returns DONE is durable. No separate save is needed, and no call returns CHANGED.
  *
  * Locks. A change takes BASE.lock and BASE.writer as an opening for writing does; a fetch takes only BASE.lock, shared. A call waits for
  * its locks at most 5 seconds, or as long as boddurci_shared_wait sets, and then returns LOCKED, with nothing changed. The text names the
  * process that holds the lock, if the system reports it. The wait continues after a signal. While a process has the base open by
  * boddurci_open_files, or by a session of dbm, each change returns LOCKED, and a fetch reads the last save of that process.
  *
- * Costs. A call reads all of .dir, and only a few pages of .pag, even of a long one. It also checks .dir, which takes some 14 microseconds
- * for each KiB; with 900,000 pairs .dir has 60 KiB. A change appends its record to the log in BASE.redo and syncs the log while it holds
- * the locks, so it costs one sync. The log stays open between the calls of all processes, with its mark. A note in the header of the log
- * has the end of the records, for the next call. These calls take longer, and as much memory as opening the base:
+ * Costs. A call reads all of .dir, and only a few pages of .pag, even of a long one. It compares .dir with the directory of the handle's
+ * last call. It checks .dir only if they differ, which takes some 4 microseconds for each KiB; with 900,000 pairs .dir has 8 KiB. A change
+ * appends its record to the log in BASE.redo and syncs the log while it holds the locks, so it costs one sync. The log stays open between the calls of all processes, with its mark. A note in the header of the log
+ * says where the records end, for the next call. These calls take longer, and as much memory as opening the base:
  *
- * - a change for which one page is not enough, or after which the last page of .pag would be empty, and any call on files that this library
- *   has not written or whose .dir has more than 256 KiB: such a call opens the whole base;
+ * - calls that open the whole base: a change for which one page is not enough, a change after which the last page of .pag would be empty,
+ *   and any call on files that this library has not written or whose .dir has more than 256 KiB;
  * - the first call after a process was killed during a call, or after the system was started: it recovers the log;
- * - a change by a user who may write .pag and does not own it, if BASE.redo is missing: it makes BASE.redo and removes it again. This user
- *   cannot give it to the owner of .pag, and other users would not accept it.
+ * - a change by a user who may write .pag and does not own it, if BASE.redo is missing: the call makes BASE.redo and removes it again,
+ *   since this user cannot give it to the owner of .pag, and other users would not accept it.
  *
  * Other calls take less than 1 MiB and the memory of the handle's programs. A change after a command of dbm, a service or Perl begins a new
  * log, which takes some syncs.
  *
  * Threads may share a handle. The handle has a mutex, for which a call waits at most as long as for a lock. In a child of the process that
  * opened the handle, the handle opens its files again by itself, so a server may open a handle before it forks. If another thread was in a
- * call on it during the fork, or if the child was not made by fork of the C library, each call in the child returns FORKED.
+ * call on the handle during the fork, or if the child was not made by fork of the C library, each call in the child returns FORKED.
  *
  * Other programs. A program that does not know the locks, such as Perl's SDBM_File, may write between two calls, and the next call reads
- * the written data. It must not write during a call: the call does not notice the write, or only after its commit. A write that keeps the
- * lengths, within the same tick of the clock as the last call, may remain unnoticed too. (A tick has some milliseconds on systems without
+ * the written data. It must not write during a call: the call would not notice the write before its commit. A write that keeps the lengths,
+ * within the same tick of the clock as the last call, may remain unnoticed too. (A tick has some milliseconds on systems without
  * fine-grained times.)
  *
- * Time. The caller sets `now` of a run before the call waits for the locks, so `now` may be in the past when the program runs. */
+ * Time. The caller of boddurci_shared_run sets `now` before the call waits for the locks, so `now` may be in the past when the program runs,
+ * and earlier than the time of a run before. boddurci_shared_run_now reads the clock once the call has the locks. */
 typedef struct boddurci_shared boddurci_shared;
 
 /* Opens a shared base. The flags are WIDE, UNSIGNED_KEYS, MUST_EXIST, ANY_SIZE, and NO_WAIT, with which each call tries a lock only once.
@@ -254,10 +257,11 @@ void boddurci_close_shared(boddurci_shared *shared);
  * NULL. */
 uint32_t boddurci_shared_wait(boddurci_shared *shared, int64_t milliseconds);
 
-/* Make the calls of boddurci.h, each as one durable step, with the same results and statuses. In addition FORKED, LOCKED, MOVED, UNSAFE,
- * BAD_REDO, TOO_LONG, FILE_FAILED, OTHER_SIZE, OPEN_HERE and BAD_FILES, as above. After any status except DONE the database and all results
- * are unchanged, except as boddurci.h says of SHORT_ROOM, MISSING and CROWDED. If the text says that BASE.redo cannot be written, the
- * change may be saved or not. DONE with fault->system not 0 reports a system call that failed after the commit, as boddurci_save does. */
+/* These calls do the same as those of boddurci.h, each as one durable step, with the same results and statuses. They also return FORKED,
+ * LOCKED, MOVED, UNSAFE, BAD_REDO, TOO_LONG, FILE_FAILED, OTHER_SIZE, OPEN_HERE and BAD_FILES, as above. After any status except DONE the
+ * database and all results are unchanged, except as boddurci.h says of SHORT_ROOM, MISSING and CROWDED. If the text says that BASE.redo
+ * cannot be written, the change may be saved or not. DONE with fault->system not 0 reports a system call that failed after the commit, as
+ * boddurci_save does. */
 uint32_t boddurci_shared_fetch(boddurci_shared *shared, const uint8_t *key, size_t key_length, uint8_t *value, size_t value_room,
                                size_t *value_length, boddurci_fault *fault);
 uint32_t boddurci_shared_store(boddurci_shared *shared, const uint8_t *key, size_t key_length, const uint8_t *value, size_t value_length,
@@ -267,7 +271,17 @@ uint32_t boddurci_shared_run(boddurci_shared *shared, uint32_t number, const uin
                              size_t arg_length, uint32_t has_blank, size_t blank, uint64_t now, uint64_t *end, uint64_t *word,
                              boddurci_fault *fault) BODDURCI_IS_LOOKED_AT;
 
-/* Submit a program to the handle, as boddurci_submit and boddurci_stock do, without using a file. */
+uint32_t boddurci_shared_add(boddurci_shared *shared, const uint8_t *key, size_t key_length, int64_t amount, uint64_t least,
+                             uint64_t greatest, uint64_t *end, uint64_t *number, boddurci_fault *fault) BODDURCI_IS_LOOKED_AT;
+
+/* Like boddurci_shared_run, with the time of the system's clock since 1970. `per_second` is the number of units in a second: 1 for seconds,
+ * 1000 for milliseconds; 0 counts as 1, and a number above 1000000000 as 1000000000. The call reads the clock once it has the locks. So
+ * the times of these calls never fall, in whichever processes they are made, if all have the same unit and nobody sets the clock back. */
+uint32_t boddurci_shared_run_now(boddurci_shared *shared, uint32_t number, const uint8_t *key, size_t key_length, const uint8_t *arg,
+                                 size_t arg_length, uint32_t has_blank, size_t blank, uint64_t per_second, uint64_t *end, uint64_t *word,
+                                 boddurci_fault *fault) BODDURCI_IS_LOOKED_AT;
+
+/* These calls submit a program to the handle, as boddurci_submit and boddurci_stock do. They use no file. */
 uint32_t boddurci_shared_submit(boddurci_shared *shared, const uint8_t *image, size_t image_length, uint32_t *number, size_t *unit,
                                 uint8_t *text, size_t text_room, size_t *text_length);
 uint32_t boddurci_shared_stock(boddurci_shared *shared, const char *name, uint32_t *number);

@@ -12,7 +12,7 @@
  *         return SAVE;
  *     }
  *
- * `tools/bpfcc counter.c` makes its image, counter.bin. A compiler for the host takes the same file. A test includes counter.c, sets
+ * `tools/bpfcc counter.c` makes its image, counter.bin. The same file compiles for the host: a test includes counter.c, sets
  * boddurci_host, calls program, and checks the record and boddurci_host.word. The test needs neither a library nor another header. */
 #ifndef BODDURCI_RECORD_H
 #define BODDURCI_RECORD_H
@@ -80,8 +80,8 @@ BODDURCI_HELPER uint64_t boddurci_who(void)
     return ((uint64_t(*)(void))4)();
 }
 
-/* Copies at most 1,024 bytes, as memmove does, to the record or a local variable, from one of these or the argument. The verifier must be
- * able to see the greatest value of `count`, and that source and target have at least that number of bytes. A constant is best. */
+/* Copies at most 1,024 bytes, as memmove does. The target is the record or a local variable; the source may also be the argument. The
+ * verifier must be able to see that source and target have `count` bytes, so a constant is best. */
 BODDURCI_HELPER void boddurci_copy(void *to, const void *from, uint64_t count)
 {
     ((uint64_t(*)(void *, const void *, uint64_t))5)(to, from, count);

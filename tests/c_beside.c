@@ -56,7 +56,7 @@ static boddurci_base *opened(const char *name, uint32_t flags)
     return base;
 }
 
-/* Returns whether a redo file has its mark, so that it may have saves that are not synced in the data files. */
+/* Returns whether a redo file has its mark. It may then have saves that are not synced in the data files. */
 static int is_marked(const char *name)
 {
     FILE *file = fopen(name, "rb");
@@ -206,8 +206,8 @@ static char byte_at(const char *name, off_t at)
     return byte;
 }
 
-/* Tests which changes are noticed, and which data stays, if another program writes a byte on a page of each kind and may then set the time
- * of the file back. */
+/* Tests which writes of another program a save notices, and which data stays. That program writes one byte of a file, and sometimes sets
+ * the time of the file back. */
 static void test_bytes_beside(void)
 {
     struct stat found;
@@ -297,8 +297,8 @@ static void save_quickly(boddurci_base *base)
     EXPECT(least <= 4);
 }
 
-/* If a file loses its name right after a quick save, the next save notices that, even if the name leads to another file by then. Other
- * names in the folder do not matter. */
+/* If a file loses its name right after a quick save, the next save notices that, even if the name now leads to another file. Other names
+ * in the folder do not matter. */
 static void test_names(void)
 {
     static const char *const names[] = {"looks.pag", "looks.dir", "looks.lock", "looks.writer"};
@@ -388,7 +388,7 @@ struct saver {
     boddurci_fault fault;
 };
 
-/* Stores and saves, with pauses of some ticks. In no tick does a save take writes of its own base for writes of another program. */
+/* Stores and saves, with pauses of some ticks. A save never takes a write of its own base for a write of another program. */
 static void *save_often(void *given)
 {
     struct saver *saver = given;

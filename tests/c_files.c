@@ -118,7 +118,7 @@ static int is_there(const char *name)
     return lstat(name, &found) == 0;
 }
 
-/* Returns whether a redo file has its mark, so that it may have saves that are not synced in the data files. */
+/* Returns whether a redo file has its mark. It may then have saves that are not synced in the data files. */
 static int is_marked(const char *name)
 {
     FILE *file = fopen(name, "rb");
@@ -485,7 +485,7 @@ static void test_bytes(void)
     boddurci_close_files(base);
 }
 
-/* A database of small pages, whatever their number is, is not opened with wide pages, and does not change. A wide database is opened. */
+/* A database with any number of small pages is not opened with wide pages, and does not change. A wide database is opened. */
 static void test_other_size(void)
 {
     char key[16];
@@ -590,7 +590,7 @@ static void test_permissions(void)
     EXPECT(!is_there("beside.redo"));
 }
 
-/* A save does not change a file that is not the one that was opened, and the base stays usable. */
+/* A save changes no file except the opened one, and the base stays usable. */
 static void test_moved(void)
 {
     static const char *const names[] = {"moved.lock", "moved.pag", "moved.writer"};
@@ -713,7 +713,7 @@ static double seconds(void)
     return (double)now.tv_sec + (double)now.tv_nsec * 1e-9;
 }
 
-/* Waits that end at their limit, and one that a signal ends. */
+/* Tests waits that end at their limit, and a wait that a signal ends. */
 static void test_within(void)
 {
     struct sigaction action;

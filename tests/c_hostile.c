@@ -1,5 +1,5 @@
-/* Saves bases whose names lead elsewhere by then, and saves in a child, for tests/hostile_library. Each command first stores the pair `a`
- * `1` in BASE, and at the end prints the result of the save.
+/* Saves bases whose names lead elsewhere at the time of the save, and saves in a child, for tests/hostile_library. Each command first
+ * stores the pair `a` `1` in BASE, and at the end prints the result of the save.
  *
  *     c_hostile chdir BASE FOLDER       goes to another folder before it saves
  *     c_hostile swap BASE LINK TARGET   makes a link lead elsewhere before it saves

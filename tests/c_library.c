@@ -154,7 +154,7 @@ static void test_closed(void)
     EXPECT(!boddurci_is_open(&db));
 }
 
-/* Calls that an open handle refuses. */
+/* Tests calls that an open handle refuses. */
 static void test_unwritten(void)
 {
     static uint8_t arg[BODDURCI_ARG_MOST + 1];
@@ -271,7 +271,7 @@ static void test_too_long(void)
     boddurci_close(&db);
 }
 
-/* Under a lower limit a store, a run and a ticket that would exceed it are refused with nothing changed. Pages above the limit stay. */
+/* Tests a lower limit: calls that would exceed it are refused, and nothing changes. Pages above the limit stay. */
 static void test_limit(void)
 {
     boddurci db = BODDURCI_CLOSED;
@@ -306,7 +306,7 @@ static void test_limit(void)
     boddurci_close(&db);
 }
 
-/* A directory that has 26 splits on the path to a page past the end of the longest .pag. A refused store or run takes no memory for that
+/* Tests a directory with 26 splits on the path to a page past the end of the longest .pag. A refused store or run takes no memory for that
  * page. */
 static void test_deep(void)
 {
@@ -363,8 +363,8 @@ static void test_programs(void)
     boddurci_close(&db);
 }
 
-/* A program that uses the reply word, the time and the argument. Its reply word is the time plus the number in the argument. It saves
- * nothing. */
+/* Tests a program that uses the reply word, the time and the argument. Its reply word is the time plus the number in the argument. It
+ * saves nothing. */
 static void test_arguments(void)
 {
     static const char source[] = "jlt r4, 8, none\nldxdw r6, [r3]\ncall 2\nadd r0, r6\nmov r1, r0\ncall 1\nnone:\nmov r0, 7\nexit\n";
@@ -437,7 +437,7 @@ static void test_tickets(void)
     boddurci_close(&db);
 }
 
-/* Meanwhile there are other calls: on the page, on the handle, and on other pages. */
+/* Tests tickets with other calls in between: on the page, on the handle, and on other pages. */
 static void test_meanwhile(void)
 {
     boddurci db = BODDURCI_CLOSED, wide = BODDURCI_CLOSED, twin = BODDURCI_CLOSED;
@@ -750,8 +750,8 @@ static uint32_t do_step(boddurci *db, boddurci_ticket *ticket, int step)
     }
 }
 
-/* Makes one step. The nth allocation, counted from the first step on, may fail in it. If so, the step succeeds nevertheless, or it changes
- * nothing and is repeated. Returns whether the allocation was reached. */
+/* Makes one step. The nth allocation, counted from the first step on, may fail during this step. If so, the step succeeds nevertheless, or
+ * it changes nothing and is repeated. Returns whether the allocation was reached. */
 static int refuse_in_step(boddurci *db, boddurci_ticket *ticket, int step, unsigned long nth, uint32_t expected)
 {
     struct files before = {NULL, NULL, 0, 0}, after;

@@ -129,7 +129,7 @@ static void test_redo(void)
     boddurci_close_files(base);
 }
 
-/* An interrupted save of an empty database. A reader finds the database empty and writes nothing, and a writer recovers the files. */
+/* Tests an interrupted save of an empty database. A reader finds the database empty and writes nothing, and a writer recovers the files. */
 static void test_cut_off(void)
 {
     static const uint32_t lengths[4] = {0, 0, 1024, 0};
@@ -353,8 +353,8 @@ static void store_empty_key(boddurci_base *base, const char *value)
     boddurci_give(base);
 }
 
-/* A save checks the length of .dir against the limit on file sizes, even if it changes only .pag. The hash of the empty key is 0, so its page is the first one at any depth of
- * the directory. */
+/* A save checks the length of .dir against the limit on the length of files, even if it changes only .pag. The hash of the empty key is 0,
+ * so its page is the first one at any depth of the directory. */
 static void test_limited_directory(void)
 {
     static uint8_t directory[131072];

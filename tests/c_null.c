@@ -124,10 +124,15 @@ static void test_shared(void)
     CLOSED(boddurci_shared_store(NULL, BYTES("a"), BYTES("b"), 1, NULL));
     CLOSED(boddurci_shared_delete(NULL, BYTES("a"), NULL));
     CLOSED(boddurci_shared_run(NULL, 0, BYTES("a"), BODDURCI_NO_BYTES, 1, 8, 0, &told.end, &told.word, NULL));
+    CLOSED(boddurci_shared_run_now(NULL, 0, BYTES("a"), BODDURCI_NO_BYTES, 1, 8, 1, &told.end, &told.word, NULL));
+    CLOSED(boddurci_shared_add(NULL, BYTES("a"), 1, 0, 8, &told.end, &told.word, NULL));
     CLOSED(boddurci_shared_submit(NULL, BYTES("12345678"), &told.number, &told.unit, room, most, &told.length));
     CLOSED(boddurci_shared_stock(NULL, "counter", &told.number));
     EXPECT(boddurci_shared_delete(NULL, BYTES("a"), &fault) == BODDURCI_IS_CLOSED && fault.status == BODDURCI_IS_CLOSED);
     EXPECT(strcmp(fault.text, "handle closed") == 0 && fault.system == 0);
+    memset(&fault, 0x5a, sizeof fault);
+    EXPECT(boddurci_shared_add(NULL, BYTES("a"), 1, 0, 8, &told.end, &told.word, &fault) == BODDURCI_IS_CLOSED);
+    EXPECT(fault.status == BODDURCI_IS_CLOSED && strcmp(fault.text, "handle closed") == 0 && fault.system == 0);
     EXPECT(boddurci_open_shared(NULL, 0, &fault) == NULL && fault.status == BODDURCI_BAD_NAME);
     boddurci_close_shared(NULL);
 }

@@ -161,7 +161,7 @@ static void refuses(const char *name, uint32_t flags, uint32_t status, const cha
     NEED(strcmp(fault.text, text) == 0);
 }
 
-/* Files that consist of one hole: of the greatest length, of one byte more, and of lengths that are not whole pages. */
+/* Tests files that consist of one hole: of the greatest length, of one byte more, and of lengths that are not whole pages. */
 static void test_holes(void)
 {
     static const char bad[] = "bad files: PagLength";
@@ -179,7 +179,7 @@ static void test_holes(void)
     refuses("hole", BODDURCI_WIDE, BODDURCI_BAD_FILES, bad);
 }
 
-/* A file with a pair at the end of a long hole, and one with a pair at the start of the hole. */
+/* Tests a file with a pair at the end of a long hole, and a file with a pair at the start of the hole. */
 static void test_sparse(void)
 {
     make("sparse", 0, 50, 100);

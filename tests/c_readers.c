@@ -368,7 +368,7 @@ ssize_t pwrite(int file, const void *bytes, size_t count, off_t at)
 }
 
 /* Makes the system slow between the two locks of a base when it closes the files of this process. The folder of the base and its first lock
- * get descriptors below those of files that are slow to close, and the second lock gets one above them. */
+ * get low descriptors, files that are slow to close get higher ones, and the second lock gets the highest. */
 static void separate_locks(void)
 {
     int low[2] = {dup(0), dup(0)};
@@ -539,7 +539,7 @@ static void test_stopped(void)
     boddurci_close_files(opened("here", BODDURCI_NO_WAIT));
 }
 
-/* If the name of a lock leads to another file than the locked one, nothing is saved. */
+/* If the name of a lock leads to a file other than the locked one, nothing is saved. */
 static void test_moved(void)
 {
     static const char *const names[] = {"here.lock", "here.writer"};

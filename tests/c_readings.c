@@ -68,7 +68,7 @@ static void test_alike(struct files files, uint32_t read_wide, uint32_t wide, si
     boddurci_end_reading(&reading);
 }
 
-/* Sizes of pieces, lengths that are not whole pages, invalid pages, and free bytes that are not zeros. */
+/* Tests sizes of pieces, lengths that are not whole pages, invalid pages, and free bytes that are not zeros. */
 static void test_pieces(uint32_t wide)
 {
     struct files files = made(wide);

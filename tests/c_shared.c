@@ -239,17 +239,28 @@ static void same_run(struct model *model, const uint8_t *key, size_t length)
     EXPECT(fault.status == status && ends[0] == ends[1] && words[0] == words[1]);
 }
 
+static void same_add(struct model *model, const uint8_t *key, size_t length)
+{
+    uint64_t ends[2] = {7, 7}, sums[2] = {7, 7}, least = roll(3), greatest = roll(4) ? UINT64_MAX : roll(20);
+    int64_t amount = roll(5) ? (int64_t)roll(12) - 5 : INT64_MAX;
+    uint32_t status = boddurci_add(&model->db, key, length, amount, least, greatest, &ends[0], &sums[0]);
+    EXPECT(boddurci_shared_add(model->shared, key, length, amount, least, greatest, &ends[1], &sums[1], &fault) == status);
+    EXPECT(fault.status == status && ends[0] == ends[1] && sums[0] == sums[1]);
+}
+
 static void same_command(struct model *model, uint32_t keys)
 {
     uint8_t key[40];
     size_t length = key_of(roll(keys), key);
-    uint32_t kind = roll(8);
+    uint32_t kind = roll(9);
     if (kind < 2)
         same_fetch(model, key, length);
     else if (kind < 5)
         same_store(model, key, length);
     else if (kind < 6)
         same_run(model, key, length);
+    else if (kind < 7)
+        same_add(model, key, length);
     else {
         uint32_t status = boddurci_delete(&model->db, key, length);
         EXPECT(boddurci_shared_delete(model->shared, key, length, &fault) == status && fault.status == status);
@@ -257,7 +268,7 @@ static void same_command(struct model *model, uint32_t keys)
     EXPECT(fault.system == 0);
 }
 
-/* At the end all keys are deleted: then both files are empty. */
+/* Deletes all keys. Both files are then empty. */
 static void delete_all(struct model *model, uint32_t keys)
 {
     uint8_t key[40];
@@ -317,6 +328,124 @@ static void test_programs(void)
     EXPECT(boddurci_shared_run(shared, 1, BYTES("a"), BODDURCI_NO_BYTES, 0, 0, 0, &end, &word, &fault) == BODDURCI_MISSING && end == 0);
     end = 9;
     EXPECT(boddurci_shared_run(shared, 2, BYTES("a"), BODDURCI_NO_BYTES, 1, 8, 0, &end, &word, &fault) == BODDURCI_NO_PROGRAM && end == 9);
+    boddurci_close_shared(shared);
+}
+
+/* ---- the time of a run */
+
+/* A program that stores the time of the run, unless it is earlier than the stored time (code 5). */
+static const char rising[] = "    jlt r2, 8, fell\n    mov r6, r1\n    call 2\n    ldxdw r2, [r6]\n    jlt r0, r2, fell\n    stxdw [r6], r0\n"
+                             "    mov r1, r0\n    call 1\n    mov r0, 1\n    exit\nfell:\n    mov r0, 5\n    exit\n";
+
+static uint32_t submit_rising(boddurci_shared *shared)
+{
+    uint8_t image[400], text[100];
+    size_t length, line, text_length, unit;
+    uint32_t number = 9;
+    EXPECT(boddurci_assemble(BYTES(rising), image, sizeof image, &length, &line, text, sizeof text, &text_length) == BODDURCI_DONE);
+    EXPECT(boddurci_shared_submit(shared, image, length, &number, &unit, text, sizeof text, &text_length) == BODDURCI_DONE);
+    return number;
+}
+
+/* Runs the program with the time of the clock, and returns the stored time, or 0 if the time fell or the call failed. */
+static uint64_t time_by(boddurci_shared *shared, uint32_t program, const char *key, uint64_t per_second)
+{
+    uint64_t end = 0, word = 0;
+    uint32_t status = boddurci_shared_run_now(shared, program, (const uint8_t *)key, strlen(key), BODDURCI_NO_BYTES, 1, 8, per_second, &end,
+                                              &word, &fault);
+    return status == BODDURCI_DONE && end == 1 ? word : 0;
+}
+
+static uint64_t nanoseconds(void)
+{
+    struct timespec now;
+    clock_gettime(CLOCK_REALTIME, &now);
+    return (uint64_t)now.tv_sec * 1000000000 + (uint64_t)now.tv_nsec;
+}
+
+/* Returns whether a run gets the time of the clock, in units of which a nanosecond has 1 / `unit`. */
+static int tells_time(boddurci_shared *shared, uint32_t program, const char *key, uint64_t per_second, uint64_t unit)
+{
+    uint64_t before = nanoseconds() / unit, time = time_by(shared, program, key, per_second);
+    return before <= time && time <= nanoseconds() / unit;
+}
+
+/* Makes the page of a base other than a save leaves it, by a byte between its offsets and its pairs. */
+static void spoil(const char *pages)
+{
+    int file = open(pages, O_WRONLY);
+    EXPECT(file >= 0 && pwrite(file, "x", 1, 600) == 1 && close(file) == 0);
+}
+
+/* The times of four processes that run the program on one key without a pause never fall. */
+static void times_rise(boddurci_shared *shared, uint32_t program)
+{
+    enum { CHILDREN = 4, RUNS = 100 };
+    pid_t children[CHILDREN];
+    for (int i = 0; i < CHILDREN; i++) {
+        children[i] = fork();
+        if (children[i] == 0) {
+            int runs = 0;
+            while (runs < RUNS && time_by(shared, program, "all", 1000000000) != 0)
+                runs++;
+            _exit(runs == RUNS ? 0 : 1);
+        }
+    }
+    for (int i = 0; i < CHILDREN; i++) {
+        int status;
+        EXPECT(waitpid(children[i], &status, 0) == children[i] && status == 0);
+    }
+}
+
+static void test_clock(void)
+{
+    enum { BILLION = 1000000000 };
+    uint64_t end = 9, word = 9;
+    boddurci_shared *shared = opened("clock", 0);
+    uint32_t program = submit_rising(shared);
+    EXPECT(tells_time(shared, program, "seconds", 1, BILLION) && tells_time(shared, program, "zero", 0, BILLION));
+    EXPECT(tells_time(shared, program, "thousandths", 1000, BILLION / 1000) && tells_time(shared, program, "all", BILLION, 1));
+    EXPECT(tells_time(shared, program, "most", UINT64_MAX, 1));
+    /* The next call is made on the whole database. */
+    spoil("clock.pag");
+    EXPECT(tells_time(shared, program, "whole", BILLION, 1));
+    times_rise(shared, program);
+    EXPECT(boddurci_shared_run_now(shared, program, BYTES("none"), BODDURCI_NO_BYTES, 0, 0, 1, &end, &word, NULL) == BODDURCI_MISSING);
+    EXPECT(end == 0 && word == 0);
+    end = 9;
+    EXPECT(boddurci_shared_run_now(shared, 7, BYTES("all"), BODDURCI_NO_BYTES, 1, 8, 1, &end, &word, &fault) == BODDURCI_NO_PROGRAM);
+    EXPECT(end == 9 && fault.status == BODDURCI_NO_PROGRAM);
+    boddurci_close_shared(shared);
+}
+
+/* Adds to the number of a key, and returns whether the result is this code and this number. */
+static int adds(boddurci_shared *shared, const char *key, int64_t amount, uint64_t least, uint64_t greatest, uint64_t code, uint64_t sum)
+{
+    uint64_t end = 99, number = 99;
+    uint32_t status = boddurci_shared_add(shared, (const uint8_t *)key, strlen(key), amount, least, greatest, &end, &number, &fault);
+    return status == BODDURCI_DONE && fault.status == BODDURCI_DONE && fault.system == 0 && end == code && number == sum;
+}
+
+/* Tests additions to a number. The model tests more of them. */
+static void test_adding(void)
+{
+    static const uint8_t key[1001];
+    uint64_t end = 9, number = 9;
+    boddurci_shared *shared = opened("adding", 0), *other = opened("adding", BODDURCI_NO_WAIT);
+    EXPECT(adds(shared, "a", -1, 0, 7, 0, 0) && access("adding.pag", F_OK) != 0 && adds(shared, "a", 5, 0, 7, 1, 5));
+    EXPECT(adds(other, "a", 3, 0, 7, 0, 5) && adds(other, "a", -4, 0, 7, 1, 1) && increment(shared, counter_of(shared), "a") == 2);
+    EXPECT(adds(shared, "a", INT64_MAX, 0, UINT64_MAX, 1, (uint64_t)INT64_MAX + 2) && adds(other, "a", INT64_MIN, 0, UINT64_MAX, 1, 1));
+    EXPECT(store(shared, "short", "1234567") == BODDURCI_DONE && adds(other, "short", 1, 0, UINT64_MAX, 4, 0));
+    EXPECT(has(shared, "short", "1234567"));
+    EXPECT(store(shared, "long", "AAAAAAAAann") == BODDURCI_DONE && adds(other, "long", 1, 0, UINT64_MAX, 1, 0x4141414141414142));
+    EXPECT(has(shared, "long", "BAAAAAAAann"));
+    EXPECT(boddurci_shared_add(shared, key, sizeof key, 1, 0, 7, &end, &number, &fault) == BODDURCI_PAIR_TOO_LARGE);
+    EXPECT(fault.status == BODDURCI_PAIR_TOO_LARGE && end == 9 && number == 9);
+    boddurci_base *service = boddurci_open_files("adding", 0, &fault);
+    EXPECT(boddurci_shared_add(other, BYTES("a"), 1, 0, 7, &end, &number, &fault) == BODDURCI_LOCKED && end == 9 && number == 9);
+    boddurci_close_files(service);
+    EXPECT(boddurci_shared_add(other, BYTES("a"), 1, 0, 7, &end, &number, NULL) == BODDURCI_DONE && end == 1 && number == 2);
+    boddurci_close_shared(other);
     boddurci_close_shared(shared);
 }
 
@@ -401,7 +530,7 @@ static void test_lost_pages(void)
         }
 }
 
-/* Small pages are not opened as wide ones. */
+/* Small pages are not opened as wide pages. */
 static void test_sizes(void)
 {
     boddurci_shared *shared = opened("sizes", 0);
@@ -654,7 +783,7 @@ static void test_locks(void)
     boddurci_close_shared(shared);
 }
 
-/* The base is open for writing, by this thread or by another process. */
+/* Tests a base that is open for writing, by this thread or by another process. */
 static void test_services(void)
 {
     boddurci_shared *shared = opened("service", 0);
@@ -724,7 +853,7 @@ static void do_nothing(int signal)
     (void)signal;
 }
 
-/* For some time, waits for the files like a service while other processes take BASE.lock again and again. */
+/* Waits for the files like a service, ten times, while other processes take BASE.lock again and again. */
 static void wait_as_service(void)
 {
     int writer = taken("signals.writer", LOCK_SH), lock = taken("signals.lock", LOCK_SH);
@@ -738,7 +867,7 @@ static void wait_as_service(void)
     _exit(0);
 }
 
-/* Signals come during a fetch that waits. */
+/* Tests signals during a fetch that waits. */
 static void test_signals(void)
 {
     static const struct itimerval often = {{0, 2000}, {0, 2000}}, never = {{0, 0}, {0, 0}};
@@ -796,7 +925,7 @@ static void test_others(void)
     boddurci_close_shared(shared);
 }
 
-/* The names lead to the files of another database. */
+/* Tests names that now lead to the files of another database. */
 static void test_replaced(void)
 {
     boddurci_shared *shared = opened("old", 0), *other = opened("new", 0);
@@ -887,7 +1016,7 @@ static void *store_always(void *shared)
     return NULL;
 }
 
-/* The same holds for a child that was forked during a call of another thread. */
+/* A child that was forked during a call of another thread does not hold the locks of that call either. */
 static void test_orphans_of_threads(void)
 {
     boddurci_shared *shared = opened("orphans", 0);
@@ -927,7 +1056,7 @@ static void *wait_in_call(void *unused)
     return unused;
 }
 
-/* A fork during a call of another thread. */
+/* Tests a fork during a call of another thread. */
 static void test_lost(void)
 {
     pthread_t thread;
@@ -968,7 +1097,7 @@ static void *count_in_thread(void *own)
     return NULL;
 }
 
-/* Half of the threads share one handle. */
+/* Tests threads, half of which share one handle. */
 static void test_threads(void)
 {
     pthread_t threads[THREADS];
@@ -1009,6 +1138,8 @@ static int calls(const char *folder)
     test_model("wide", BODDURCI_WIDE, 300, 1500);
     test_model("unsigned", BODDURCI_UNSIGNED_KEYS | BODDURCI_NO_WAIT, 40, 1000);
     test_programs();
+    test_clock();
+    test_adding();
     test_names();
     test_boots();
     test_lost_pages();
@@ -1075,7 +1206,7 @@ static void to_hex(const uint8_t *bytes, size_t length, char end)
     putchar(end);
 }
 
-/* Lines are `store KEY VALUE` and `delete KEY`, in hex. */
+/* Makes the changes on the lines `store KEY VALUE` and `delete KEY`, in hex. */
 static int change(const char *base)
 {
     char line[20000];

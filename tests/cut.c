@@ -4,7 +4,7 @@
  *     CUT_CALL     N; without it no call is interrupted
  *     CUT_FAULT    the errno with which the call fails; 0 is a kill
  *     CUT_TOLD     a file that is made once a call has failed
- *     CUT_LINES    output counts too, to a descriptor 1 that is not a file, except writes of no bytes
+ *     CUT_LINES    counts also output to a descriptor 1 that is not a file, except writes of no bytes
  *     CUT_LOG      a file for a log of completed calls: pwrite, ftruncate, unlink, syncs and failed syncs, one per line, with bytes in hex;
  *                  with CUT_LINES also output */
 #define _GNU_SOURCE

@@ -37,7 +37,7 @@ def plan_of(before, after, signature=SIGNATURE, part=PART):
 
 
 def redo_of(before, after, mark=1, signature=SIGNATURE):
-    """Returns the redo file in which older versions keep the plan of this save. Each change in that plan is a whole block."""
+    """Returns the redo file that older versions write for this save. Each change in that plan is a whole block."""
     return bytes([mark]) + plan_of(before, after, signature, BLOCK)
 
 
@@ -94,8 +94,8 @@ def is_marked_log(redo):
 
 
 def rooms_for(record, left):
-    """Returns the possible rooms of the log while `dbm` saves this record. They are the room of a new log and, if `left`, the redo file
-    before the save, is a log that can be used again, its room."""
+    """Returns the possible rooms of the log while `dbm` saves this record. They are the room of a new log, and the room of `left`, the
+    redo file before the save, if it is a log that can be used again."""
     room, had = room_for(record), len(left) - HEADER
     return {room, had} if left[:9] == b"\0" + LOG_SIGNATURE and room <= had <= MOST_ROOM else {room}
 

@@ -1,5 +1,5 @@
-/* Reads a file into memory, whole or as pages in pieces. Holes of the file are not read, and the memory for them is never written. So holes
- * take no memory: a sparse file takes as much memory as it takes blocks on the disk. */
+/* Reads a file into memory, whole or as pages in pieces. boddurci_read_bytes and boddurci_read_pages do not read holes, and never write
+ * the memory for them. So a sparse file takes no more memory than it has blocks on the disk. */
 #define _GNU_SOURCE
 #include "boddurci_saves.h"
 #include <errno.h>
@@ -21,7 +21,7 @@ void boddurci_let_go(struct boddurci_bytes *bytes)
     bytes->length = bytes->room = 0;
 }
 
-/* Maps memory of zeros without huge pages, with which each block of data would take 2 MiB. */
+/* Maps zeroed memory without huge pages: with huge pages each block of data would take 2 MiB. */
 static void *map(size_t room)
 {
     void *at = mmap(NULL, room, PROT_READ | PROT_WRITE, MAP_PRIVATE | MAP_ANONYMOUS | MAP_NORESERVE, -1, 0);
@@ -59,8 +59,8 @@ static off_t read_range(int file, uint8_t *room, off_t from, off_t to)
     return from;
 }
 
-/* Returns the present length of a file that had `end` bytes, with no data from `at` on, and that may have become shorter. Returns at least
- * `at` and at most `end`. */
+/* Returns the present length of a file, but at least `at` and at most `end`. The file had `end` bytes, with no data from `at` on, and may
+ * have become shorter. */
 static off_t end_after(int file, off_t at, off_t end)
 {
     struct stat now;
@@ -171,8 +171,8 @@ uint32_t boddurci_read_data(struct boddurci_place *place, enum boddurci_file fil
 /* A number of whole pages of either size. */
 enum { PIECE = 262144 };
 
-/* Passes the next piece. The only possible fault is NO_MEMORY: each piece except the last consists of whole pages, and all pieces together
- * have at most 1 GiB. */
+/* Passes the next piece to the reading. The only possible fault is NO_MEMORY: each piece except the last consists of whole pages, and all
+ * pieces together have at most 1 GiB. */
 static int push(boddurci_reading *pages, uint32_t is_wide, const uint8_t *piece, size_t length)
 {
     if (boddurci_read(pages, is_wide, piece, length) == BODDURCI_DONE)

@@ -1,5 +1,5 @@
-/* Opens the three files of a base for writing, and makes the system calls on these files. boddurci_steps.c executes the steps of a save by
- * the functions here. */
+/* Opens the three files of a base for writing, and makes the system calls on these files. boddurci_steps.c executes the steps of a save
+ * with these functions. */
 #define _GNU_SOURCE
 #include "boddurci_saves.h"
 #include <errno.h>

@@ -1,4 +1,4 @@
-/* The calls of include/boddurci_files.h, which says what each does. */
+/* Implements the calls of include/boddurci_files.h, except saves and shared bases. */
 #define _GNU_SOURCE
 #include "boddurci_files.h"
 #include "boddurci_saves.h"

@@ -18,7 +18,7 @@ struct boddurci_call {
     sem_t turn; /* posted if the thread sleeps */
 };
 
-/* In nanoseconds. If the last save took less time than this, waiting calls spin until the next save ends. Tests set another value. */
+/* In nanoseconds. If the last save took less time than this, a waiting thread spins before it sleeps. Tests set another value. */
 #ifndef BODDURCI_LONG_SAVE
 #define BODDURCI_LONG_SAVE 500000
 #endif
@@ -97,8 +97,8 @@ static int waiting_in(const struct boddurci_group *group)
     return __atomic_load_n(&group->waiting, __ATOMIC_RELAXED);
 }
 
-/* Returns how long a save may wait for more calls, in nanoseconds. The threads that wait for a long save sleep, and then wake one by
- * one. */
+/* Returns how long a save may wait for more calls, in nanoseconds. The time is longer after a long save, since its waiting threads sleep
+ * and wake one by one. */
 static int64_t patience(int64_t took)
 {
     static const int64_t MOST = 1000000;

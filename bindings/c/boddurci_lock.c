@@ -201,7 +201,7 @@ static uint32_t cannot_be_made(enum boddurci_file lock, boddurci_fault *fault)
     return boddurci_fail_by_system(fault, lock == BODDURCI_LOCK ? "BASE.lock cannot be made" : "BASE.writer cannot be made");
 }
 
-/* Makes the file of a lock, unless another process was faster. Every user who may use .pag may use it. */
+/* Makes the file of a lock, unless another process was faster. Every user who may use .pag may use the lock file. */
 static uint32_t make_lock(struct boddurci_place *place, enum boddurci_file lock, boddurci_fault *fault)
 {
     if (!may_write(place))
@@ -228,8 +228,8 @@ static void close_lock(struct boddurci_place *place, enum boddurci_file lock)
     place->opened[lock] = -1;
 }
 
-/* Opens the file of a lock, for writing if this user is allowed to. If the name leads to another file by then, opens that file instead. A
- * writer makes a missing file. OPEN_HERE if this thread holds the lock. */
+/* Opens the file of a lock, for writing if this user is allowed to. If the file that is open has lost its name, opens the file that has the
+ * name now. A writer makes a missing file. OPEN_HERE if this thread holds the lock. */
 static uint32_t open_lock(struct boddurci_place *place, enum boddurci_file lock, int reads, boddurci_fault *fault)
 {
     uint32_t status = BODDURCI_DONE;
@@ -327,7 +327,7 @@ int boddurci_has_writer(const struct boddurci_place *place)
 }
 
 /* Returns whether a save waits for the files: then its process holds BASE.writer shared. It also returns 1 while another reader checks
- * BASE.writer, which is short. */
+ * BASE.writer, which takes a short time. */
 static int is_waited_for(const struct boddurci_place *place)
 {
     if (place->opened[BODDURCI_LOCK] < 0 || boddurci_has_writer(place))
@@ -379,8 +379,8 @@ static enum outcome lock_both(struct boddurci_place *place, int64_t end, boddurc
     return HAS_FAILED;
 }
 
-/* Like `lock_both`, but does not touch BASE.lock while BASE.writer is busy. If `is_only` is 1 (a wait of 0 milliseconds), it does:
- * otherwise the single try could fail because another process is checking BASE.writer. */
+/* Like `lock_both`, but does not touch BASE.lock while BASE.writer is busy. If `is_only` is 1 (a wait of 0 milliseconds), takes BASE.lock
+ * anyway: otherwise the single try could fail because another process is checking BASE.writer. */
 static enum outcome try_both(struct boddurci_place *place, int64_t end, int is_only, boddurci_fault *fault)
 {
     for (enum boddurci_file lock = BODDURCI_LOCK; lock <= BODDURCI_WRITER; lock++)
@@ -546,9 +546,9 @@ uint32_t boddurci_find(struct boddurci_place *place, const char *name, boddurci_
 
 /* A change that waits for BASE.lock announces itself by a lock of another kind (F_OFD_SETLK) on the first byte of that file. A change that
  * has waited for long, and a fetch that waits, lock the second byte. Without these announcements a call might wait forever: the system
- * prefers readers, and a process that calls again, to a process that waits. A new fetch lets a call that has locked the first byte go
- * first, and a new change lets a call that has locked the second byte go first. The system releases these locks when the process ends. On a
- * local file system they are independent of flock. On other file systems calls do not announce themselves, since flock may lock the same
+ * prefers readers, and processes that call again, to a process that waits. A new fetch lets a call that has locked the first byte go first,
+ * and a new change lets a call that has locked the second byte go first. The system releases these locks when the process ends. On a local
+ * file system they are independent of flock. On other file systems calls do not announce themselves, since flock may lock the same
  * bytes. */
 enum { WAITS, STARVES, BYTES };
 
@@ -586,8 +586,8 @@ static void announce_none(const struct boddurci_place *place)
     (void)!lock_bytes(place, F_UNLCK, 0, BYTES);
 }
 
-/* Waits while another call has announced itself, so that that call goes first. The wait is limited, since the process of the other call may
- * be stopped. */
+/* Waits while another call has announced itself, so that the other call goes first. The wait is limited, since the process of the other
+ * call may be stopped. */
 static void let_go(const struct boddurci_place *place, off_t byte, int64_t end)
 {
     enum { MOST = 200 };

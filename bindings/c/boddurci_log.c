@@ -176,8 +176,8 @@ static int64_t now(void)
     return (int64_t)time.tv_sec * 1000000000 + time.tv_nsec;
 }
 
-/* Abandons the log after a failed call: the next opening recovers it. Removes the redo file if it has no mark: it is useless then, and its
- * bytes on the disk may differ from those in the page cache. */
+/* Abandons the log after a failed call: the next opening recovers the base. Removes the redo file if it has no mark: it is useless then,
+ * and its bytes on the disk may differ from those in the page cache. */
 static void give_up(struct boddurci_logged *logged)
 {
     struct boddurci_disk *disk = &logged->disk;

@@ -224,8 +224,8 @@ void boddurci_note_written(struct boddurci_notes *notes, const struct boddurci_d
     notes->has_our_clock = notes->is_local && is_near(notes->files[BODDURCI_PAGES].written, tick);
 }
 
-/* Notes only the new lengths, since no other files can have the inodes of the open ones. Returns 0 if that is not enough, because .pag is
- * missing in the notes, or .dir is and its new length is not 0. */
+/* Notes only the new lengths, since no other files can have the inodes of the open ones. Returns 0 if that is not enough: the notes lack
+ * .pag, or they lack .dir and its new length is not 0. */
 static int note_lengths(struct boddurci_notes *notes, const uint64_t lengths[2])
 {
     int has_directory = notes->files[BODDURCI_DIRECTORY].is_there;

@@ -1,5 +1,5 @@
-/* Opens the folder of a database and the files in it. A redo file or a lock is refused if a user who may not write .pag can have made it;
- * docs/DECISIONS.md says why under "Calls from C". */
+/* Opens the folder of a database and the files in it. A redo file or a lock is refused if a user who may not write .pag could have made
+ * it; docs/DECISIONS.md says why under "Calls from C". */
 #define _GNU_SOURCE
 #include "boddurci_saves.h"
 #include <errno.h>
@@ -161,8 +161,8 @@ static int is_lock(enum boddurci_file file)
     return file >= BODDURCI_LOCK;
 }
 
-/* Returns whether every user who may write a file may write .pag too. `pages` is NULL if .pag is missing. All users may be able to write a
- * lock then, since it is empty. */
+/* Returns whether every user who may write a file may write .pag too. `pages` is NULL if .pag is missing. In that case all users may be
+ * able to write a lock, since a lock is empty. */
 static int is_writing_safe(enum boddurci_file file, const struct stat *found, const struct stat *pages)
 {
     if (pages == NULL)

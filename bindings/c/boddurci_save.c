@@ -233,8 +233,7 @@ static uint32_t plan_of(boddurci *db, const struct reading *reading, struct bodd
     return status;
 }
 
-/* Reads the listed pages from the system's page cache, except that pages that were read before are copied. Fails if a page is not in the
- * cache. */
+/* Copies the listed pages that were read before, and reads the others from the system's page cache. Fails if a page is not in the cache. */
 static int read_cached(int file, struct reading *reading, const struct reading *before)
 {
     for (size_t i = 0; i < reading->listed.count; i++) {

@@ -1,5 +1,5 @@
 /* Declarations that the C files of this folder share: the place of a database, its locks and its log of saves. Programs that use the
- * library do not include this file. docs/DECISIONS.md explains them under "Reading and writing files" and "Calls from C".
+ * library do not include this file. docs/DECISIONS.md gives the reasons under "Reading and writing files" and "Calls from C".
  *
  * A function that returns an int returns 0 on success, and -1 with errno on failure, unless its comment says otherwise. A function that
  * returns a status sets the fault too. */
@@ -58,11 +58,11 @@ int boddurci_read_bytes(int file, size_t length, struct boddurci_bytes *bytes);
  * which saves a page fault for each page. */
 int boddurci_read_short(int file, size_t length, struct boddurci_bytes *bytes);
 
-/* Returns whether the first `length` bytes of an open file contain data and are not one hole. */
+/* Returns whether the first `length` bytes of an open file contain any data, that is, are not one hole. */
 int boddurci_has_data(int file, size_t length);
 
-/* Reads the first `length` bytes of an open .pag in pieces, as pages of 8,192 bytes if `is_wide` is not 0, and of 1,024 otherwise. Besides
- * the memory of the result, it needs memory for one piece. */
+/* Reads the first `length` bytes of an open .pag in pieces, as pages of 8,192 bytes if `is_wide` is not 0, and of 1,024 otherwise. In
+ * addition to the result, it needs memory for one piece. */
 int boddurci_read_pages(int file, size_t length, uint32_t is_wide, boddurci_reading *pages);
 
 /* Like `boddurci_read_pages`, but takes the bytes of a .pag from memory, and frees each part once it is read. */
@@ -71,8 +71,8 @@ int boddurci_move_pages(struct boddurci_bytes *bytes, uint32_t is_wide, boddurci
 /* Returns the greatest allowed length of a file, in bytes. */
 size_t boddurci_most_bytes(enum boddurci_file file);
 
-/* `boddurci_length_of` sets the length of an open file, and `boddurci_read_all` reads the whole file. TOO_LONG if the file exceeds its
- * greatest allowed length. */
+/* `boddurci_length_of` sets *length to the length of an open file, and `boddurci_read_all` reads the whole file. TOO_LONG if the file
+ * exceeds its greatest allowed length. */
 uint32_t boddurci_length_of(int opened, enum boddurci_file file, size_t *length, boddurci_fault *fault);
 uint32_t boddurci_read_all(int opened, enum boddurci_file file, struct boddurci_bytes *bytes, boddurci_fault *fault);
 
@@ -85,8 +85,8 @@ struct boddurci_inode {
     ino_t number;
 };
 
-/* The file to which a name led when it was opened. It stays open: once nobody has a removed file open, the system may give its inode to a
- * new file. */
+/* The file to which a name led when it was opened. The file stays open, since the system may give the inode of a removed file to a new one
+ * once nobody has the removed file open. */
 struct boddurci_seen {
     int is_there;
     int opened; /* valid if is_there is 1 */
@@ -94,7 +94,7 @@ struct boddurci_seen {
     ino_t number;
 };
 
-/* The place of a base: its folder and the names of its files. The folder stays open, so that other files are not used if the path changes.
+/* The place of a base: its folder and the names of its files. The folder stays open, so that the same files are used if the path changes.
  * `opened` and `is_early` are used for the locks only. */
 struct boddurci_place {
     int folder;                   /* or -1 */
@@ -105,7 +105,7 @@ struct boddurci_place {
     int is_early[BODDURCI_FILES]; /* this process made the lock file while .pag was missing */
     int keeps_files;              /* BASE.lock stays locked between the calls of the base */
     int announces;                /* waiting calls of a shared base announce themselves */
-    struct boddurci_place *held;  /* the next place in the list of those whose locks this process holds */
+    struct boddurci_place *held;  /* the next place in the list of places whose locks this process holds */
     unsigned long holder;         /* the thread that took the locks, by its number in this_thread */
     pid_t process;                /* the process of that thread */
 };
@@ -129,14 +129,14 @@ void boddurci_see_none(struct boddurci_place *place);
 uint32_t boddurci_open_to_read(struct boddurci_place *place, enum boddurci_file file, int must_exist, int *opened, boddurci_fault *fault);
 uint32_t boddurci_read_data(struct boddurci_place *place, enum boddurci_file file, struct boddurci_bytes *bytes, boddurci_fault *fault);
 
-/* Opens the redo file or a lock file. Sets *opened to -1 if the file is missing. UNSAFE if a user who may not write .pag can have made
- * it. */
+/* Opens the redo file or a lock file. Sets *opened to -1 if the file is missing. UNSAFE if a user who may not write .pag could have made
+ * the file. */
 uint32_t boddurci_open_beside(const struct boddurci_place *place, enum boddurci_file file, int how, int *opened, boddurci_fault *fault);
 
 /* Creates a file. Fails if the file exists. */
 int boddurci_make(const struct boddurci_place *place, enum boddurci_file file, mode_t mode);
 
-/* Gives a new file the owner, the group and the permissions of .pag, as far as the system allows. Does nothing if .pag is missing. */
+/* Gives an open file the owner, the group and the permissions of .pag, as far as the system allows. Does nothing if .pag is missing. */
 int boddurci_be_like_pages(const struct boddurci_place *place, enum boddurci_file file, int opened);
 
 /* Returns whether an open file has the owner, the group and the permissions of .pag. */
@@ -249,19 +249,20 @@ typedef struct {
 /* Returns the steps that open the log of these files with room for at least `room` bytes, and the place of the first record. If the redo
  * file has its mark, the steps recover the data files first; otherwise the call does not need the bytes of the data files. SHORT_ROOM if a
  * buffer is too short: the call then sets only the lengths. BAD_FILES if the redo file has no plan of these files. STALE if a record in the
- * middle of its log is damaged. NO_MEMORY. */
+ * middle of its log is damaged. FILE_TOO_LONG if the room is over 2^30. NO_MEMORY. */
 uint32_t boddurci_log_open(const uint8_t *pages, size_t pages_length, const uint8_t *directory, size_t directory_length, const uint8_t *redo,
                            size_t redo_length, size_t room, boddurci_log *log, uint8_t *bytes, size_t bytes_room, size_t *bytes_length,
                            uint64_t *words, size_t words_room, size_t *words_length);
 
 /* Returns the steps that apply the plans in the redo file to copies of the data files. If the redo file has no plan, there are no steps.
- * The statuses are those of `boddurci_log_open`. */
+ * The statuses are those of `boddurci_log_open` except FILE_TOO_LONG. */
 uint32_t boddurci_log_read(const uint8_t *pages, size_t pages_length, const uint8_t *directory, size_t directory_length, const uint8_t *redo,
                            size_t redo_length, uint8_t *bytes, size_t bytes_room, size_t *bytes_length, uint64_t *words, size_t words_room,
                            size_t *words_length);
 
 /* Returns the steps of a save, the number of words of the steps that commit the save, and the place of the next record. The plan starts at
- * bytes[BODDURCI_PLAN_AT]; the call writes the bytes before the plan. SHORT_ROOM, FILE_TOO_LONG, NO_MEMORY. */
+ * bytes[BODDURCI_PLAN_AT]; the call writes the bytes before the plan. SHORT_ROOM, BAD_FILES if the bytes have no valid plan, FILE_TOO_LONG,
+ * NO_MEMORY. */
 enum { BODDURCI_PLAN_AT = 18 };
 uint32_t boddurci_log_save(boddurci_log *log, uint8_t *bytes, size_t length, uint64_t *words, size_t words_room, size_t *words_length,
                            size_t *committed);
@@ -278,10 +279,10 @@ struct boddurci_disk {
     int files[3];            /* -1 if closed */
     int is_folder_synced;    /* no file was made or removed since the last sync of the folder */
     enum boddurci_file last; /* the file of the last call */
-    sigset_t mask;           /* the thread's signal mask from before */
+    sigset_t mask;           /* the thread's earlier signal mask */
     int is_signal_held;      /* the mask was changed */
     int was_signalled;       /* the signal was pending before the mask was changed */
-    int is_too_long;         /* a call failed with EFBIG since then, so it may have raised the signal */
+    int is_too_long;         /* a call failed with EFBIG after the mask was changed, and may have raised the signal */
     int has_reserved;        /* a save has allocated blocks of a data file, which may change its times */
 };
 
@@ -295,8 +296,8 @@ void boddurci_disk_close(struct boddurci_disk *disk);
 void boddurci_hold_signal(struct boddurci_disk *disk);
 void boddurci_give_signal(struct boddurci_disk *disk);
 
-/* Write bytes, write zeros, set the length, and sync a file and the names of all files. If a data file is missing, its sync syncs only the
- * names. A sync fails if this user may not write the data file. */
+/* These calls write bytes, write zeros, set the length, and sync a file and the names of all files. If a data file is missing, its sync
+ * syncs only the names. A sync fails if this user may not write the data file. */
 int boddurci_disk_write(struct boddurci_disk *disk, enum boddurci_file file, uint64_t at, const uint8_t *bytes, size_t size);
 int boddurci_disk_zero(struct boddurci_disk *disk, enum boddurci_file file, uint64_t at, uint64_t size);
 int boddurci_disk_resize(struct boddurci_disk *disk, enum boddurci_file file, uint64_t length);
@@ -339,7 +340,8 @@ int boddurci_may_write(struct boddurci_disk *disk, const struct boddurci_steps *
 /* Reads a number of a plan: four bytes, the lowest first. */
 uint64_t boddurci_number_at(const uint8_t *at);
 
-/* Gets from a plan the lengths of both data files before it or after it. The plan starts at bytes[BODDURCI_PLAN_AT]. */
+/* Reads from a plan the lengths of both data files before the plan, or after the plan if `is_after` is 1. The plan starts at
+ * bytes[BODDURCI_PLAN_AT]. */
 void boddurci_lengths_of(const uint8_t *bytes, int is_after, uint64_t lengths[2]);
 
 /* `boddurci_take_room` ensures, before a save is committed, that the steps after the commit will find room on the disk. It allocates the
@@ -360,17 +362,17 @@ struct boddurci_logged {
     struct boddurci_inode redo; /* the inode of the redo file; valid if is_open */
     int64_t emptied;   /* when the log was last empty, in nanoseconds */
     int is_open;
-    int is_grown;      /* it has been given more room than usual, or that was tried */
+    int is_grown;      /* the log has more room than usual, or an attempt to get more failed */
     int is_doubtful;   /* a call on the redo file failed, and the file could not be removed: make a new one if it has no mark */
     int is_given_up;   /* a call failed, and the files have not been recovered since: they may lack a save, or contain half of it */
 };
 
 void boddurci_logged_of(struct boddurci_logged *logged, struct boddurci_place *place, struct boddurci_notes *notes);
 
-/* If the log is closed and the redo file has its mark, recovers the data files, opens the log, if there is room for it, and sets *is_ended
- * to 1. But if the note of a shared base says that all records are applied, only closes the log. In this case and in all other cases sets
- * *is_ended to 0. An open log counts as closed if the redo file has lost its name. The caller sets `are_names_same` to 1 if it knows that
- * all files still have their names. */
+/* If the log is closed and the redo file has its mark, recovers the data files, and opens the log if there is room for it. But if the note
+ * of a shared base says that all records are applied, only closes the log. Sets *is_ended to 1 if it has recovered the data files, and to 0
+ * otherwise. An open log counts as closed if the redo file has lost its name. The caller sets `are_names_same` to 1 if it knows that all
+ * files still have their names. */
 uint32_t boddurci_logged_recover(struct boddurci_logged *logged, int are_names_same, int *is_ended, boddurci_fault *fault);
 
 /* Saves by a plan, which starts at byte BODDURCI_PLAN_AT of `bytes`. Opens the log first if it is closed. After a fault nothing has
@@ -408,12 +410,12 @@ struct boddurci_note {
 struct boddurci_notes {
     struct boddurci_note files[2];
     struct timespec tick;   /* the coarse clock when the times were last read */
-    struct timespec latest; /* when the base last wrote after that within the same tick; otherwise 0 */
+    struct timespec latest; /* when the base last wrote within that tick; 0 if it did not */
     struct timespec named;  /* the coarse clock when a save last looked at all names in the folder */
-    struct timespec folder; /* the folder's time of change at that look, if a later change of a name must differ from it; otherwise 0 */
+    struct timespec folder; /* the folder's time of change at that look, if a later change of a name must set another time; otherwise 0 */
     int is_local;           /* this system sets the times of the files, while it writes them */
-    int has_our_clock;      /* it sets them by the clock that this process reads */
-    int is_quick;           /* the look before this save did not read the times, and copied the noted ones */
+    int has_our_clock;      /* this system sets them by the clock that this process reads */
+    int is_quick;           /* the look before this save read no times, and copied the noted times */
     int is_overtaken;       /* another program wrote the files while this save was committed */
 };
 
@@ -442,7 +444,7 @@ struct timespec boddurci_time_of_folder(const struct boddurci_place *place);
 void boddurci_note_names(struct boddurci_notes *notes, const struct boddurci_place *place, struct timespec folder,
                          const struct boddurci_note found[2]);
 
-/* Returns whether all names still lead to the files of the last look at the names, by the folder's time of change. It returns 0 after the
+/* Returns whether, by the folder's time of change, all names still lead to the files of the last look at the names. It returns 0 after the
  * clock tick of that look: later a mount may have replaced a file, and a mount does not change the time of the folder. */
 int boddurci_are_names_same(const struct boddurci_notes *notes, const struct boddurci_place *place);
 
@@ -489,7 +491,7 @@ struct boddurci_group {
     int waiting;                 /* the number of calls in the list; atomic */
     int served;                  /* the number of calls that the last save served */
     int others;                  /* the number of calls that the last save served or that waited when it ended */
-    int skips;                   /* the number of next saves that do not wait for other calls, since a wait was in vain */
+    int skips;                   /* the number of coming saves that do not wait for other calls, since a wait was in vain */
     int64_t took;                /* the duration of the last save in nanoseconds; atomic */
 };
 
@@ -519,9 +521,9 @@ struct boddurci_base {
     int is_planned;              /* a save has compared the lengths of the files and the directory */
     int may_have_written;        /* this save has made calls that may change the times of the data files */
     enum boddurci_change doubt;  /* how the times differed, if all pages have yet to be compared */
-    char change[100];            /* how another program has changed the data files, until a save overwrites that; otherwise empty */
+    char change[100];            /* how another program has changed the data files, until a save overwrites the change; otherwise empty */
     pthread_mutex_t mutex;       /* of db */
-    struct boddurci_group saves; /* of the files; a call that needs both waits for its turn to save before it locks the mutex */
+    struct boddurci_group saves; /* the turn to save; a call that needs both waits for its turn before it locks the mutex */
 };
 
 /* Returns whether the base was opened by a parent of this process, and not by the process itself. */
@@ -537,7 +539,7 @@ void boddurci_mark_and_give(boddurci_base *base);
 
 /* ---- boddurci_shared_log.c: the log between the calls of a shared base */
 
-/* The boot id of the system. A note holds for one boot: after another one the data files may lack what was not synced. */
+/* The boot id of the system. A note is valid for one boot: after the next boot the data files may lack data that was not synced. */
 struct boddurci_boot {
     uint64_t id[2];
     int is_known;
@@ -565,8 +567,8 @@ enum boddurci_applied boddurci_find_note(int redo, const struct boddurci_boot *b
  * request, some file systems set new times at the next write. */
 struct boddurci_note boddurci_state_of(int folder, const char *name, int how, int has_times);
 
-/* Returns how the data files differ from the state in a note: SAME; WRITTEN, by a program that does not know the log; or OTHERS, for other
- * files. */
+/* Returns how the data files differ from the state in a note: SAME; WRITTEN if a program that does not know the log has written them; or
+ * OTHERS for other files. */
 enum boddurci_change boddurci_change_since(const struct boddurci_log_note *note, const struct boddurci_note files[2]);
 
 /* Returns whether a note says that all records of an open redo file are applied to the data files under the names. If so, sets the place of
@@ -590,16 +592,16 @@ int boddurci_unmarked_header(int redo, uint8_t header[BODDURCI_HEADER_USED], siz
 /* Returns the number of the page of a key, according to the bytes of .dir. These bytes may be invalid: boddurci_open_page checks them. */
 uint32_t boddurci_page_of(const uint8_t *key, size_t key_length, const uint8_t *dir, size_t dir_length, uint32_t unsigned_keys);
 
-/* Replaces the database of an open handle by that of one page. The handle keeps its programs and its limit. After that, one fetch, store,
- * delete or run on this key gives the same reply as on the whole database. `page` is a whole page, and `pag_length` a multiple of its size.
- * BAD_FILES if this page is not enough: the directory or the page is invalid, or not as a save leaves it, or the key leads to another page.
- * BAD_FILES is also returned if memory runs out. IS_CLOSED. After an error the handle is unchanged. */
+/* Replaces the database of an open handle by the database of one page. The handle keeps its programs and its limit. After that, one fetch,
+ * store, delete or run on this key gives the same reply as on the whole database. `page` is a whole page, and `pag_length` a multiple of
+ * its size. BAD_FILES if this page is not enough: the directory or the page is invalid, or not as a save leaves it, or the key leads to
+ * another page. BAD_FILES is also returned if memory runs out. IS_CLOSED. After an error the handle is unchanged. */
 uint32_t boddurci_open_page(boddurci *db, const uint8_t *key, size_t key_length, const uint8_t *dir, size_t dir_length, size_t pag_length,
                             uint32_t number, const uint8_t *page, size_t page_length);
 
-/* Returns the plan that saves the database of the page after the command, and the numbers of the pages that the plan may write. In the file
- * each of these pages, except `number`, must be zeros or past the end. The plan is empty if nothing changes. SHORT_ROOM. STALE if this page
- * is not enough: the last page of .pag would become empty, or .pag would become too long. STALE is also returned if memory runs out.
+/* Returns the plan that saves the database of the page after the command, and the numbers of the pages that the plan may write. Each of
+ * these pages except `number` must be zeros in the file, or past its end. The plan is empty if nothing changes. SHORT_ROOM. STALE if this
+ * page is not enough: the last page of .pag would become empty, or .pag would become too long. STALE is also returned if memory runs out.
  * IS_CLOSED. */
 uint32_t boddurci_plan_page(boddurci *db, const uint8_t *dir, size_t dir_length, size_t pag_length, uint32_t number, const uint8_t *page,
                             size_t page_length, uint32_t *numbers, size_t numbers_room, size_t *numbers_count, uint8_t *plan,
@@ -616,13 +618,14 @@ struct boddurci_command {
     size_t key_length;
     const uint8_t *bytes; /* the value of a store, the argument of a run */
     size_t length;
-    uint8_t *room;        /* of a fetch, with the next two */
+    uint8_t *room;        /* of a fetch, like the next two fields */
     size_t room_length;
     size_t *value_length;
     uint32_t replace;     /* of a store */
-    uint32_t number;      /* of a run, with the rest */
+    uint32_t number;      /* of a run, like all fields below */
     uint32_t has_blank;
     size_t blank;
+    uint64_t per_second;  /* if it is not 0, `now` is read from the clock, with this number of units in a second */
     uint64_t now, end, word;
 };
 
@@ -665,8 +668,8 @@ uint32_t boddurci_answer(boddurci *db, struct boddurci_command *command);
 int boddurci_may_change(const struct boddurci_command *command, uint32_t status);
 
 /* `boddurci_change_page` executes a command on the page of its key and saves the page. `boddurci_fetch_page` does a fetch, under BASE.lock
- * shared; if a log must be recovered first, it sets *must_recover and does nothing else. Both set *is_whole if the page is not enough, and
- * have changed nothing then. */
+ * shared; if a log must be recovered first, it sets *must_recover and does nothing else. If the page is not enough, both set *is_whole and
+ * change nothing. */
 uint32_t boddurci_change_page(boddurci_shared *shared, struct boddurci_command *command, int *is_whole, boddurci_fault *fault);
 uint32_t boddurci_fetch_page(boddurci_shared *shared, struct boddurci_command *command, int *must_recover, int *is_whole,
                              boddurci_fault *fault);

@@ -1,4 +1,4 @@
-/* The calls of a shared base. include/boddurci_files.h says what each does. */
+/* Implements the calls of shared bases, which include/boddurci_files.h documents. */
 #define _GNU_SOURCE
 #include "boddurci_saves.h"
 #include <errno.h>
@@ -302,7 +302,7 @@ static char *whole_name(const boddurci_shared *shared)
     return name;
 }
 
-/* Submits all programs of the shared base to a newly opened database. There the programs get the same numbers. */
+/* Submits all programs of the shared base to a newly opened database. The programs get the same numbers there. */
 static uint32_t submit_all(const boddurci_shared *shared, boddurci *db)
 {
     uint8_t text[1];
@@ -428,13 +428,12 @@ static uint32_t fetch(boddurci_shared *shared, struct boddurci_command *command,
     return status == BODDURCI_DONE && it.is_whole ? call_whole(shared, command, end, fault) : status;
 }
 
-/* Makes a call as one atomic step. */
-static uint32_t call(boddurci_shared *shared, struct boddurci_command *command, boddurci_fault *fault)
+/* Makes a call as one atomic step. It waits for the mutex and the locks until `end`. */
+static uint32_t call_until(boddurci_shared *shared, struct boddurci_command *command, int64_t end, boddurci_fault *fault)
 {
     boddurci_fault unsaid;
     int could_be_cancelled;
     fault = fault != NULL ? fault : &unsaid;
-    int64_t end = shared != NULL ? end_of_wait(shared) : 0;
     pthread_setcancelstate(PTHREAD_CANCEL_DISABLE, &could_be_cancelled);
     uint32_t status = begin(shared, end, fault);
     if (status == BODDURCI_DONE) {
@@ -443,6 +442,11 @@ static uint32_t call(boddurci_shared *shared, struct boddurci_command *command, 
     }
     pthread_setcancelstate(could_be_cancelled, NULL);
     return status;
+}
+
+static uint32_t call(boddurci_shared *shared, struct boddurci_command *command, boddurci_fault *fault)
+{
+    return call_until(shared, command, shared != NULL ? end_of_wait(shared) : 0, fault);
 }
 
 uint32_t boddurci_shared_fetch(boddurci_shared *shared, const uint8_t *key, size_t key_length, uint8_t *value, size_t value_room,
@@ -471,6 +475,17 @@ uint32_t boddurci_shared_delete(boddurci_shared *shared, const uint8_t *key, siz
     return call(shared, &command, fault);
 }
 
+static uint32_t run_until(boddurci_shared *shared, struct boddurci_command *command, int64_t until, uint64_t *end, uint64_t *word,
+                          boddurci_fault *fault)
+{
+    uint32_t status = call_until(shared, command, until, fault);
+    if (status == BODDURCI_DONE || status == BODDURCI_MISSING || status == BODDURCI_CROWDED) {
+        *end = command->end;
+        *word = command->word;
+    }
+    return status;
+}
+
 uint32_t boddurci_shared_run(boddurci_shared *shared, uint32_t number, const uint8_t *key, size_t key_length, const uint8_t *arg,
                              size_t arg_length, uint32_t has_blank, size_t blank, uint64_t now, uint64_t *end, uint64_t *word,
                              boddurci_fault *fault)
@@ -480,12 +495,20 @@ uint32_t boddurci_shared_run(boddurci_shared *shared, uint32_t number, const uin
     command.has_blank = has_blank;
     command.blank = blank;
     command.now = now;
-    uint32_t status = call(shared, &command, fault);
-    if (status == BODDURCI_DONE || status == BODDURCI_MISSING || status == BODDURCI_CROWDED) {
-        *end = command.end;
-        *word = command.word;
-    }
-    return status;
+    return run_until(shared, &command, shared != NULL ? end_of_wait(shared) : 0, end, word, fault);
+}
+
+uint32_t boddurci_shared_run_now(boddurci_shared *shared, uint32_t number, const uint8_t *key, size_t key_length, const uint8_t *arg,
+                                 size_t arg_length, uint32_t has_blank, size_t blank, uint64_t per_second, uint64_t *end, uint64_t *word,
+                                 boddurci_fault *fault)
+{
+    enum { MOST = 1000000000 };
+    struct boddurci_command command = {.kind = BODDURCI_RUN, .key = key, .key_length = key_length, .bytes = arg, .length = arg_length};
+    command.number = number;
+    command.has_blank = has_blank;
+    command.blank = blank;
+    command.per_second = per_second == 0 ? 1 : per_second < MOST ? per_second : MOST;
+    return run_until(shared, &command, shared != NULL ? end_of_wait(shared) : 0, end, word, fault);
 }
 
 /* ---- programs */
@@ -537,11 +560,11 @@ uint32_t boddurci_shared_submit(boddurci_shared *shared, const uint8_t *image, s
     return status;
 }
 
-uint32_t boddurci_shared_stock(boddurci_shared *shared, const char *name, uint32_t *number)
+/* Submits a stock program. Waits for the mutex until `end`. */
+static uint32_t stock_until(boddurci_shared *shared, const char *name, int64_t end, uint32_t *number, boddurci_fault *fault)
 {
-    boddurci_fault unsaid;
     int could_be_cancelled;
-    uint32_t status = begin(shared, -1, &unsaid);
+    uint32_t status = begin(shared, end, fault);
     if (status != BODDURCI_DONE)
         return status;
     pthread_setcancelstate(PTHREAD_CANCEL_DISABLE, &could_be_cancelled);
@@ -554,5 +577,28 @@ uint32_t boddurci_shared_stock(boddurci_shared *shared, const char *name, uint32
         free(copy);
     pthread_mutex_unlock(&shared->mutex);
     pthread_setcancelstate(could_be_cancelled, NULL);
-    return status;
+    return status == BODDURCI_DONE ? status : boddurci_fail(fault, status, 0, boddurci_text(status));
+}
+
+uint32_t boddurci_shared_stock(boddurci_shared *shared, const char *name, uint32_t *number)
+{
+    boddurci_fault unsaid;
+    return stock_until(shared, name, -1, number, &unsaid);
+}
+
+uint32_t boddurci_shared_add(boddurci_shared *shared, const uint8_t *key, size_t key_length, int64_t amount, uint64_t least,
+                             uint64_t greatest, uint64_t *end, uint64_t *number, boddurci_fault *fault)
+{
+    boddurci_fault unsaid;
+    uint8_t argument[24];
+    struct boddurci_command command = {.kind = BODDURCI_RUN, .key = key, .key_length = key_length, .has_blank = 1, .blank = 8};
+    int64_t until = shared != NULL ? end_of_wait(shared) : 0;
+    fault = fault != NULL ? fault : &unsaid;
+    uint32_t status = stock_until(shared, "bounded_counter", until, &command.number, fault);
+    if (status != BODDURCI_DONE)
+        return status;
+    boddurci_add_argument(amount, least, greatest, argument);
+    command.bytes = argument;
+    command.length = sizeof argument;
+    return run_until(shared, &command, until, end, number, fault);
 }

@@ -1,5 +1,5 @@
 /* Reads and writes the note that a call of a shared base leaves in the header of the log. The note says that all records up to a certain
- * end are applied to both data files. So the next call appends its record at that end, and nobody recovers the log. docs/DESIGN.md defines
+ * end are applied to both data files. So the next call appends its record at that end, without recovering the log. docs/DESIGN.md defines
  * the bytes of a note under "The log of saves". */
 #define _GNU_SOURCE
 #include "boddurci_saves.h"

@@ -41,7 +41,7 @@ void boddurci_drop_files(boddurci_shared *shared)
     boddurci_disk_drop(&shared->logged.disk, BODDURCI_REDO);
 }
 
-/* Returns whether the open data files are those under the names. */
+/* Returns whether the names of the data files still lead to the open files. */
 static int are_named(const boddurci_shared *shared)
 {
     for (enum boddurci_file file = BODDURCI_PAGES; file <= BODDURCI_DIRECTORY; file++) {
@@ -134,7 +134,7 @@ static uint32_t recover(boddurci_shared *shared, boddurci_fault *fault)
 }
 
 /* Ensures that the data files have all saves: the log has no mark, or all its records are applied. If a program that does not know the log
- * has written the data files since the last save, the data files count, and the log is closed. */
+ * has written the data files since the last save, the data files are the database, and the log is closed. */
 static uint32_t settle_log(boddurci_shared *shared, boddurci_fault *fault)
 {
     int redo;
@@ -157,8 +157,7 @@ static uint32_t settle_log(boddurci_shared *shared, boddurci_fault *fault)
 }
 
 /* Closes an open log and removes the redo file if it does not have the owner, the group and the permissions of .pag, since other users
- * would not accept it. That happens if this user may write .pag without being its owner, and so cannot give the redo file to the owner of
- * .pag. */
+ * would not accept it. A user who may write .pag but does not own it cannot give the redo file to the owner of .pag. */
 static void remove_unlike(boddurci_shared *shared)
 {
     boddurci_fault unsaid;
@@ -172,8 +171,8 @@ static void remove_unlike(boddurci_shared *shared)
 }
 
 /* Leaves a note for the next call. Closes the log instead in two cases: if another program has written during this call, since the records
- * may not belong to these files, or if the boot id is unknown, since a note holds for one boot only. If this call fails, the next one
- * recovers the files. */
+ * may not belong to these files, or if the boot id is unknown, since a note holds for one boot only. If this fails, the next call recovers
+ * the files. */
 static void leave_log(boddurci_shared *shared)
 {
     boddurci_fault unsaid;
@@ -288,8 +287,18 @@ static uint32_t open_page(boddurci_shared *shared, const struct boddurci_command
 
 /* ---- commands */
 
+/* Returns the time of the system's clock. A second has `per_second` units, at most 10^9, so no product exceeds 2^64 before the year 2554. */
+static uint64_t clock_time(uint64_t per_second)
+{
+    struct timespec time;
+    clock_gettime(CLOCK_REALTIME, &time);
+    return (uint64_t)time.tv_sec * per_second + (uint64_t)time.tv_nsec * per_second / 1000000000;
+}
+
 uint32_t boddurci_answer(boddurci *db, struct boddurci_command *it)
 {
+    if (it->per_second != 0)
+        it->now = clock_time(it->per_second);
     switch (it->kind) {
     case BODDURCI_FETCH: return boddurci_fetch(db, it->key, it->key_length, it->room, it->room_length, it->value_length);
     case BODDURCI_STORE: return boddurci_store(db, it->key, it->key_length, it->bytes, it->length, it->replace);
@@ -315,8 +324,8 @@ static uint32_t answer(boddurci_shared *shared, struct boddurci_command *command
 
 /* ---- saving */
 
-/* The greatest number of pages that a plan may write. A plan rarely needs more, since a page is split at most once for each bit of the
- * hash. If a plan needs more, the call is made on the whole database. */
+/* The pages that a plan may write, at most 80. A plan rarely needs more, since a page is split at most once for each bit of the hash. If a
+ * plan needs more, the call is made on the whole database. */
 struct written {
     uint32_t numbers[80];
     size_t count;

@@ -105,7 +105,7 @@ static int is_zero(const uint8_t *bytes, size_t size)
     return size == 0 || (bytes[0] == 0 && memcmp(bytes, bytes + 1, size - 1) == 0);
 }
 
-/* Returns whether a step writes a data file past its end or in a hole, which may have no blocks. In the bytes of a save, the bytes that a
+/* Returns whether a step writes a data file past its end or in a hole, which may have no blocks. In the buffer of a save, the bytes that a
  * step writes are followed by the present bytes of the file. */
 static int needs_room(const struct boddurci_steps *steps, const boddurci_step *step, const struct need *need)
 {
@@ -187,7 +187,7 @@ void boddurci_lengths_of(const uint8_t *bytes, int is_after, uint64_t lengths[2]
     lengths[BODDURCI_DIRECTORY] = boddurci_number_at(at + 4);
 }
 
-/* An open data file has the length in the plan, since the save has checked that. A closed data file is opened to get its length. */
+/* An open data file has the length in the plan, since the save has checked its length. A closed data file is opened to get its length. */
 int boddurci_take_room(struct boddurci_disk *disk, const struct boddurci_steps *steps)
 {
     struct need need = {{0, 0}, 0};

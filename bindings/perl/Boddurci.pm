@@ -41,7 +41,7 @@
 # mode "n" is possible. A forked child may use the hash.
 #
 # The module needs FFI::Platypus (Debian: libffi-platypus-perl) and the shared object that `./dbm --build-library` makes. If
-# BODDURCI_LIBRARY is set, its absolute path names the file to load. Otherwise the module loads libboddurci.so next to this file, or else
+# BODDURCI_LIBRARY is set, it is the absolute path of the file to load. Otherwise the module loads libboddurci.so next to this file, or else
 # from out/boddurci of the repository, or else the one that the system finds. The module ignores BODDURCI_LIBRARY under `perl -T`, and if
 # the effective user or group is not the real one.
 #
@@ -59,16 +59,16 @@ use Scalar::Util qw(refaddr);
 use Time::HiRes qw(clock_gettime CLOCK_MONOTONIC);
 
 # The statuses of boddurci.h and boddurci_files.h, and this module's texts for some statuses. The library has a text for each status.
-my ($DONE, $MISSING, $BAD_FILES, $REFUSED, $BAD_TEXT, $CHANGED, $IS_CLOSED, $NO_PROGRAM, $NO_STOCK) = (0, 1, 4, 5, 6, 8, 16, 20, 24);
+my ($DONE, $MISSING, $BAD_FILES, $REFUSED, $BAD_TEXT, $CHANGED, $IS_CLOSED, $NO_PROGRAM, $NO_STOCK) = (0, 1, 7, 5, 6, 8, 16, 20, 24);
 my ($FILE_FAILED, $LOCKED, $FORKED, $INTERRUPTED) = (32, 33, 39, 41);
 my %WORDS = (
-    2  => "the key is there",
+    2  => "the key exists",
     3  => "crowded: no room for the pair, however often its page is split",
     16 => "the database is closed",
     18 => "key and value have too many bytes together",
     19 => "the argument has more than 1,024 bytes",
     20 => "no program of this database has the number",
-    22 => "too long: the pages would take more than the limit, 1 GiB if none is given; what is there can be saved",
+    22 => "too long: BASE.pag would exceed the limit, 1 GiB if none is given; nothing was changed, and the database can be saved",
     39 => "the database was opened by another process",
 );
 
@@ -135,6 +135,7 @@ $ffi->attach(["boddurci_$_->[0]" => "_$_->[0]"], $_->[1], $_->[2]), $CALLS{$_->[
         ["shared_store", ["opaque", @bytes, @bytes, "uint32", "opaque"] => "uint32"],
         ["shared_delete", ["opaque", @bytes, "opaque"] => "uint32"],
         ["shared_run",  ["opaque", "uint32", @bytes, @bytes, "uint32", "size_t", "uint64", "uint64*", "uint64*", "opaque"] => "uint32"],
+        ["shared_run_now", ["opaque", "uint32", @bytes, @bytes, "uint32", "size_t", "uint64", "uint64*", "uint64*", "opaque"] => "uint32"],
         ["shared_submit", ["opaque", @bytes, "uint32*", "size_t*", @room] => "uint32"],
         ["shared_stock", ["opaque", "string", "uint32*"] => "uint32"],
     );
@@ -377,15 +378,19 @@ sub _number {
     return $program->{number};
 }
 
+# The call for a run without a time, and its number: the system's time in seconds.
+sub _clock { ("run", time) }
+
 # Runs a program on the record of a key, or on `blank` zeros if the key is missing. `arg` is the argument, and `now` is the time of the run,
 # by default the system's time in seconds. Returns the code and the reply word, or nothing if the key is missing and there is no `blank`.
 sub run {
     my ($self, $program, $key, %more) = @_;
     my @bytes = (_given($key), _given($more{arg}));
     my $has_blank = defined $more{blank} ? 1 : 0;
-    my ($blank, $now) = map { 0 + "$_" } $more{blank} // 0, $more{now} // time;
+    my ($call, $time) = defined $more{now} ? ("run", $more{now}) : $self->_clock;
+    my ($blank, $now) = map { 0 + "$_" } $more{blank} // 0, $time;
     my $number = $self->_number($program);
-    my $status = $self->_made("run", 1, $number, @bytes, $has_blank, $blank, $now, \my $end, \my $word);
+    my $status = $self->_made($call, 1, $number, @bytes, $has_blank, $blank, $now, \my $end, \my $word);
     return if $status == $MISSING;
     _check($status);
     return ($end, $word);
@@ -520,6 +525,10 @@ sub _keys {
     return @found;
 }
 
+# The call for a run without a time, and its number: the units in a second. The library reads the clock under the locks, so the times of the
+# runs of all processes do not fall.
+sub _clock { ("run_now", 1) }
+
 # Does nothing, since each change is durable.
 sub sync {
     my ($self, %options) = @_;
@@ -641,18 +650,19 @@ sub new {
     return $class->_of($db, $key);
 }
 
-# Runs the program for an owner and a term in seconds. Returns the time of the run, the term, the code and the reply word.
-sub _ask {
-    my ($self, $owner, $seconds, %options) = @_;
-    my $now = Boddurci::Stocked::_time(%options);
+# Returns the argument for an owner and a term in seconds, and the term.
+sub _argument {
+    my ($owner, $seconds) = @_;
     my $who = Boddurci::Stocked::_whole("owner", $owner, 0);
     my $term = Boddurci::Stocked::_whole("seconds", $seconds, 1);
-    return ($now, $term, $self->_run(pack("Q<2", $who, $term), $now));
+    return (pack("Q<2", $who, $term), $term);
 }
 
 sub acquire {
-    my $self = shift;
-    my ($now, $term, $code, $word) = $self->_ask(@_);
+    my ($self, $owner, $seconds, %options) = @_;
+    Boddurci::Stocked::_time(%options);
+    my ($argument) = _argument($owner, $seconds);
+    my ($code, $word) = $self->_run($argument, $options{now});
     return $code == 1 ? $word : undef;
 }
 
@@ -662,7 +672,7 @@ sub release {
     $owner = Boddurci::Stocked::_whole("owner", $owner, 0);
     my $record = $self->_record;
     return "" unless defined $record;
-    $self->_run(pack("Q<2", $owner, 0), $now);
+    $self->_run(pack("Q<2", $owner, 0), $options{now});
     my ($holder, $end) = unpack "Q<2", $record;
     return $holder == $owner && $now < $end;
 }
@@ -676,8 +686,10 @@ sub _name { "fenced_lease" }
 sub _size { 24 }
 
 sub acquire {
-    my $self = shift;
-    my ($now, $term, $code, $word) = $self->_ask(@_);
+    my ($self, $owner, $seconds, %options) = @_;
+    my $now = Boddurci::Stocked::_time(%options);
+    my ($argument, $term) = Boddurci::Lease::_argument($owner, $seconds);
+    my ($code, $word) = $self->_run($argument, $now);
     croak "all tokens of ", Boddurci::_shown($self->{key}), " are used up" if $code == 3;
     return unless $code == 1;
     my $end = $term > $MOST - $now ? $MOST : $now + $term;
@@ -723,8 +735,8 @@ sub new {
 
 sub admit {
     my ($self, %options) = @_;
-    my $now = Boddurci::Stocked::_time(%options);
-    return ($self->_run(pack("Q<2", $self->{seconds}, $self->{count}), $now))[0] == 1;
+    Boddurci::Stocked::_time(%options);
+    return ($self->_run(pack("Q<2", $self->{seconds}, $self->{count}), $options{now}))[0] == 1;
 }
 
 1;

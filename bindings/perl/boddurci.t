@@ -121,7 +121,7 @@ untie %db;
     ok(eval { tie my %wide, "Boddurci", "$base.small", "r", wide => 1, any_size => 1; 1 } || $@ !~ /look small/);
 }
 
-# A limit of the length of .pag. The second key is refused, since it would need the first MiB. Nothing changes, in memory or on the disk.
+# A limit on the length of .pag. The second key is refused, since it would need the first MiB. Nothing changes, in memory or on the disk.
 {
     my ($first, $second, $value) = ("far180463", "far413", "x" x 900);
     dies_with(sub { tie my %none, "Boddurci", "$base.limit", "c", limit => $_ }, qr/a limit is/) for -1, "x", "", "1\n", "1" x 16;
@@ -130,7 +130,7 @@ untie %db;
     $limited{$first} = $value;
     tied(%limited)->sync;
     my $before = text_of("$base.limit.pag");
-    dies_with(sub { $limited{$second} = $value }, qr/too long: the pages would take more than the limit/);
+    dies_with(sub { $limited{$second} = $value }, qr/too long: BASE\.pag would exceed the limit/);
     my $program = tied(%limited)->program(text_of("$top/examples/counter.s"));
     dies_with(sub { tied(%limited)->run($program, $second, blank => 900) }, qr/too long/);
     is_deeply({%limited}, { $first => $value });
@@ -276,7 +276,7 @@ for my $mode ("w", "n") {
     untie %held;
 }
 
-# Which library is loaded: the one that BODDURCI_LIBRARY names by its absolute path, if the environment is trusted.
+# Tests which library is loaded: the one that BODDURCI_LIBRARY names by its absolute path, if the environment is trusted.
 {
     my $folder = tempdir(CLEANUP => 1);
     chmod 0755, $folder;
@@ -523,11 +523,25 @@ SKIP: {
     dies_with(sub { tied(%one)->stock($_) }, qr/the names are/) for "nothing", "counter\0";
     my $lease = tied(%one)->lease("door");
     ok($lease->acquire(7, 30) && !defined $lease->acquire(8, 30) && $lease->release(7) && !$lease->release(7));
+    # The library reads the clock, under the locks.
+    my $end = tied(%one)->lease("timed")->acquire(7, 30);
+    ok(abs($end - 30 - time) < 20);
+    ok(tied(%one)->rate_limit("limited", 1, 30)->admit && !tied(%one)->rate_limit("limited", 1, 30)->admit);
+    ok(abs(unpack("Q<", $one{limited}) - time) < 20);
+    is(tied(%one)->lease("own")->acquire(7, 30, now => 5), 35);
+    is_deeply([tied(%one)->fenced_lease("fenced")->acquire(7, 30, now => 5)], [35, 1]);
+    delete @one{"timed", "limited", "own", "fenced"};
     my $hits = tied(%one)->counter("hits");
     my @children = map { my $child = fork // die; $child || do { $hits->add for 1 .. 20; POSIX::_exit(0) } } 1 .. 3;
     $hits->add for 1 .. 20;
     waitpid($_, 0), is($?, 0) for @children;
     is(tied(%other)->counter("hits")->get, 81);
+    is(tied(%other)->counter("hits")->add(-80), 1);
+    dies_with(sub { tied(%one)->counter("hits", ceiling => 7)->add(7) }, qr/hits: 1 plus 7 is outside 0 to 7/);
+    $one{short} = "1234567";
+    dies_with(sub { tied(%other)->counter("short")->add }, qr/the record of short is too short/);
+    is($one{short}, "1234567");
+    delete $one{short};
 
     # While another process has the whole database open, a change waits, runs signal handlers meanwhile, and dies at the timeout.
     pipe(my $has_it, my $says) or die;
@@ -560,6 +574,14 @@ SKIP: {
     dies_with(sub { my @keys = $db->_keys }, qr/the database is closed/);
     %other = ();
     is_deeply([keys %reads], []);
+
+    # The bytes of the files are not a database.
+    open(my $pages, ">", "$shared.bad.pag") or die;
+    print $pages "x" x 1024;
+    close $pages;
+    tie my %bad, "Boddurci", "$shared.bad", "w", shared => 1;
+    dies_with(sub { my $value = $bad{a} }, qr/Page\(0/);
+    untie %bad;
 
     # A shared database that is open when the program ends, and a name that is resolved once.
     my $script = 'tie our %db, "Boddurci", "shared", "c", shared => 1; chdir "/"; $db{a} = "b"; print keys %db';

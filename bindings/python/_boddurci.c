@@ -1,8 +1,8 @@
 /* The most frequent calls of boddurci.py in C: fetch, store, delete and run, without ctypes.
  *
  * This file makes plain calls: the keys and values are bytes or str, the database is open and not being saved, and no other thread holds
- * its lock. Any other call, and one that the library refuses, goes to the method in Python, which begins the call again. So the results of
- * calls, and how they wait, are defined once, in boddurci.py.
+ * its lock. Any other call, and any call that the library refuses, goes to the method in Python, which begins the call again. So
+ * boddurci.py alone defines the results of calls and how they wait.
  *
  * A plain call holds the interpreter lock from its check of the database to its end, and calls no Python code in between. So no other
  * thread, no signal and no fork can interrupt it, and it takes no other lock.
@@ -40,14 +40,15 @@ static struct {
     PyObject *program, *ran;   /* the classes of programs and of the results of runs */
     PyObject *new_tuple;       /* tuple.__new__, which makes the result of a run */
     PyObject *clock, *seconds; /* the module time, and its function time */
-    PyObject *name_of, *name_number, *name_time, *words[5]; /* the last are the arguments of a run */
+    PyObject *name_of, *name_number, *name_time, *words[5]; /* `words` are the names of the arguments of a run */
 } python;
 
 static PyTypeObject *lock_type;
 
 /* ---- the lock of a database */
 
-/* A lock of threading, with its holder and the number of times that the holder has taken it. Threads and methods in Python take it. */
+/* A lock of the module threading, with its holder and the number of times that the holder has taken it. Threads and methods in Python
+ * take it. */
 typedef struct {
     PyObject_HEAD
     PyObject *inner;

@@ -24,12 +24,12 @@ last `sync` are dropped, and the files are unchanged. A database that is not clo
 the latest when the interpreter exits. If that fails, a RuntimeWarning names the database.
 
 Threads may share a database. A signal handler that interrupts a call may not use the database, but may raise. In a child of the process
-that opened the database, every call except `close` raises an error, and nothing is saved.
+that opened the database, every call except `close` raises an error, and nothing is saved; only a shared database may be used in a child.
 
-The module needs the shared object that `./dbm --build-library` makes. If BODDURCI_LIBRARY is set, its absolute path names the file to load.
-Otherwise the module loads libboddurci.so next to this file, or else from out/boddurci of the repository, or else the one that the system
-finds. The module ignores BODDURCI_LIBRARY in `python -I` and `python -E`, and if the effective user or group is not the real one. It calls
-the library with ctypes. If the extension `_boddurci` is built (`pip install bindings/python`), fetch, store, delete and run use the
+The module needs the shared object that `./dbm --build-library` makes. If BODDURCI_LIBRARY is set, it is the absolute path of the file to
+load. Otherwise the module loads libboddurci.so next to this file, or else from out/boddurci of the repository, or else the one that the
+system finds. The module ignores BODDURCI_LIBRARY in `python -I` and `python -E`, and if the effective user or group is not the real one. It
+calls the library with ctypes. If the extension `_boddurci` is built (`pip install bindings/python`), fetch, store, delete and run use the
 extension, which is several times as fast and has the same results.
 
 The store is proved, and so is the order of the calls that write a save (docs/PROOFS.md). This module, and the C code that opens, locks and
@@ -59,13 +59,13 @@ __all__ += ["RecordError", "Semaphore", "SharedDatabase", "error", "open"]
 _DONE, _MISSING, _REFUSED, _BAD_TEXT, _CHANGED, _IS_CLOSED, _NO_STOCK, _LOCKED, _FORKED, _INTERRUPTED = 0, 1, 5, 6, 8, 16, 24, 33, 39, 41
 _EXISTS, _SHORT_ROOM, _BAD_FILES, _FILE_FAILED = 2, 4, 7, 32
 _WORDS = {
-    2: "the key is there",
+    2: "the key exists",
     3: "crowded: no room for the pair, however often its page is split",
     16: "the database is closed",
     18: "key and value have too many bytes together",
     19: "the argument has more than 1,024 bytes",
     20: "no program has the number",
-    22: "too long: the pages would take more than the limit, 1 GiB if none is given; what is there can be saved",
+    22: "too long: FILE.pag would exceed the limit, 1 GiB if none is given; nothing was changed, and the database can be saved",
     39: "the database was opened by another process",
 }
 
@@ -214,6 +214,7 @@ def _bind():
         "shared_store": (waits, u32, [at, text, size, text, size, u32, at]),
         "shared_delete": (waits, u32, [at, text, size, at]),
         "shared_run": (waits, u32, [at, u32, text, size, text, size, u32, size, u64, at, at, at]),
+        "shared_run_now": (waits, u32, [at, u32, text, size, text, size, u32, size, u64, at, at, at]),
         "shared_submit": (waits, u32, [at, text, size, at, at, at, size, at]),
         "shared_stock": (waits, u32, [at, text, at]),
         "version": (quick, text, []),
@@ -302,7 +303,7 @@ def _open_base(held, name, flags, timeout):
 
 
 class _Database(MutableMapping):
-    """All calls of a database. If the extension is loaded, it makes the plain calls, and these methods make only the other calls."""
+    """The methods of a database. If the extension is loaded, its class overrides the methods for fetch, store, delete and run."""
 
     # `_base` is the address of the base, or None if it is closed or left to the parent. `_held` is a list with the address until the base
     # is closed.
@@ -647,7 +648,8 @@ _plain_calls, _Lock = ((_extension[0],), _extension[1]) if _extension else ((), 
 
 
 def _new_lock():
-    """Returns a new lock of a database. The extension can see whether its own lock is held."""
+    """Returns a new lock of a database. If the extension is loaded, it is of the extension's class, since the extension tests whether the
+    lock is held."""
     return _Lock(threading.RLock()) if _Lock else threading.RLock()
 
 
@@ -663,7 +665,7 @@ class SharedDatabase(MutableMapping):
 
     def __init__(self, name, flags, timeout, reads):
         self._held, self._name, self._flags, self._timeout, self._reads = [], name, flags, timeout, reads
-        # The classes of the stock programs take a lock. This one does nothing, since each call is a step by itself.
+        # The classes of the stock programs take a lock. This lock does nothing, since each call is a step by itself.
         self._lock = contextlib.nullcontext()
         self._token, self._stocks = object(), {}
         self._set_guard()
@@ -820,7 +822,8 @@ class SharedDatabase(MutableMapping):
         return self._stocks[text]
 
     def run(self, program, key, arg=b"", blank=None, now=None):
-        """Runs a program on the record of a key, as Database.run does, as one durable step."""
+        """Runs a program on the record of a key, as Database.run does, as one durable step. Without `now` the time is that of the system in
+        seconds, read once the call has the locks. So the times of all processes never fall, unless somebody sets the clock back."""
         name, arg = _bytes(key), _bytes(arg)
         if blank is not None and not 0 <= blank <= _SIZE_MOST:
             raise ValueError(f"blank is a number from 0 to {_SIZE_MOST}")
@@ -829,9 +832,11 @@ class SharedDatabase(MutableMapping):
         self._need_writes()
         if getattr(program, "_of", None) is not self._token:
             raise ProgramError("the program was not accepted by this database", None)
-        end, word, now = ctypes.c_uint64(), ctypes.c_uint64(), int(time.time()) if now is None else now
-        words = (program.number, name, len(name), arg, len(arg), blank is not None, blank or 0, now, ctypes.byref(end), ctypes.byref(word))
-        status = self._made(_call.shared_run, *words)
+        end, word = ctypes.c_uint64(), ctypes.c_uint64()
+        # Without a time, the library reads the clock under the locks, so the times of the runs of all processes do not fall.
+        call, clock = (_call.shared_run_now, 1) if now is None else (_call.shared_run, now)
+        words = (program.number, name, len(name), arg, len(arg), blank is not None, blank or 0, clock, ctypes.byref(end), ctypes.byref(word))
+        status = self._made(call, *words)
         if status == _MISSING:
             raise KeyError(key)
         if status != _DONE:
@@ -888,8 +893,8 @@ def _given(now):
 
 
 def _time(now):
-    """Returns the time of a run: the system's time if `now` is None. Call it under the lock of the database: then the times of runs fall
-    only if the system's time falls."""
+    """Returns the time of a run: the system's time if `now` is None. Call it under the lock of the database, so that the times of its runs
+    fall only if the system's time falls. A shared database has no such lock: another process may run a program with a later time first."""
     return int(time.time()) if now is None else now
 
 
@@ -970,12 +975,12 @@ class Lease(_Stocked):
 
     def release(self, owner, now=None):
         """Releases the lease. Returns whether the owner held it. The lease of another owner stays, unless it has ended."""
-        owner, now = _whole("owner", owner), _given(now)
+        owner, given = _whole("owner", owner), _given(now)
         with self._db._lock:
-            now, record = _time(now), self._record()
+            now, record = _time(given), self._record()
             if record is None:
                 return False
-            self._run(now, owner, 0)
+            self._run(given, owner, 0)
         holder, end = struct.unpack_from("<2Q", record)
         return holder == owner and now < end
 
@@ -1041,7 +1046,7 @@ class RateLimit(_Stocked):
         return self._run(_given(now), self._seconds, self._count).end == 1
 
 
-# The open databases. The shared ones are in `_shared`, and all others in `_databases`.
+# The open databases. Shared databases are in `_shared`, and all others in `_databases`.
 _databases = weakref.WeakValueDictionary()
 _shared = weakref.WeakValueDictionary()
 
@@ -1052,7 +1057,7 @@ def _all_databases(databases=_databases):
 
 
 def _leave_all():
-    """In a child, leaves all databases to the parent."""
+    """In a child, leaves the databases to the parent, except shared ones, which the child may use."""
     for database in _all_databases():
         database._leave_to_parent()
         database._release()

@@ -458,8 +458,8 @@ if len(sys.argv) > 3:
 
 
 class Library(InFolder):
-    """Tests which file is loaded. The file next to the module is a library, and the file that BODDURCI_LIBRARY names is not, so loading it
-    fails."""
+    """Tests which file is loaded. The file next to the module is a library. The file that BODDURCI_LIBRARY names is not a library, so
+    loading it fails."""
 
     def setUp(self):
         super().setUp()
@@ -543,7 +543,7 @@ class Saves(InFolder):
         db = boddurci.open(self.base, "c")
         for key in keys[:3]:
             db[key] = b"x" * 900
-        with self.assertRaisesRegex(boddurci.error, "too long: the pages would take more than the limit, 1 GiB if none is given"):
+        with self.assertRaisesRegex(boddurci.error, "too long: FILE\\.pag would exceed the limit, 1 GiB if none is given"):
             db[keys[3]] = b"x" * 900
         self.assertEqual(sorted(db.keys()), sorted(keys[:3]))
         db.sync()
@@ -567,7 +567,7 @@ class Saves(InFolder):
             db[keys[0]] = value
             db.sync()
             before = pathlib.Path(self.base + ".pag").read_bytes()
-            with self.assertRaisesRegex(boddurci.error, "too long: the pages would take more than the limit"):
+            with self.assertRaisesRegex(boddurci.error, "too long: FILE\\.pag would exceed the limit"):
                 db[keys[1]] = value
             with self.assertRaisesRegex(boddurci.error, "too long"):
                 db.run(db.program((TOP / "examples/counter.s").read_text()), keys[1], blank=900)
@@ -665,8 +665,8 @@ class Saves(InFolder):
         return subprocess.run(words, capture_output=True, text=True, check=True).stdout
 
     def test_changed_by_perl(self):
-        """A save does not overwrite data that Perl has stored while the database was open, unless `insist` is true. It does not matter
-        whether the database has changes."""
+        """A save does not overwrite data that Perl has stored while the database was open, unless `insist` is true. This holds whether or
+        not the database has changes."""
         db = boddurci.open(self.base, "c")
         db[b"a"] = b"1"
         db.sync()
@@ -1375,8 +1375,20 @@ class Shared(InFolder):
         db = self.shared()
         hits, doors = db.counter(b"hits"), db.semaphore(b"door", 1)
         self.assertEqual((hits.get(), hits.add(), hits.add(5), hits.get()), (0, 1, 6, 6))
+        self.assertRaises(OverflowError, db.counter(b"hits", ceiling=7).add, 2)
+        self.assertEqual((self.shared().counter(b"hits").add(-4), hits.get(), db[b"hits"]), (2, 2, b"\2" + bytes(7)))
+        db[b"short"] = b"1234567"
+        self.assertRaises(boddurci.RecordError, db.counter(b"short").add)
+        self.assertEqual(db[b"short"], b"1234567")
         self.assertEqual((doors.acquire(), doors.acquire(), doors.release(), doors.release()), (True, False, True, False))
         self.assertTrue(db.lease(b"lease").acquire(7, 30) and not db.lease(b"lease").acquire(8, 30) and db.lease(b"lease").release(7))
+        # The library reads the clock, under the locks.
+        with unittest.mock.patch("time.time", return_value=1):
+            end = db.lease(b"timed").acquire(7, 30)
+            self.assertTrue(db.rate_limit(b"limited", 1, 30).admit())
+        self.assertTrue(abs(end - 30 - time.time()) < 20)
+        self.assertTrue(abs(int.from_bytes(db[b"limited"][:8], "little") - time.time()) < 20)
+        self.assertEqual((db.lease(b"own").acquire(7, 30, now=5), db.lease(b"own").release(7, now=6), b"own" in db), (35, True, False))
         seven = db.program("mov r0, 7\nexit\n")
         self.assertEqual(db.run(seven, b"a", blank=8).end, 7)
         self.assertRaises(KeyError, db.run, seven, b"a")

@@ -1,5 +1,5 @@
-/* A set of the numbers 0 to 511, a bit each.
- * SAVE: the number was added, removed or toggled. KEEP: nothing was to be done, or there is no such number or operation.
+/* A set of numbers from 0 to 511, one bit each.
+ * SAVE: the number was added, removed or toggled. KEEP: nothing changed, or the number or the operation is invalid.
  * BODDURCI_TOO_SHORT: a length is too short. The word is 1 if the number was in the set before, and 0 otherwise. */
 #include "boddurci_record.h"
 

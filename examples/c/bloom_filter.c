@@ -1,6 +1,6 @@
-/* A Bloom filter of 1,024 bits with four bits for each value. The argument is a hash of a value, 16 bytes; the bits are at the first
- * half, and at the first half plus one, two and three times the second.
- * SAVE: the value is new, and is added; the word is 0. KEEP: it was added before, or may have been, and the word is 1.
+/* A Bloom filter of 1,024 bits with four bits for each value. The argument is a hash of a value, 16 bytes. Its bits are at the first
+ * half of the hash, and at the first half plus one, two and three times the second half.
+ * SAVE: the value is new, and is added; the word is 0. KEEP: the value was probably added before; the word is 1.
  * BODDURCI_TOO_SHORT: a length is too short. */
 #include "boddurci_record.h"
 

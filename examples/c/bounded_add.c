@@ -1,5 +1,5 @@
-/* Adds to the record's number, unless the sum would be above a bound.
- * SAVE: it was added. KEEP: the sum would be above the bound. BODDURCI_TOO_SHORT: a length is too short. */
+/* Adds an amount to the record's number, unless the sum would be above a bound.
+ * SAVE: the amount was added. KEEP: the sum would be above the bound. BODDURCI_TOO_SHORT: a length is too short. */
 #include "boddurci_record.h"
 
 struct request {

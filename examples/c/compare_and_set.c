@@ -1,5 +1,5 @@
-/* Compare and set: a number is replaced if it is the expected one.
- * SAVE: it is replaced. KEEP: it is another number. The word is the number before the run.
+/* Compares and sets: replaces a number if it is the expected one.
+ * SAVE: the number was replaced. KEEP: the number is not the expected one. The word is the number before the run.
  * BODDURCI_TOO_SHORT: a length is too short, and the word is 0. */
 #include "boddurci_record.h"
 

@@ -2,7 +2,7 @@
  * SAVE: the amount is used; the word is the amount that is left for the day.
  * KEEP: too little is left; the word is the number of seconds until the next day.
  * BODDURCI_TOO_SHORT: a length is too short; the word is 0.
- * WRONG_UNIT, 5: the time is above 10^11; the word is 0. In seconds that is the year 5138, so it is in milliseconds or a smaller unit. */
+ * WRONG_UNIT, 5: the time is above 10^11; the word is 0. In seconds that is the year 5138, so the unit is milliseconds or smaller. */
 #include "boddurci_record.h"
 
 enum { DAY = 86400, WRONG_UNIT = 5 };

@@ -1,5 +1,5 @@
-/* A histogram of eight numbers: the lowest three bits of the argument's first byte select the one to increment.
- * SAVE: it was counted; the word is the number's new value. BODDURCI_TOO_SHORT: a length is too short. */
+/* A histogram of eight numbers: the lowest three bits of the argument's first byte select the number to increment.
+ * SAVE: the number was incremented; the word is its new value. BODDURCI_TOO_SHORT: a length is too short. */
 #include "boddurci_record.h"
 
 struct histogram {

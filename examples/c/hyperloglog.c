@@ -1,6 +1,6 @@
-/* HyperLogLog (Flajolet et al., 2007): estimates the number of different values, by 256 registers of a byte each. The argument is a
- * hash, 8 bytes; its lowest 8 bits select a register, which keeps the greatest number of trailing zeros of the other 56 bits, plus one.
- * SAVE: a register has grown; the word is its value. KEEP: none has. BODDURCI_TOO_SHORT: a length is too short. */
+/* HyperLogLog: estimates the number of different values, by 256 registers of a byte each. The argument is a hash of 8 bytes. Its lowest
+ * 8 bits select a register. The register stores the greatest number of trailing zeros of the other 56 bits, plus one.
+ * SAVE: the register has grown; the word is its value. KEEP: the register has not grown. BODDURCI_TOO_SHORT: a length is too short. */
 #include "boddurci_record.h"
 
 enum { REGISTERS = 256 };

@@ -1,9 +1,9 @@
 /* A lease: its owner and its end; zeros are a lease that has ended.
- * SAVE: the caller has it, new or renewed, until the time in the word.
- * DELETE: it was released (a duration of 0), or had ended.
- * KEEP: another owner has it until the time in the word.
+ * SAVE: the caller has the lease, new or renewed, until the time in the word.
+ * DELETE: the duration is 0, and the caller has released the lease or the lease had ended.
+ * KEEP: another owner has the lease until the time in the word.
  * BODDURCI_TOO_SHORT: a length is too short; the word is 0.
- * A lease ends at 2^64 - 1 at the latest: at that time all have ended. */
+ * A lease ends at 2^64 - 1 at the latest: at that time all leases have ended. */
 #include "boddurci_record.h"
 
 struct lease {

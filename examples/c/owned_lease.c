@@ -1,7 +1,7 @@
-/* A lease with an owner of 16 bytes, renewals, and a fencing number that grows with each new owner: by that number a late write of
- * an earlier owner is recognized.
+/* A lease with an owner of 16 bytes, renewals, and a fencing number that grows with each new owner. The fencing number shows whether a
+ * write comes late, from an earlier owner.
  * SAVE: taken, renewed or released; the word is the fencing number.
- * KEEP: another owner has it, the caller of a renewal or release does not have it, or there is no such operation; the word is 0.
+ * KEEP: a take while the lease lasts, a renewal or release by a caller who does not have it, or an invalid operation; the word is 0.
  * BODDURCI_TOO_SHORT: a length is too short; the word is 0.
  * A lease ends at 2^64 - 1 at the latest. */
 #include "boddurci_record.h"

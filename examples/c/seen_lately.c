@@ -1,5 +1,5 @@
 /* Admits a request once: the record has the numbers, above 0, of the last thirty-two admitted requests.
- * SAVE: the request is new, and is stored. KEEP: it was admitted before, and the word is 1; or its number is 0, and so is the word.
+ * SAVE: the request is new, and is stored. KEEP: it was admitted before, and the word is 1; or its number is 0, and the word is 0.
  * BODDURCI_TOO_SHORT: a length is too short; the word is 0. */
 #include "boddurci_record.h"
 

@@ -1,7 +1,7 @@
 /* A semaphore of eight permits, each with a holder, above 0, and an end, so that the permit of a dead holder becomes free.
- * A caller that has a permit already renews it; a duration of 0 releases it.
+ * A caller that has a permit renews it; a duration of 0 releases it.
  * SAVE: the caller has a permit until the time in the word, or has released it, and the word is 0.
- * KEEP: no permit is free, or there was none to release. BODDURCI_TOO_SHORT: a length is too short. The word is 0.
+ * KEEP: no permit is free, or the caller has none to release; the word is 0. BODDURCI_TOO_SHORT: a length is too short; the word is 0.
  * A permit ends at 2^64 - 1 at the latest. */
 #include "boddurci_record.h"
 

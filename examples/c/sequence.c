@@ -1,5 +1,5 @@
 /* A sequence: only newer messages replace a message, in any order of arrival; messages are numbered from 1.
- * SAVE: the message is newer, and is stored. KEEP: it is old. The word is the number of the message that is stored after the run.
+ * SAVE: the message is newer, and is stored. KEEP: the message is old. The word is the number of the message that is stored after the run.
  * BODDURCI_TOO_SHORT: a length is too short; the word is 0. */
 #include "boddurci_record.h"
 

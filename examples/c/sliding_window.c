@@ -5,7 +5,7 @@
 #include "boddurci_record.h"
 
 struct counts {
-    uint64_t window, now, before; /* the number of the window, its count, and that of the one before */
+    uint64_t window, now, before; /* the number of the window, its count, and the count of the window before */
 };
 struct limit {
     uint64_t duration, most;

@@ -1,10 +1,10 @@
 /* A token bucket: it fills at a rate up to its capacity, and each call takes tokens. A new bucket is full.
  * SAVE: the tokens were taken; the word is the number that is left.
- * KEEP: there are too few; the word is the time to wait until there are enough, and 2^64 - 1 if there never are. If the interval is 0,
- * the word is 0.
+ * KEEP: too few tokens are left; the word is the time to wait until there are enough, or 2^64 - 1 if there never will be.
+ * If the interval is 0, the word is 0.
  * BODDURCI_TOO_SHORT: a length is too short; the word is 0.
  * A clock that goes back adds nothing. If the clock was ahead once, by more than the time to fill the bucket, that time is ignored: the
- * bucket counts as a new one. The cost times the interval is below 2^63. */
+ * bucket counts as a new one. The cost times the interval must be below 2^63. */
 #include "boddurci_record.h"
 
 struct bucket {

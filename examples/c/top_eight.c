@@ -1,7 +1,7 @@
-/* The eight most frequent values (Space-Saving; Metwally et al., 2005): eight entries of a value, above 0, and a count.
- * A value without an entry takes the one with the least count, and continues that count. A count is too high by at most the
- * least one.
- * SAVE: it was counted; the word is its count. KEEP: the value is 0. BODDURCI_TOO_SHORT: a length is too short. */
+/* The eight most frequent values (the Space-Saving algorithm): eight entries of a value, above 0, and a count.
+ * A value without an entry takes the entry with the least count, and continues that count. A count is too high by at most the
+ * least count.
+ * SAVE: the value was counted; the word is its count. KEEP: the value is 0. BODDURCI_TOO_SHORT: a length is too short. */
 #include "boddurci_record.h"
 
 enum { ENTRIES = 8 };

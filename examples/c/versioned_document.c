@@ -1,5 +1,5 @@
-/* A document of 120 bytes with a version: to replace it, name its present version; a new one has version 0.
- * SAVE: it is replaced; the word is its new version. KEEP: it has another version; the word is that one.
+/* A document of 120 bytes with a version: to replace a document, name its present version; a new document has version 0.
+ * SAVE: the document is replaced; the word is its new version. KEEP: the document has another version; the word is that version.
  * BODDURCI_TOO_SHORT: a length is too short; the word is 0. */
 #include "boddurci_record.h"
 

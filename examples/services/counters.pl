@@ -6,8 +6,8 @@
 #     counters.pl count BASE KEY..      adds 1 to the counters with these keys, all in one save, and prints the new numbers
 #     counters.pl show BASE             prints all counters, as Perl reads them
 #
-# Other processes may count in NEW during a take: each addition is one step, so no count is lost. They must not count in OLD any more. A
-# save has about 8 MB of additions, and the number of counters that are done, in the key `taken from PATH`. If a take was interrupted,
+# Other processes may count in NEW during a take: each addition is one step, so no count is lost. They must not count in OLD any more. Each
+# save makes about 8 MB of additions, and stores the number of finished counters in the key `taken from PATH`. If a take was interrupted,
 # repeat it: it continues after its last save, and adds no counter twice.
 #
 # The variable DBM has the path of dbm; if it is not set, dbm is looked up on the PATH.

@@ -9,10 +9,9 @@
  * clients, in rounds. A round executes the commands that have arrived, saves once, and then sends the answers. So a kill of the service
  * loses no answered change. If a save fails, the service ends and sends no answer of that round. SIGTERM or SIGINT ends it after a round.
  *
- * Numbers are decimal text, as in Redis, so GET and SET work on the numbers of INCR. INCR reads the text, adds, and stores the new text,
- * as one step under the mutex of the base. RUN runs a stock program of docs/PROGRAMS.md at the time of day in seconds, and answers the code
- * and the reply word. The records of these programs are binary, so use a key either with RUN or with the other commands.
- * `RUN lease door 7 30` passes the numbers 7 and 30 as 8 bytes each. If only one word is after the key, its bytes are the argument.
+ * Numbers are decimal text, as in Redis, so GET and SET work on the numbers of INCR. RUN runs a stock program of docs/PROGRAMS.md at the
+ * time of day in seconds, and answers the code and the reply word. Records of programs are binary: use a key either with RUN or with the
+ * other commands. `RUN lease door 7 30` passes 7 and 30 as 8 bytes each. A single word after the key is the argument, byte for byte.
  *
  * Every local user can change the base. If untrusted users choose keys, hash the keys with a secret first, as limiter.py does. */
 #define _GNU_SOURCE
@@ -39,7 +38,7 @@ struct bytes {
     size_t length, room;
 };
 
-/* A word of a command. After the last word comes one whose `at` is NULL. */
+/* A word of a command. The last word is followed by a word whose `at` is NULL. */
 struct word {
     const uint8_t *at;
     size_t length;

@@ -3,10 +3,10 @@
 
     sweep.py BASE
 
-The job may run while the service runs. Each deletion is one step, so a call of the service waits for at most one of them. A missing bucket
-counts as full, so the deletion of a full bucket changes no answer. The test and the deletion are one step, so no bucket is deleted that a
-call has just used. The job prints the number of deleted buckets, and adds it to the counter `swept` of the base. A kill of the job loses
-only this number.
+The job may run while the service runs. Each deletion is one step, so a call of the service waits for at most one deletion. A missing
+bucket counts as full, so the deletion of a full bucket changes no answer. The test and the deletion are one step, so no bucket that a call
+has just used is deleted. The job prints the number of deleted buckets, and adds it to the counter `swept` of the base. A kill of the job
+loses only this number.
 """
 
 import pathlib

@@ -1,7 +1,7 @@
 /* accepted */
 #include "boddurci_record.h"
 
-/* The index is kept in the record, and the very value that is used is tested. */
+/* The index is in the record. The program tests the same value that it then uses. */
 struct ring {
     uint64_t next, numbers[5];
 };

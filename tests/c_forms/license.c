@@ -1,7 +1,7 @@
 /* the data _license */
 #include "boddurci_record.h"
 
-/* As in programs for a kernel. */
+/* A license, as in programs for the kernel. */
 char _license[] __attribute__((section("license"))) = "GPL"; // here
 
 uint64_t program(void *record, uint64_t record_length, const void *argument, uint64_t argument_length)

@@ -1,7 +1,7 @@
 /* accepted */
 #include "boddurci_record.h"
 
-/* The head has a constant alone, and the body tests the length. */
+/* The head compares only with a constant, and the body tests the length. */
 uint64_t program(void *record, uint64_t record_length, const void *argument, uint64_t argument_length)
 {
     const uint8_t *bytes = argument;

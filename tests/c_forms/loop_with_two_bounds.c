@@ -1,7 +1,7 @@
 /* Backward */
 #include "boddurci_record.h"
 
-/* The same with both bounds in the head. */
+/* A loop with both bounds in its head. */
 uint64_t program(void *record, uint64_t record_length, const void *argument, uint64_t argument_length)
 {
     const uint8_t *bytes = argument;

@@ -1,7 +1,7 @@
 /* accepted */
 #include "boddurci_record.h"
 
-/* A mask, and a remainder of eight, which becomes one. */
+/* A mask, and a remainder modulo eight, which the compiler turns into a mask. */
 struct ring {
     uint64_t next, numbers[8];
 };

@@ -1,7 +1,7 @@
 /* accepted or PointerRange by clang 14 */
 #include "boddurci_record.h"
 
-/* The last five numbers; the word is the one in the middle. */
+/* Stores the last five numbers; the word is their median. */
 struct five {
     uint64_t next, numbers[5];
 };

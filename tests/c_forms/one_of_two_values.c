@@ -1,7 +1,7 @@
 /* accepted */
 #include "boddurci_record.h"
 
-/* Both are loaded, and then one is chosen. */
+/* Loads both numbers, and then chooses one. */
 uint64_t program(void *record, uint64_t record_length, const void *argument, uint64_t argument_length)
 {
     uint64_t *tokens = record;

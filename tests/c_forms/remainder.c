@@ -1,7 +1,7 @@
 /* accepted or PointerRange by clang 14 */
 #include "boddurci_record.h"
 
-/* A remainder has no bound if it becomes a division, a product and a difference. */
+/* A remainder has no bound if the compiler turns it into a division, a product and a difference. */
 struct ring {
     uint64_t next, numbers[5];
 };

@@ -1,7 +1,7 @@
 /* accepted */
 #include "boddurci_record.h"
 
-/* The first free one of eight slots, by a pointer. */
+/* Takes the first free slot of eight, by a pointer. */
 struct slot {
     uint64_t user, since;
 };

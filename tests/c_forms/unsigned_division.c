@@ -1,7 +1,7 @@
 /* accepted */
 #include "boddurci_record.h"
 
-/* A division by zero gives 0 here and is undefined in C, so it is tested for. */
+/* A division by zero gives 0 here and is undefined in C, so the program tests for zero. */
 uint64_t program(void *record, uint64_t record_length, const void *argument, uint64_t argument_length)
 {
     uint64_t *number = record;

@@ -1,7 +1,7 @@
 /* accepted */
 #include "boddurci_record.h"
 
-/* Each of 32 numbers becomes the maximum of itself and that of the argument. */
+/* Each of 32 numbers becomes the maximum of itself and the argument's number at the same index. */
 uint64_t program(void *record, uint64_t record_length, const void *argument, uint64_t argument_length)
 {
     uint64_t *mine = record;

@@ -69,7 +69,7 @@ def function_at(text, at, file, crate):
 
 
 def edited(crate, edit, texts):
-    """Applies an edit. Returns the new texts, and the functions whose bodies it changes. If it changes other text, None is among these."""
+    """Applies an edit. Returns the new texts, and the functions whose bodies it changes, with None if it changes other text."""
     new, functions = dict(texts), set()
     for file, old, text in replacements(edit):
         if file not in new:

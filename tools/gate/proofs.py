@@ -8,8 +8,8 @@ import tempfile
 
 from rooms import Room
 
-# Words that the verdict of a crate must not have: functions of C, values that hide a contract, calls that end the program or never return,
-# and failures of the prover.
+# Words that the verdict of a crate must not contain. They report functions of C, values that hide a contract, calls that end the program
+# or never return, and failures of the prover.
 REFUSED = ("foreign", "hides", "partial", "may-abort", "may-serve", "bugs")
 SECONDS = 120
 CHANGED = "its files, or those of a crate below, were changed meanwhile"

@@ -36,8 +36,8 @@ def copy_part(one, other, copy):
 
 
 class Room:
-    """A room for one crate. With `takes_out` it takes the crate's own out/, and moves it back at the end. Otherwise it has a copy of
-    the work of checks."""
+    """A room for one crate. With `takes_out` the room takes the crate's own out/, and moves it back at the end. Otherwise the room has a
+    copy of the work of checks."""
 
     def __init__(self, crate, purpose, takes_out=False):
         self.crate, self.takes_out = crate, takes_out

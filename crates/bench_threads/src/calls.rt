@@ -18,7 +18,7 @@ pub enum Manner {
     Grouped,
 }
 
-/// A call on a key of 8 bytes.
+/// A call on a key with a value of 8 bytes.
 #[derive(Drop)]
 pub enum Call {
     Fetch,
@@ -126,7 +126,7 @@ fn make_group<R: Wait>(rt: &R, alloc: Global, caller: &mut Caller<'_>) -> Option
     caller.session.call_all(rt, calls, &mut outcomes).ok()
 }
 
-// Makes the calls of all sessions. Each session has its own thread and key.
+// Makes the calls of all sessions, each in its own thread. Element i of the keys is the key of session i; keys may be equal.
 fn all_calls<R: Threads + Wait + Sync>(
     rt: &R,
     alloc: Global,

@@ -39,7 +39,7 @@ pub fn counter(alloc: Global) -> Option<Program<Global>> {
     accepted(alloc, COUNTER)
 }
 
-// The text of a straight line that stores a number in the record.
+// The text of a straight line of arithmetic.
 fn long_text(alloc: Global) -> Result<String, AllocError> {
     let mut text = String::from_str(alloc, "jlt r2, 8, +1\nmov r6, 1\nmov r6, 3\n")?;
     for _ in 0..LONG - 5 {
@@ -49,7 +49,7 @@ fn long_text(alloc: Global) -> Result<String, AllocError> {
     Ok(text)
 }
 
-/// A straight line of arithmetic that then saves the record unchanged.
+/// A straight line of arithmetic. It saves the record unchanged.
 pub fn long(alloc: Global) -> Option<Program<Global>> {
     let text = long_text(alloc).ok()?;
     accepted(alloc, text.as_str())

@@ -1,4 +1,4 @@
-//! Stores that are opened over many pairs, called, and closed.
+//! Opens stores over many pairs, calls them, and closes them.
 
 use crate::programs::{KEYS, many_pairs};
 use std::alloc::Global;
@@ -21,7 +21,7 @@ pub struct Turn {
     pub close: u128,
 }
 
-// The calls of sessions that each fetch a key several times.
+// Makes `each` fetches in each session. Returns the calls of all sessions.
 fn fetches<R: Wait>(
     rt: &R,
     alloc: Global,
@@ -39,7 +39,7 @@ fn fetches<R: Wait>(
     Some(handed)
 }
 
-/// Opens a store over `count` pairs, makes `calls` calls by 16 sessions, and closes it.
+/// Opens a store over `count` pairs, makes `calls` calls by 16 sessions, and closes the store.
 pub fn make_turn<R: Clock + Wait>(
     rt: &R,
     alloc: Global,

@@ -42,7 +42,7 @@ use Rattle.boddurci_handles.specs.Marks.{HasMoreMarks}
 
 -- ---- a handle before a call and after it
 
--- The handle was open and is open, and P relates the databases before and after the call.
+-- The handle was open and still is. P relates the databases before and after the call.
 pub record At (old new : Option Db) (P : Db → Db → Type 0) : Type 0 where
   pub before : Db
   pub after : Db
@@ -50,7 +50,7 @@ pub record At (old new : Option Db) (P : Db → Db → Type 0) : Type 0 where
   pub new_is : new ≡ Some after
   pub is : P before after
 
--- The handle was open and has not changed, and P holds of its database.
+-- The handle was open and has not changed, and P holds for its database.
 pub record HandleShows (old new : Option Db) (P : Db → Type 0) : Type 0 where
   pub db : Db
   pub old_is : old ≡ Some db
@@ -118,7 +118,7 @@ pub record CallAnswers (command : Command Global) (old : Option Db) (code : ℕ)
 abbrev pub CallSays : Command Global → Option Db → ℕ → Option Db → Type 0
 CallSays command old code new = CallAnswers command old code new ⊎ CallDenies (λ d status. DeniesBy d command status) old code new
 
--- the mode of a store whose key exists
+-- the mode of a store: 0 means `Insert`, and any other number means `Replace`
 abbrev pub mode_for : ℕ → Mode
 mode_for replace = cond (replace == 0) Insert Replace
 
@@ -157,7 +157,7 @@ pub record IsFaultTold (text old new : List ℕ) (len : ℕ) : Type 0 where
   pub status : Status
   pub copied : IsCopied text old new len status
 
--- A fault is reported by its status and its text. If there is no memory for the text, the status says that, and no text is
+-- A fault is reported by its status and its text. If there is no memory for the text, the status is `NoMemory`, and no text is
 -- written.
 abbrev pub IsToldAs : Status → List ℕ → List ℕ → List ℕ → ℕ → Status → Type 0
 IsToldAs status text old new len result = ((result ≡ status) × IsFaultTold text old new len) ⊎ ((result ≡ NoMemory) × ((new ≡ old) × (len ≡ 0)))
@@ -274,7 +274,7 @@ DeniesAsk number key arg blank now d TooLong = ⊥
 DeniesAsk number key arg blank now d NoTicket = ⊥
 DeniesAsk number key arg blank now d NoStock = ⊥
 
--- the exit number of a run and its reply word; zeros if it did not run
+-- the exit number and the reply word of a run; zeros if the program did not run
 abbrev pub IsRunEnd : Reply Global → ℕ → ℕ → Type 0
 IsRunEnd (replies.Ran c w) code word = (code ≡ c) × (word ≡ w)
 IsRunEnd (replies.Found value) code word = (code ≡ 0) × (word ≡ 0)
@@ -315,7 +315,7 @@ AreCopied dir pag dir_old dir_new pag_old pag_new TooLong = ⊥
 AreCopied dir pag dir_old dir_new pag_old pag_new NoTicket = ⊥
 AreCopied dir pag dir_old dir_new pag_old pag_new NoStock = ⊥
 
--- `dir` and `pag` are the files of a database. If the database fits in the longest `.pag`, `pag` is no longer than that.
+-- `dir` and `pag` are the files of a database. If the database fits in the longest `.pag`, `pag` has at most `pag_limit` bytes.
 pub record HasFiles (dir pag : List ℕ) (d : Db) : Type 0 where
   pub files : AreFiles d.image dir pag
   pub short : FitsFiles d.image → length pag ≤ pag_limit
@@ -384,7 +384,7 @@ abbrev pub size_for : ℕ → PageSize
 size_for wide = cond (wide == 0) Small Wide
 
 -- The opened database is the only one that the bytes of both files spell. It has no programs, it is its own base, and its limit
--- is the longest `.pag`. The file has each unmarked page exactly as a save would write it.
+-- is the longest `.pag`. Each unmarked page of the file is as a save would write it.
 pub record IsDbOpened (kind : KeyBytes) (size : PageSize) (dir pag : List ℕ) (d : Db) : Type 0 where
   pub spells : SpellsDatabase d.image dir pag
   pub kind_is : d.image.kind ≡ kind
@@ -408,7 +408,7 @@ pub record OpensHandle (kind : KeyBytes) (size : PageSize) (dir pag : List ℕ) 
   pub new_is : new ≡ Some db
   pub is : IsDbOpened kind size dir pag db
 
--- the status of a fault in the files
+-- the status of a fault on opening
 abbrev pub status_of_open : OpenFault → Status
 status_of_open open_faults.PagLength = BadFiles
 status_of_open (open_faults.Page n fault) = BadFiles

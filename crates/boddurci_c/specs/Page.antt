@@ -14,7 +14,7 @@ use Rattle.boddurci_c.specs.Calls.{At, HandleShows, IsCopied}
 abbrev pub part_for : Bor (List ℕ) → ℕ → ℕ → Bor (List ℕ) → Part
 part_for directory len number page = record { directory = directory; len = len; number = number; page = page }
 
--- the new database has only the page of a key, and is its own base; programs and limit stay
+-- the new database has only the page of a key, and is its own base; the programs and the limit are unchanged
 pub record HasTurned (key : List ℕ) (part : Part) (d d' : Db) : Type 0 where
   pub opened : IsOpenedPart key part d.image.kind d.image.size d'.image
   pub registry : d'.registry ≡ d.registry
@@ -39,8 +39,8 @@ abbrev pub bytes_of_plan : Option (Vec ℕ) → List ℕ
 bytes_of_plan None = []
 bytes_of_plan (Some plan) = plan.items
 
--- The plan of the page's database, and the numbers of the pages that it may write, are written to two buffers. The call is `Done` only if
--- both fit.
+-- The plan of the page's database, and the numbers of the pages that the plan may write, are written to two buffers. The status is `Done`
+-- only if both fit.
 pub record PlansPage (part : Part) (d : Db) (numbers_old numbers_new : List ℕ) (count : ℕ) (room_old room_new : List ℕ) (len : ℕ) (status : Status) : Type 0 where
   pub numbers : List ℕ
   pub plan : Option (Vec ℕ)

@@ -26,8 +26,8 @@ pub record IsPlanFor (db : Database) (plan dir pag : List ℕ) : Type 0 where
   pub makes : IsSaving db plan pag dir ⊎ ((plan ≡ []) × AreFilesFor db pag dir)
   pub short : FitsFiles db → length (pages_left plan pag) ≤ pag_limit
 
--- A `.pag` of this length has the given bytes on the pages with these numbers, page after page. It has every other page as a
--- save of the base would write it. Bytes past the end of the file count as zeros.
+-- A `.pag` of this length has the given bytes on the pages with these numbers, page after page. Every other page has the bytes
+-- that a save of the base would write. Bytes past the end of the file count as zeros.
 pub record IsReadBeside (base : Database) (pag_length : ℕ) (numbers pages pag : List ℕ) : Type 0 where
   pub long : length pag ≡ pag_length
   pub reads : ReadPages base.size numbers pages pag

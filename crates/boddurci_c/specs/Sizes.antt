@@ -6,7 +6,7 @@ use Rattle.boddurci_handles.specs.declared.status.Status.{Status}
 use Rattle.boddurci_handles.specs.declared.status.Status.TheVariants.{Done, NoMemory}
 use Rattle.boddurci_handles.specs.Statuses.{status_code}
 
--- 1 if the files look like those of a database with small pages; 0 if not, and then they are not those, as `SpellsNoSmall` says
+-- 1 if the files look like those of a database with small pages; 0 if not, and then `SpellsNoSmall` holds
 abbrev pub IsSmallLook : KeyBytes → List ℕ → List ℕ → ℕ → Type 0
 IsSmallLook kind dir pag looks = ((looks ≡ 1) × FileLooksSmall kind dir pag) ⊎ ((looks ≡ 0) × ((FileLooksSmall kind dir pag → ⊥) × SpellsNoSmall kind dir pag))
 

@@ -106,7 +106,7 @@ pub fn fetch(db: &Db, key: &[u8], room: &mut [u8], len: &mut usize) -> Status
     copy_out(page.record(i), room, len)
 }
 
-// The command of a run.
+// Makes the command of a run.
 fn run_command(
     alloc: Global,
     program: &Arc<Verified<Global>>,
@@ -126,7 +126,7 @@ fn run_command(
     })
 }
 
-/// Runs the program with a number.
+/// Runs the program with this number on the record of a key.
 pub fn run(
     alloc: Global,
     db: &mut Db,
@@ -155,7 +155,7 @@ pub fn run(
     perform(alloc, db, command)
 }
 
-/// Requests the run of the program with a number. Computes nothing yet.
+/// Requests a run of the program with this number. Computes nothing yet.
 pub fn ask(
     alloc: Global,
     db: &Db,
@@ -186,7 +186,7 @@ pub fn ask(
     }
 }
 
-/// The bytes of both files, `.dir` first.
+/// Returns the bytes of both files, `.dir` first.
 pub fn files(alloc: Global, db: &Db) -> Result<(MemSink<Global>, MemSink<Global>), AllocError>
     ensures { IfOk result (λ sinks. HasFiles sinks.0.bytes sinks.1.bytes db.now) }
 {
@@ -198,7 +198,7 @@ pub fn files(alloc: Global, db: &Db) -> Result<(MemSink<Global>, MemSink<Global>
     }
 }
 
-/// The exit number and reply word of a run, or zeros if it did not run.
+/// Returns the exit number and the reply word of a run, or zeros if the program did not run.
 pub fn end_of(reply: &Reply<Global>) -> (u64, u64)
     ensures { IsRunEnd reply.now result.0 result.1 }
 {

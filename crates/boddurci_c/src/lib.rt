@@ -1,5 +1,5 @@
-//! The store for C: handles, and an export for each operation. The library keeps no global state, takes no locks, starts no
-//! threads, and does no file I/O.
+//! The store for C: handles, and an export for each operation; `include/boddurci.h` documents the statuses. The library keeps no
+//! global state, takes no locks, starts no threads, and does no file I/O.
 #![tactic(auto)]
 
 ghost use Rattle.std.specs.Prelude.{◌≡◌, ◌≢◌, ◌⊎◌, Option, Some, None, IfOk, IfErr, OnOk, OnErr};
@@ -146,7 +146,7 @@ pub extern "C" fn boddurci_limit(alloc: Global, slot: &mut Handle, bytes: usize)
     Status::Done.code()
 }
 
-// The status of a program image's fault.
+// The status for a refused program image.
 fn fault_status(fault: RegFault) -> Status
     ensures { result ≡ status_of_fault fault }
 {
@@ -158,8 +158,8 @@ fn fault_status(fault: RegFault) -> Status
     }
 }
 
-/// Submits a program image, and sets its number. If the image is refused, sets the offending unit and writes the text of the
-/// fault to `room`.
+/// Submits a program image, and sets `id` to its number. If the image is refused, sets `unit` to the offending unit and writes the
+/// text of the fault to `room`.
 #[unsafe(no_mangle)]
 pub extern "C" fn boddurci_submit(
     alloc: Global,
@@ -192,7 +192,7 @@ pub extern "C" fn boddurci_submit(
     }
 }
 
-/// Submits the stock program with a name, and sets its number. Returns `NoStock` if there is no such program.
+/// Submits the stock program with a name, and sets `id` to its number. Returns `NoStock` if there is no such program.
 #[unsafe(no_mangle)]
 pub extern "C" fn boddurci_submit_stock(
     alloc: Global,
@@ -249,16 +249,16 @@ pub extern "C" fn boddurci_assemble(
     }
 }
 
-// The length of the blank record of a run, if one is given.
+// Returns the length of the blank record of a run, or `None` if `has_blank` is 0.
 fn blank_of(has_blank: u32, blank: usize) -> Option<usize>
     ensures { result ≡ blank_for has_blank blank }
 {
     if has_blank == 0 { None } else { Some(blank) }
 }
 
-/// Runs the program with a number on the record of a key. If the key is missing and a blank is given, the program runs on that
-/// number of zero bytes. Sets the exit number and the reply word of the program. Both are 0 after MISSING and CROWDED, and
-/// unchanged after any other refusal.
+/// Runs the program with a number on the record of a key. If the key is missing and `has_blank` is not 0, the program runs on `blank`
+/// zero bytes. Sets the exit number and the reply word of the program. Both are 0 after `Missing` and `Crowded`, and unchanged after
+/// any other refusal.
 #[unsafe(no_mangle)]
 pub extern "C" fn boddurci_run(
     alloc: Global,
@@ -290,8 +290,8 @@ pub extern "C" fn boddurci_run(
     }
 }
 
-/// Puts the run that `boddurci_run` would make under a ticket, with a snapshot of the page of its key. Nothing runs yet, so the
-/// status is never `TooLong`. Drops any earlier run under the ticket.
+/// Requests the run that `boddurci_run` would make: puts it under a ticket, with a snapshot of the page of its key. Nothing runs yet,
+/// so the status is never `TooLong`. Drops any earlier run under the ticket, unless the new run is refused.
 #[unsafe(no_mangle)]
 pub extern "C" fn boddurci_ask(
     alloc: Global,
@@ -409,7 +409,7 @@ pub extern "C" fn boddurci_first(alloc: Global, slot: &mut Handle, cursor: &mut 
     Status::Done.code()
 }
 
-/// Copies the next pair of an iteration to two buffers if both the key and the value fit. Sets both lengths even if they do not.
+/// Copies the next pair of an iteration to two buffers if both the key and the value fit. Sets both lengths unless no pair is left.
 #[unsafe(no_mangle)]
 pub extern "C" fn boddurci_next(
     alloc: Global,
@@ -480,7 +480,7 @@ pub extern "C" fn boddurci_changed(
     status.code()
 }
 
-/// Marks pages as possibly changed. Call it if a plan was not carried out.
+/// Marks pages as possibly changed. Call this if a plan was not executed.
 #[unsafe(no_mangle)]
 pub extern "C" fn boddurci_mark(alloc: Global, slot: &mut Handle, numbers: &[u32]) -> u32
     ensures { Remarks numbers.now slot.old.held result slot.new.held ⊎ CallDenies LacksMemory slot.old.held result slot.new.held }
@@ -497,10 +497,10 @@ pub extern "C" fn boddurci_mark(alloc: Global, slot: &mut Handle, numbers: &[u32
     }
 }
 
-/// Writes the plan that turns the files into those of the database to `room` if it fits, and sets its length either way. The
-/// plan is empty if the files are already those of the database. The caller passes the bytes of `.dir`, the length of `.pag`,
-/// and the pages with the given numbers, which must include those of `boddurci_changed`. Bytes past the end of `.pag` count as
-/// zeros. Once the plan is written, no page is marked.
+/// Plans the save that turns the files into those of the database. Writes the plan to `room` if it fits, and sets its length either
+/// way. The plan is empty if nothing differs. The caller passes the bytes of `.dir`, the length of `.pag`, and the pages with the
+/// given numbers, which must include those of `boddurci_changed`. Bytes past the end of `.pag` count as zeros. Once the plan is
+/// written, no page is marked.
 #[unsafe(no_mangle)]
 pub extern "C" fn boddurci_plan(
     alloc: Global,
@@ -529,7 +529,7 @@ pub extern "C" fn boddurci_plan(
     status.code()
 }
 
-// The hash kind and the page size that two numbers from C mean.
+// Converts two flags from C to a hash kind and a page size.
 fn form_of(unsigned_keys: u32, wide: u32) -> (KeyBytes, PageSize)
     ensures kind { result.0 ≡ kind_for unsigned_keys }
     ensures size { result.1 ≡ size_for wide }
@@ -542,7 +542,8 @@ fn form_of(unsigned_keys: u32, wide: u32) -> (KeyBytes, PageSize)
     }
 }
 
-/// Returns the number of the page of a key by the bytes of `.dir`. These may be invalid: `boddurci_open_page` checks the result.
+/// Returns the number of the page of a key, computed from the bytes of `.dir`. These may be invalid: `boddurci_open_page` checks the
+/// result.
 #[unsafe(no_mangle)]
 pub extern "C" fn boddurci_page_of(
     _alloc: Global,
@@ -554,10 +555,10 @@ pub extern "C" fn boddurci_page_of(
     page_of(dir, kind, key)
 }
 
-/// Replaces the database of an open handle by one that has only the page of a key, for one command on that key. The command has the
-/// same reply as on the whole database (`store_parts::same_on_whole`). Programs and limit of the handle stay. The caller passes the
-/// bytes of `.dir`, the length of `.pag`, and the number and the bytes of the page; bytes past the end of `.pag` count as zeros.
-/// Returns `BadFiles` if that page is not enough, or if memory ran out.
+/// Replaces the database of an open handle by a database that has only the page of a key, for one command on that key. The command
+/// has the same reply as on the whole database (`store_parts::same_on_whole`). The handle keeps its programs and its limit. The
+/// caller passes the bytes of `.dir`, the length of `.pag`, and the number and the bytes of the page; bytes past the end of `.pag`
+/// count as zeros. Returns `BadFiles` if that page is not enough, or if memory ran out.
 #[unsafe(no_mangle)]
 pub extern "C" fn boddurci_open_page(
     alloc: Global,
@@ -579,15 +580,15 @@ pub extern "C" fn boddurci_open_page(
         number,
         page,
     };
-    let status = turn_to(alloc, &mut *db, key, part);
+    let status = turn_to(&mut *db, key, part);
     slot.put(db);
     status.code()
 }
 
-/// Writes the plan that saves a database of one page after its command to `room` if it fits, and sets its length. The length is 0 if
-/// the files do not change. Also writes the numbers of the pages that the plan may write to `numbers`, and sets `count`. All of these
-/// pages except the page of the database must be zeros in the file. The caller passes the same part as to `boddurci_open_page`.
-/// Returns `Stale` if that page is not enough, or if memory ran out.
+/// Plans the save of a database of one page after its command. Writes the plan to `room` if it fits, and sets its length, which is 0
+/// if the files do not change. Also lists in `numbers` the pages that the plan may write, and sets `count`. All of these pages except
+/// the page of the database must be zeros in the file. The caller passes the same part as to `boddurci_open_page`. Returns `Stale` if
+/// that page is not enough, or if memory ran out.
 #[unsafe(no_mangle)]
 pub extern "C" fn boddurci_plan_page(
     alloc: Global,
@@ -682,7 +683,7 @@ fn open_at(
     }
 }
 
-// The status of a fault in the files.
+// The status of a fault on opening.
 fn open_status(fault: OpenFault) -> Status
     ensures { result ≡ status_of_open fault }
 {

@@ -1,4 +1,4 @@
-//! The log of a base: the calls that C must make on its files.
+//! Lists the calls on files with which C opens, reads and closes the log of a base, and saves in it.
 ghost use Rattle.std.specs.Prelude.{◌≡◌};
 ghost use Rattle.boddurci_handles.specs.Statuses.{status_code};
 ghost use Rattle.boddurci_handles.specs.declared.status.Status.{Status};
@@ -8,12 +8,12 @@ use boddurci_logs::{LogPlace, close, open, read, save};
 use sdbm_log::LogFiles;
 use std::alloc::Global;
 
-/// Writes the steps that open the log of a base, and sets `log` to the log after them, which has at least the given room. The
-/// steps sync the data that was read, recover the data files if the redo file has its mark, and make the redo file an empty log.
+/// Writes the steps that open the log of a base, and sets `log` to the opened log, which has at least the given room. The steps
+/// sync the data that was read, recover the data files if the redo file has its mark, and make the redo file an empty log.
 /// `pages` and `directory` are needed only if the redo file has its mark.
 ///
-/// Returns `ShortRoom`, and sets only the lengths, if a buffer is too short; `BadFiles` if the redo file has a plan that is
-/// incomplete or not one of these data files; `Stale` if its log is damaged; `TooLong` if the room is over 2^30; or `NoMemory`.
+/// Returns `ShortRoom`, and sets only the lengths, if a buffer is too short; `BadFiles` if a plan in the redo file is invalid or
+/// does not belong to these data files; `Stale` if its log is damaged; `TooLong` if the room is over 2^30; or `NoMemory`.
 #[unsafe(no_mangle)]
 pub extern "C" fn boddurci_log_open(
     alloc: Global,
@@ -62,7 +62,7 @@ pub extern "C" fn boddurci_log_read(
     read(alloc, found, bytes, bytes_len, words, words_len).code()
 }
 
-/// Writes the steps of a save, and sets `log` to the log after all of them. The steps of the first `committed` words commit the
+/// Writes the steps of a save, and sets `log` to the log after the save. The steps in the first `committed` words commit the
 /// save. `bytes` begins with 18 free bytes, which the call writes, and then has the plan.
 ///
 /// Returns `ShortRoom`, and sets only the lengths, if the buffer for words is too short; `BadFiles` if the bytes are not a
@@ -81,9 +81,9 @@ pub extern "C" fn boddurci_log_save(
     save(alloc, log, bytes, words, words_len, committed).code()
 }
 
-/// Writes the steps that close a log: they sync both data files and clear the mark. They use no buffer.
+/// Writes the steps that close a log: they sync both data files and clear the mark. These steps write no bytes.
 ///
-/// Returns `ShortRoom` if the buffer is too short, or `NoMemory`.
+/// Returns `ShortRoom` if `words` is too short, or `NoMemory`.
 #[unsafe(no_mangle)]
 pub extern "C" fn boddurci_log_close(alloc: Global, words: &mut [u64], words_len: &mut usize) -> u32
     ensures { (status : Status) × ((result ≡ status_code status) × CloseAnswer words.old words.new words_len.new status) }

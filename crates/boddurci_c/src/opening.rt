@@ -110,7 +110,7 @@ pub fn pages_in(bytes: usize, size: PageSize) -> usize
     bytes / size.bytes()
 }
 
-// The pages of a file whose bytes differ from those that a save of its database would write.
+// Collects the pages of a file that a save of its database would write differently.
 fn foreign_pages(
     alloc: Global,
     image: &Image<Global>,

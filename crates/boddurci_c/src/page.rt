@@ -9,9 +9,9 @@ use boddurci_handles::{Base, Db, Status};
 use sdbm_addr::PageSize;
 use sdbm_saves::Part;
 use std::alloc::Global;
-use store_parts::{open_part, plan_after};
+use store_parts::{open_next_part, plan_after};
 
-// Returns true if the page has the length of a page, and the file consists of whole pages.
+// Returns true if the page is whole, and the file consists of whole pages.
 fn has_whole_pages(part: Part<'_>, size: PageSize) -> bool
     ensures page { result ≡ true → length part.entry.page.now ≡ page_bytes size }
     ensures whole { result ≡ true → part.entry.len % page_bytes size ≡ 0 }
@@ -22,16 +22,15 @@ fn has_whole_pages(part: Part<'_>, size: PageSize) -> bool
     part.len % size.bytes() == 0
 }
 
-/// Replaces the database of a handle by one that has only the page of a key. Programs and limit stay. Returns `BadFiles`, and leaves
-/// the database unchanged, if the page is not enough or memory ran out.
-pub fn turn_to(alloc: Global, db: &mut Db, key: &[u8], part: Part<'_>) -> Status
+/// Replaces the database of a handle by a database that has only the page of a key. The handle keeps its programs and its limit.
+/// Returns `BadFiles`, and leaves the database unchanged, if the page is not enough or memory ran out.
+pub fn turn_to(db: &mut Db, key: &[u8], part: Part<'_>) -> Status
     ensures { TurnsTo key.now part.entry db.old result db.new }
 {
-    let (kind, size) = (db.image.key_bytes(), db.image.page_size());
-    if !has_whole_pages(part, size) {
+    if !has_whole_pages(part, db.image.page_size()) {
         return Status::BadFiles;
     }
-    let Some(image) = open_part(alloc, key, part, kind, size) else {
+    let Some(image) = open_next_part(&db.image, key, part) else {
         return Status::BadFiles;
     };
     let base = Base::of(&image);
@@ -41,8 +40,8 @@ pub fn turn_to(alloc: Global, db: &mut Db, key: &[u8], part: Part<'_>) -> Status
     Status::Done
 }
 
-/// Writes the plan of a database of one page to `room`, and the numbers of the pages that the plan may write to `numbers`, if they
-/// fit. Sets both lengths. Returns `Stale`, and changes nothing, if the page is not enough or memory ran out.
+/// Writes the plan of a database of one page to `room`, and lists in `numbers` the pages that the plan may write; each only if
+/// it fits. Sets both lengths. Returns `Stale`, and changes nothing, if the page is not enough or memory ran out.
 pub fn plan_page(
     alloc: Global,
     db: &Db,
@@ -65,7 +64,7 @@ pub fn plan_page(
     both_done(first, copy_out(bytes_in(&plan), room, len))
 }
 
-// The bytes of a plan; no bytes if there is no plan.
+// Returns the bytes of a plan, or no bytes if there is no plan.
 fn bytes_in(plan: &Option<Vec<u8>>) -> &[u8]
     ensures { result.now ≡ bytes_of_plan plan.now }
 {
@@ -75,7 +74,7 @@ fn bytes_in(plan: &Option<Vec<u8>>) -> &[u8]
     }
 }
 
-// The first status, or the second one if the first is `Done`.
+// Returns the first status, or the second status if the first is `Done`.
 fn both_done(first: Status, second: Status) -> Status
     ensures done { result ≡ Done → (first ≡ Done) × (second ≡ Done) }
     ensures says { (result ≡ first) ⊎ (result ≡ second) }

@@ -9,8 +9,8 @@ use sdbm_saves::{Marked, SavePlanFault, plan_marked};
 use std::alloc::{AllocError, Global};
 
 /// Writes the plan of a save to `room` if it fits, and sets its length either way. The plan turns the old files, of which some
-/// pages were read, into those of the database; it is empty if they are already those. Once the plan is written, the database is
-/// its own base, and no page is marked. If the database fits in the longest `.pag`, the new `.pag` is no longer than that.
+/// pages were read, into those of the database. It is empty if nothing differs. Once the plan is written, the database is its
+/// own base, and no page is marked. If the database fits in the longest `.pag`, the new `.pag` is no longer than that.
 pub fn plan(alloc: Global, db: &mut Db, old: Marked<'_>, room: &mut [u8], len: &mut usize) -> Status
     ensures { PlansOn old.entry.directory.now old.entry.len old.entry.numbers.now old.entry.pages.now db.old room.old room.new len.new result db.new
         ⊎ (DeniesPlan old.entry.directory.now old.entry.len old.entry.numbers.now old.entry.pages.now db.old result
@@ -31,7 +31,7 @@ pub fn plan(alloc: Global, db: &mut Db, old: Marked<'_>, room: &mut [u8], len: &
     }
 }
 
-// The bytes of the plan.
+// Returns the bytes of the plan. Returns `Stale` if a marked page was not read, or if the number of bytes is wrong.
 fn plan_of(alloc: Global, db: &Db, old: Marked<'_>) -> Result<Vec<u8>, Status>
     ensures ok { IfOk result (λ plan. PlansFor old.entry.directory.now old.entry.len old.entry.numbers.now old.entry.pages.now db.now plan.items) }
     ensures read { OnOk result (HasRead db.now old.entry.numbers.now old.entry.pages.now) }

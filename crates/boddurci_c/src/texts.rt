@@ -8,7 +8,7 @@ use bpf_insn::encode;
 use std::alloc::Global;
 use std::fmt;
 
-/// The reason why a text has no program image. It prints as the fault of `assemble`, or as `NotText`.
+/// The reason why a text has no program image. The fault prints like that of `assemble`, or as `NotText`.
 #[derive(Clone, Copy, Debug, PartialEq, Eq)]
 pub enum TextFault {
     /// The text is not UTF-8.
@@ -17,7 +17,7 @@ pub enum TextFault {
     Line(AsmFault),
 }
 
-/// The image of the program in a text.
+/// Assembles the program in a text, and returns its image.
 pub fn image_of(alloc: Global, text: &[u8]) -> Result<Vec<u8>, TextFault>
     ensures ok { IfOk result (λ image. IsTextAssembled text.now image.items) }
     ensures err { IfErr result (IsTextFault text.now) }

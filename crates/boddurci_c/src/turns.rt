@@ -19,7 +19,7 @@ pub struct Cursor {
     pub pair: usize,
 }
 
-// A pair, and the number of pairs of its page up to and including it.
+// A pair, and the number of pairs in its page up to and including this pair.
 #[derive(Clone, Copy)]
 struct Met<'a> {
     key: &'a [u8],
@@ -47,7 +47,7 @@ fn has_pair(image: &Image<Global>, number: u32, i: usize) -> bool
     }
 }
 
-// The first page that has pairs, from `from` up to but not including `end`.
+// Returns the first page that has pairs, from `from` up to but not including `end`.
 fn next_page(image: &Image<Global>, from: u32, end: u32) -> Option<u32>
     ensures some { IfSome result (IsFirstFrom image.now from end) }
     ensures none { IfNone result (AreBare image.now from end) }
@@ -60,7 +60,7 @@ fn next_page(image: &Image<Global>, from: u32, end: u32) -> Option<u32>
     None
 }
 
-// The page of the next pair, and the index of the pair in that page.
+// Returns the page of the next pair and the index of the pair in that page, or `None` if no pair is left.
 fn seek(image: &Image<Global>, cursor: Cursor) -> Option<(u32, usize)>
     ensures some { IfSome result (λ at. IsNextPair image.now cursor at.0 at.1) }
     ensures none { IfNone result (IsCursorOver image.now cursor) }
@@ -77,7 +77,7 @@ fn seek(image: &Image<Global>, cursor: Cursor) -> Option<(u32, usize)>
     }
 }
 
-// Pair i of a page.
+// Returns pair i of a page.
 fn pair_at(image: &Image<Global>, number: u32, i: usize) -> Met<'_>
     requires { i < length (pairs_at image.now number) }
     ensures key { result.key.now ≡ key_at (pairs_at image.now number) i }
@@ -96,8 +96,8 @@ fn pair_at(image: &Image<Global>, number: u32, i: usize) -> Met<'_>
     }
 }
 
-/// Copies the next pair to two buffers if both the key and the value fit, and advances the cursor past it. Sets both lengths even if
-/// they do not fit.
+/// Copies the next pair to two buffers if both the key and the value fit, and advances the cursor past it. Sets both lengths unless
+/// no pair is left.
 pub fn turn(
     image: &Image<Global>,
     cursor: &mut Cursor,

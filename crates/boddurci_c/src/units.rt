@@ -5,7 +5,7 @@ ghost use Rattle.boddurci_c.specs.Units.{unit_in, nowhere};
 use bpf_insn::DecodeFault;
 use prog_registry::RegFault;
 
-/// The unit of 8 bytes at which a program image is invalid, or the greatest number if the fault has no unit.
+/// The unit of 8 bytes at which a program image is invalid, or `usize::MAX` if the fault has no unit.
 pub fn unit_of(fault: RegFault) -> usize
     ensures { result ≡ unwrap_or (unit_in fault) nowhere }
 {

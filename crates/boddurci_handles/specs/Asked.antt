@@ -14,7 +14,7 @@ use Rattle.boddurci_handles.specs.Growth.{Outgrows}
 use Rattle.boddurci_handles.specs.declared.status.Status.{Status}
 use Rattle.boddurci_handles.specs.declared.status.Status.TheVariants.{Changed, NoMemory, NoTicket, TooLong}
 
--- A command, the place of its key, the hash kind of its database, a snapshot of the page, and true if the result was computed.
+-- A command, the place of its key, the hash kind of its database, a snapshot of the page, and whether the result was computed.
 pub record Asked : Type 0 where
   pub command : Command Global
   pub place : Place

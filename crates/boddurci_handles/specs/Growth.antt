@@ -28,7 +28,7 @@ has_room most e = is_bare e.1.pairs || nat_lt e.0 most
 abbrev pub FitsWithin : ℕ → Database → Type 0
 FitsWithin most db = (n : ℕ) → pairs_at db n ≢ [] → n < most
 
--- True if all pages with pairs that a change puts in are among the first `most`. The page itself may be past them if it had pairs
+-- True if a change puts pairs only on the first `most` pages. The page with this number may also be past these if it had pairs
 -- before (`there`).
 abbrev pub may_grow : ℕ → Bool → ℕ → Option PageChange → Bool
 may_grow most there number None = true

@@ -17,7 +17,8 @@ pub record HasMoreMarks (old new : List ℕ) : Type 0 where
   pub more : List ℕ
   pub is : new ≡ old ++ more
 
--- Two databases have the same hash kind and page size, and differ only on these pages. With no pages they are equal.
+-- Two databases have the same hash kind and page size, and differ only on these pages. If there are no such pages, the databases are
+-- equal.
 pub record DifferOn (numbers : List ℕ) (base db : Database) : Type 0 where
   pub kind : db.kind ≡ base.kind
   pub size : db.size ≡ base.size

@@ -1,4 +1,4 @@
-//! Changes of a database, which mark every page whose pairs change.
+//! Changes a database, and marks every page whose pairs change.
 ghost use Rattle.std.specs.Prelude.{◌≡◌, ◌+◌, ◌≤◌, length, IfErr, IfSome, IfNone, OnOk, OnErr, true, false};
 ghost use Rattle.std.specs.Option.{option_map};
 ghost use Rattle.std.specs.Arc.{arc_value};
@@ -24,7 +24,7 @@ use sdbm_split::Plan;
 use std::alloc::{AllocError, Global};
 use std::sync::Arc;
 use store_cmd::Reply;
-use store_moves::{RunInput, act_run, act_store, put_in, ran};
+use store_moves::{RunInput, act_run_at, act_store_at, put_in, ran};
 
 // Returns true if the new page has no pairs, and the page that it replaces has none either.
 fn stays_bare(image: &Image<Global>, number: u32, page: &SharedPage<Global>) -> bool
@@ -117,7 +117,7 @@ pub fn store_there(
     let Ok(()) = marks.add(place.page) else {
         return false;
     };
-    if act_store(image, key, value, mode) {
+    if act_store_at(image, place, key, value, mode) {
         return true;
     }
     marks.cut(len);
@@ -159,7 +159,7 @@ pub fn run_there(
     let Ok(()) = marks.add(place.page) else {
         return None;
     };
-    match act_run(image, &input) {
+    match act_run_at(image, place, &input) {
         Some(ended) => Some(ran(ended)),
         None => {
             marks.cut(len);

@@ -34,8 +34,8 @@ pub fn most_pages(size: PageSize, limit: usize) -> u32
     most
 }
 
-/// Returns true if all pages with pairs that a change puts in are among the first `most`. The page itself may be past them if it
-/// had pairs before the change (`there`).
+/// Returns true if a change puts pairs only on the first `most` pages. The page with this number may also be past these if
+/// it had pairs before the change (`there`).
 pub fn may_grow(most: u32, there: bool, number: u32, change: &Option<Plan<Global>>) -> bool
     ensures { result ≡ may_grow most there number (option_map change_of change.now) }
 {

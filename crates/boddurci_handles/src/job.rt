@@ -1,5 +1,5 @@
-//! Runs in three steps: ask, work, finish. A program's effect on a record is computed while the database is in use elsewhere,
-//! and put in if the page of its key is unchanged.
+//! Runs in three steps: ask, work, finish. `work` computes the effect on a record while other threads use the database;
+//! `finish` puts it in if the page of the key is unchanged.
 ghost use Rattle.std.specs.Prelude.{◌≡◌, ◌↔◌, IsTrue, IfOk, IfErr, OnOk, OnErr, true};
 ghost use Rattle.sdbm_addr.specs.Database.{Database, IsDatabase};
 ghost use Rattle.store_cmd.specs.Command.{IsSmall};
@@ -23,8 +23,8 @@ use std::marker::Model;
 use store_cmd::{Command, Reply};
 use store_moves::{PageCopy, Worked, key_in, work_on};
 
-/// A requested command: the place of its key, the hash kind of the database, a snapshot of the page, and, once computed, the
-/// result.
+/// A requested command, with the place of its key, the hash kind of the database, a snapshot of the page, and the result once
+/// it is computed.
 #[derive(Drop)]
 pub struct Job {
     command: Command<Global>,
@@ -68,7 +68,7 @@ impl Job {
         })
     }
 
-    /// Computes the result of the command from the snapshot, and changes only the job. Repeating it gives the same result.
+    /// Computes the result of the command from the snapshot, and changes only the job. A second call gives the same result.
     ///
     /// # Errors
     /// `AllocError` if there is no memory for the reply or for the changed pages. The job is unchanged.
@@ -89,7 +89,7 @@ impl Job {
         Ok(())
     }
 
-    // Returns true if the page of the key is unchanged, in a database of the same hash kind.
+    // Returns true if the page of the key is unchanged, and the database has the same hash kind and page size.
     fn is_current(&self, image: &Image<Global>) -> bool
         ensures current { IsTrue result ↔ IsCurrent image.now self.now }
         ensures database { IsDatabase image.now }
@@ -156,7 +156,7 @@ impl Job {
         }
     }
 
-    // Puts the result into the database. It must be within the limit.
+    // Puts the result into the database. The result must be within the limit.
     fn put(
         &mut self,
         image: &mut Image<Global>,

@@ -1,7 +1,7 @@
 //! The objects of the library for C: a handle owns an open database, a ticket owns a run, and a reading owns the pages read
-//! from a `.pag`. C sees each as a single pointer. The calls for C are in `boddurci_c`.
-//! Stores, runs and other changes of the database behind a handle mark the pages whose pairs change (`Marks`), so a save reads
-//! and writes only those. `may_grow` checks that a change fits within the limit of `.pag`.
+//! from a `.pag`. Each is a single pointer in C. The calls for C are in `boddurci_c`. Stores, runs and other changes of the
+//! database behind a handle mark the pages whose pairs change (`Marks`), so a save reads and writes only these pages.
+//! `may_grow` checks that a change fits within the limit of `.pag`.
 #![tactic(auto)]
 
 mod base;

@@ -82,7 +82,7 @@ impl Marks {
         Ok(())
     }
 
-    /// Adds those of the numbers that are not in the set.
+    /// Adds the numbers that are not in the set yet.
     ///
     /// # Errors
     /// `AllocError` if out of memory. The set is unchanged.

@@ -16,7 +16,7 @@ pub enum Status {
     Exists,
     /// There is no room for the pair, however often its page is split.
     Crowded,
-    /// The buffer is too short. The required length was set.
+    /// A buffer is too short. The required length was set.
     ShortRoom,
     /// The image is not an accepted program, or the maximum number of programs is reached.
     Refused,
@@ -40,7 +40,7 @@ pub enum Status {
     NoProgram,
     /// Out of memory.
     NoMemory,
-    /// `.pag` would be longer than its limit, or another length is above the limit of its call.
+    /// `.pag` would be longer than its limit, or another length is above its limit.
     TooLong,
     /// The ticket has no job, or its job is not computed.
     NoTicket,

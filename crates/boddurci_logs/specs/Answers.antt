@@ -34,12 +34,12 @@ files_in pages directory redo = record { pages = pages; directory = directory; r
 abbrev pub log_at : LogPlace → Log
 log_at place = record { end = place.end; room = place.room; count = place.count }
 
--- The image agrees with what was read as `found`: in its redo file, and in both data files if the redo file has its mark.
+-- The image agrees with the files read as `found`: in its redo file, and in both data files if the redo file has its mark.
 pub record ReadsLike (found image : Image) : Type 0 where
   pub redo : image.redo ≡ found.redo
   pub both : get_or found.redo 0 0 ≡ 1 → files image ≡ files found
 
--- The steps open the log that was read. The log after them is empty and has at least the requested room.
+-- The steps open the log that was read. The opened log is empty and has at least the requested room.
 pub record AreOpenSteps (found : Image) (room : ℕ) (buffer : List ℕ) (steps : List Step) (log : LogPlace) : Type 0 where
   pub can : (image : Image) → ReadsLike found image → CanRecover image
   pub calls : (image : Image) → ReadsLike found image → AreOpenCalls image log.room (acts_of buffer steps)

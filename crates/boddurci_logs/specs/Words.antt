@@ -1,4 +1,5 @@
--- Steps as words of 64 bits. A step has five: its kind, its file, its offset in the file, its offset in the buffer, and a length.
+-- Steps as words of 64 bits. A step has five words: its kind, its file, its offset in the file, its offset in the buffer, and a
+-- length.
 use Rattle.std.specs.Prelude.{ℕ, List, [], ◌∷◌, ◌++◌}
 use Rattle.sdbm_saves.specs.declared.disk.DiskFile.{DiskFile}
 use Rattle.sdbm_saves.specs.declared.disk.DiskFile.TheVariants.{Pages, Directory, Redo}

@@ -1,5 +1,5 @@
-//! Lists the file operations with which C opens the log of a base, saves in the log, closes it, or reads it. The exports for C
-//! are in `boddurci_c`.
+//! Lists the file operations that open the log of a base, save in the log, close it, or read it. C executes them; the exports
+//! for C are in `boddurci_c`.
 #![tactic(auto)]
 
 mod opening;

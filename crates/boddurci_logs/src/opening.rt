@@ -1,4 +1,4 @@
-//! The steps that open a log, and the steps with which a reader applies a log to copies of the data files.
+//! Lists the steps that open a log, and the steps with which a reader applies a log to copies of the data files.
 ghost use Rattle.std.specs.Prelude.{◌≡◌};
 ghost use Rattle.boddurci_logs.specs.Answers.{OpenAnswer, ReadAnswer};
 ghost use Rattle.sdbm_log.specs.Saving.{image_in};

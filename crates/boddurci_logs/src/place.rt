@@ -1,4 +1,4 @@
-//! The place of the next record, as C sees it.
+//! The place of the next record, in the form that C uses.
 ghost use Rattle.std.specs.Prelude.{◌≡◌};
 ghost use Rattle.boddurci_logs.specs.Answers.{log_at};
 

@@ -1,4 +1,4 @@
-//! Steps of a save, and steps that close a log.
+//! Lists the steps of a save, and the steps that close a log.
 ghost use Rattle.std.specs.Prelude.{◌≡◌};
 ghost use Rattle.boddurci_logs.specs.Answers.{SaveAnswer, CloseAnswer};
 
@@ -11,7 +11,7 @@ use sdbm_saves::is_plan;
 use std::alloc::Global;
 use std::marker::Brand;
 
-// A plan must be shorter than this, and before a save the records of the log must end here at the latest.
+// A plan must have fewer bytes, and the log's records must not end after this offset before a save.
 const MOST_BYTES: usize = 3_000_000_000;
 
 // The offset of the plan in the bytes of a save.

@@ -1,4 +1,4 @@
--- The code that a text denotes (own): a relation on the meanings of all its lines.
+-- The code that a text denotes: a relation between the meanings of its lines and the code.
 use Rattle.std.specs.Prelude.{ℕ, ℤ, pos, ◌≡◌, ◌+◌, ◌≤◌, List, [], ◌∷◌, ◌++◌, take, map, Option, Some, None, slice_get}
 use Rattle.std.specs.List.{sum_by}
 use Rattle.bpf_insn.specs.declared.insn.Insn.{Insn}
@@ -7,7 +7,7 @@ use Rattle.bpf_insn.specs.Code.{units_of, unit_count, unit_limit}
 use Rattle.bpf_asm.specs.Text.{lines}
 use Rattle.bpf_asm.specs.Lines.{Meaning, Blank, Mark, Plain, Aimed, meaning}
 
--- the units of a line's instruction
+-- the number of units of a line's instruction
 abbrev pub units : Option Meaning → ℕ
 units None = 0
 units (Some Blank) = 0
@@ -38,8 +38,8 @@ with_distance (insns.Jump n) m = insns.Jump m
 with_distance (insns.JumpFar n) m = insns.JumpFar m
 with_distance i m = i
 
--- `here` are the instructions of a line that begins at the unit `own`, among the lines `ms`. A jump to a label goes forward by the number
--- of units from the next unit to the label.
+-- `here` are the instructions of a line that begins at the unit `own`, among the lines `ms`. The distance of a jump to a label is the
+-- number of units between the jump and the label.
 abbrev pub Yields : List (Option Meaning) → ℕ → Option Meaning → List Insn → Type 0
 Yields ms own None here = ⊥
 Yields ms own (Some Blank) here = here ≡ []
@@ -47,7 +47,7 @@ Yields ms own (Some (Mark name)) here = here ≡ []
 Yields ms own (Some (Plain i)) here = here ≡ i ∷ []
 Yields ms own (Some (Aimed i name)) here = (distance : ℕ) × Stands ms name (own + 1 + distance) × (here ≡ with_distance i (pos distance) ∷ [])
 
--- the code of some consecutive lines of `ms`, of which the first begins at the unit `own`
+-- the code of consecutive lines of `ms`; the first of them begins at the unit `own`
 abbrev pub Gives : List (Option Meaning) → ℕ → List (Option Meaning) → List Insn → Type 0
 Gives ms own [] code = code ≡ []
 Gives ms own (m ∷ below) code = (here : List Insn) × (rest : List Insn) × Yields ms own m here × (code ≡ here ++ rest) × Gives ms (own + units m) below rest

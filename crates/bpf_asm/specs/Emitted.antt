@@ -19,7 +19,7 @@ Labels = BTreeMap (Bor (List ℕ)) Definition
 abbrev pub definition_of : Labels → List ℕ → Option Definition
 definition_of labels name = get_by (λ k. slice_cmp nat_cmp name k.now) labels
 
--- The table defines a label of the first n lines on a line that is this label, with the number of units above that line.
+-- The table defines each label of the first n lines. A definition has a line of that label, and the number of units above that line.
 abbrev pub IsTableBelow : List (Option Meaning) → ℕ → Labels → Type 0
 IsTableBelow ms n labels = (name : List ℕ) → MatchOption (definition_of labels name)
     ((i : ℕ) → i < n → MarksAt ms name i → ⊥)
@@ -31,7 +31,7 @@ IsTableOf ms labels = (name : List ℕ) → MatchOption (definition_of labels na
     ((i : ℕ) → MarksAt ms name i → ⊥)
     (λ d. MarksAt ms name d.line × (d.unit ≡ units_above ms d.line))
 
--- if the line is a label, the table defines it on this line
+-- if the line is a label that the table defines, the definition is on this line
 abbrev pub IsDefinition : Labels → ℕ → Option Meaning → Type 0
 IsDefinition labels at None = ⊤
 IsDefinition labels at (Some Blank) = ⊤
@@ -58,7 +58,7 @@ pub record Defines (old new : Labels) (name : List ℕ) (d : Definition) : Type 
   pub own : definition_of new name ≡ Some (unwrap_or (definition_of old name) d)
   pub others : (other : List ℕ) → bytes_eq name other ≡ false → definition_of new other ≡ definition_of old other
 
--- if the line is a label, it is added like this; any other line adds no label
+-- a label is added as in `Defines`; any other line changes no definition
 abbrev pub Records : Labels → Labels → Option Meaning → Definition → Type 0
 Records old new None d = (name : List ℕ) → definition_of new name ≡ definition_of old name
 Records old new (Some Blank) d = (name : List ℕ) → definition_of new name ≡ definition_of old name

@@ -1,4 +1,4 @@
--- A fault's text (own).
+-- The text of a fault.
 use Rattle.std.specs.Prelude.{ℕ, ◌≡◌, ◌<◌, ◌++◌, List, codes}
 use Rattle.std.specs.Fmt.{decimal}
 use Rattle.bpf_asm.specs.declared.fault.FaultKind.{FaultKind}
@@ -23,7 +23,7 @@ at_line line kind = codes "line " ++ (decimal line ++ (codes ": " ++ kind_text k
 abbrev pub fault_text : AsmFault → List ℕ
 fault_text fault = at_line fault.line fault.kind
 
--- the line of a fault, counted from 1; `NoMemory` has 0 instead
+-- the line of a fault, counted from 1; the line of `NoMemory` is 0
 abbrev pub IsLineOf : FaultKind → ℕ → Type 0
 IsLineOf NoMemory line = line ≡ 0
 IsLineOf kind line = 0 < line

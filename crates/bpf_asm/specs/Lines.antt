@@ -1,4 +1,4 @@
--- The meaning of a line of assembler text (own).
+-- The meaning of a line of assembler text.
 use Rattle.std.specs.Prelude.{ℕ, ℤ, pos, ◌≡◌, ◌-◌, ◌==◌, ◌&&◌, ◌||◌, not, Bool, nat_le, List, [], ◌∷◌, length, take, drop, Option, Some, None, slice_index, if◌then◌else◌, ⊤}
 use Rattle.std.specs.Option.{option_map}
 use Rattle.std.specs.List.{slice_split, prefix_len}
@@ -34,7 +34,7 @@ operand bs = operand_from (register bs) bs
 abbrev pub is_sign : ℕ → Bool
 is_sign b = (b == 43) || (b == 45)
 
--- nothing (for 0), or a distance
+-- an offset with its sign; an empty text means 0
 abbrev pub offset : List ℕ → Option ℤ
 offset [] = Some (pos 0)
 offset (b ∷ bs) = near (b ∷ bs)
@@ -51,7 +51,7 @@ unfoldable pub address : List ℕ → Option (ℕ × ℤ)
 address bs = if nat_le 2 (length bs) && (slice_index bs 0 == 91) && (slice_index bs (length bs - 1) == 93)
     then inner_address (take (length bs - 2) (drop 1 bs)) else None
 
--- the operands between commas
+-- the operands, separated by commas
 abbrev pub parts : List ℕ → List (List ℕ)
 parts rest = slice_split (λ b. b == 44) rest
 
@@ -72,11 +72,9 @@ three_parts (a ∷ b ∷ []) = None
 three_parts (a ∷ b ∷ c ∷ []) = Some (trimmed a, trimmed b, trimmed c)
 three_parts (a ∷ b ∷ c ∷ d ∷ more) = None
 
--- two operands
 unfoldable pub two : List ℕ → Option (List ℕ × List ℕ)
 two rest = two_parts (parts rest)
 
--- three operands
 unfoldable pub three : List ℕ → Option (List ℕ × List ℕ × List ℕ)
 three rest = three_parts (parts rest)
 
@@ -86,7 +84,7 @@ three rest = three_parts (parts rest)
 abbrev pub jump_to : List ℕ → Option ℤ → (ℤ → Insn) → Option Meaning
 jump_to target distance f = if is_name target then Some (Aimed (f (pos 0)) target) else option_map (λ n. Plain (f n)) distance
 
--- the instruction of a row with these operands
+-- the instruction of a row, given the text of its operands
 unfoldable pub instruction : Row → List ℕ → Option Meaning
 instruction (rows.Arith op w) rest = do
   ab ← two rest
@@ -163,7 +161,7 @@ meaning_of_body body = if length body == 0 then Some Blank
 unfoldable pub meaning : List ℕ → Option Meaning
 meaning line = meaning_of_body (trimmed (uncommented line))
 
--- if the line has an instruction, that is in the instruction table
+-- if the line has an instruction, the instruction table has it
 abbrev pub HasSpellingIn : Option Meaning → Type 0
 HasSpellingIn None = ⊤
 HasSpellingIn (Some Blank) = ⊤

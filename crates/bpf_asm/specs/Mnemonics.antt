@@ -1,4 +1,4 @@
--- Mnemonics (own; the operations, tests and sizes are those of RFC 9669).
+-- Mnemonics for the operations, tests and sizes of RFC 9669.
 use Rattle.std.specs.Prelude.{ℕ, ◌++◌, Bool, true, false, List, [], Option, codes}
 use Rattle.std.specs.List.{find}
 use Rattle.std.specs.Str.{bytes_eq}
@@ -66,7 +66,7 @@ size_digits Half = codes "16"
 size_digits Word = codes "32"
 size_digits Double = codes "64"
 
--- the name of an operation, with `32` after it at 32 bits
+-- the name of an operation, followed by `32` if the width is 32 bits
 abbrev pub with_width : Op → Width → List ℕ
 with_width (MovSx n) w = []
 with_width (Little n) w = []
@@ -104,7 +104,7 @@ name_of rows.Exit = codes "exit"
 unfoldable pub row_named : List ℕ → Option Row
 row_named name = find (λ r. bytes_eq (name_of r) name) ROWS
 
--- the sizes from which a move sign-extends at a width
+-- true if a move of this width can sign-extend from this size
 abbrev pub is_part : Size → Width → Bool
 is_part Byte w = true
 is_part Half w = true
@@ -116,7 +116,7 @@ abbrev pub takes_number : Op → Bool
 takes_number (MovSx n) = false
 takes_number op = takes_operand op
 
--- the operation of a row is in the instruction table at this width
+-- true if the instruction table has the instructions of this row
 abbrev pub is_row : Row → Bool
 is_row (rows.Arith op w) = takes_number op
 is_row (rows.SignMove n w) = is_part n w

@@ -1,4 +1,4 @@
--- The text of a code (own).
+-- The text of a code.
 use Rattle.std.specs.Prelude.{ℕ, ℤ, pos, negsuc, suc, ◌-◌, ◌++◌, List, [], ◌∷◌, length, replicate, codes, false}
 use Rattle.std.specs.List.{flat_map}
 use Rattle.std.specs.Fmt.{decimal, signed_decimal, digits}
@@ -29,7 +29,7 @@ distance_text (negsuc n) = codes "-" ++ decimal (suc n)
 abbrev pub address_text : ℕ → ℤ → List ℕ
 address_text r n = codes "[" ++ (register_text r ++ (distance_text n ++ codes "]"))
 
--- sixteen hex digits
+-- `0x` and sixteen hex digits
 abbrev pub long_text : ℕ → List ℕ
 long_text n = codes "0x" ++ (replicate (16 - length (digits 16 false n)) 48 ++ digits 16 false n)
 
@@ -80,6 +80,6 @@ insn_text i = name_of (row_for i) ++ operands_text i
 abbrev pub line_text : Insn → List ℕ
 line_text i = insn_text i ++ (10 ∷ [])
 
--- the text of a code: one instruction a line
+-- the text of a code: one instruction per line
 abbrev pub text_of : List Insn → List ℕ
 text_of code = flat_map line_text code

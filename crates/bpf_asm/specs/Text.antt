@@ -2,11 +2,11 @@
 use Rattle.std.specs.Prelude.{ℕ, ◌-◌, ◌==◌, ◌||◌, Bool, List, length, take, drop}
 use Rattle.std.specs.List.{slice_split, before_first, prefix_len, suffix_len}
 
--- The lines of a text, separated by line feeds. There is one more line than line feeds (own).
+-- The lines of a text, separated by line feeds. There is one more line than line feeds.
 abbrev pub lines : List ℕ → List (List ℕ)
 lines text = slice_split (λ b. b == 10) text
 
--- A line without its comment, which begins at the first ';' (own).
+-- A line without its comment, which begins at the first ';'.
 abbrev pub uncommented : List ℕ → List ℕ
 uncommented line = before_first (λ b. b == 59) line
 

@@ -13,7 +13,7 @@ view_line (lines.Plain i) = Some (Plain i)
 view_line (lines.Aimed i name) = Some (Aimed i name.now)
 view_line (lines.Bad kind) = None
 
--- the result of reading a line is its meaning, if it has one
+-- reading a line returns its meaning, or an error if the line has no meaning
 abbrev pub Reads : Result Line FaultKind → Option Meaning → Type 0
 Reads (Ok line) o = o ≡ view_line line
 Reads (Err kind) o = o ≡ None

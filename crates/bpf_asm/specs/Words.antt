@@ -1,4 +1,4 @@
--- Registers, numbers and names (own).
+-- Registers, numbers and names.
 use Rattle.std.specs.Prelude.{ℕ, ℤ, pos, negsuc, neg_ℤ, ◌-◌, ◌==◌, ◌&&◌, ◌||◌, Bool, nat_lt, nat_le, int_le, List, [], ◌∷◌, length, drop, Option, Some, None, Result, Ok, Err, slice_index, ◌≡◌, ◌≤◌, ◌^◌, IfSome, if◌then◌else◌}
 use Rattle.std.specs.Option.{option_map, option_and_then}
 use Rattle.std.specs.List.{list_all}
@@ -9,7 +9,7 @@ infixl 10 ◌>>=◌
 abbrev pub ◌>>=◌ : {A B : Type 0} → Option A → (A → Option B) → Option B
 o >>= f = option_and_then f o
 
--- a function's result, under `view`, is the value of a definition
+-- a function's result, seen through `view`, is the value of a definition; an error means no value
 abbrev pub Gives : {X Y E : Type 0} → (X → Y) → Result X E → Option Y → Type 0
 Gives view (Ok x) o = o ≡ Some (view x)
 Gives view (Err e) o = o ≡ None
@@ -31,7 +31,7 @@ register (r ∷ a ∷ b ∷ c ∷ more) = None
 abbrev pub is_numeral : ℕ → List ℕ → Bool
 is_numeral radix ds = nat_lt 0 (length ds) && list_all (λ c. nat_lt (digit_value c) radix) ds
 
--- the number written by digits; leading zeros are allowed
+-- the number that the digits spell; leading zeros are allowed
 unfoldable pub numeral : ℕ → List ℕ → Option ℕ
 numeral radix ds = if is_numeral radix ds then Some (digits_value radix ds) else None
 
@@ -47,11 +47,11 @@ magnitude ds = if is_hex ds then numeral 16 (drop 2 ds) else numeral 10 ds
 unfoldable pub number : List ℕ → Option ℤ
 number bs = if slice_index bs 0 == 45 then option_map (λ n. neg_ℤ (pos n)) (magnitude (drop 1 bs)) else option_map pos (magnitude bs)
 
--- a number within two bounds
+-- the number n, if it is within the bounds
 abbrev pub within : ℤ → ℤ → ℤ → Option ℤ
 within lo hi n = if int_le lo n && int_le n hi then Some n else None
 
--- a number of 32 bits
+-- a signed number of 32 bits
 unfoldable pub word : List ℕ → Option ℤ
 word bs = number bs >>= within (neg_ℤ (pos 2147483648)) (pos 2147483647)
 

@@ -47,7 +47,7 @@ fn with_distance(insn: Insn, distance: i16) -> Insn
     }
 }
 
-/// The distance from the unit after `own` to a later one, clamped to `i16::MAX`, which no distance in a code of 4,096 units exceeds.
+/// The distance from the unit after `own` to `target`, clamped to `i16::MAX`. In a code of at most 4,096 units no distance is clamped.
 fn distance(own: usize, target: usize) -> i16
     requires { own < target }
     ensures { target ≤ unit_limit → result ≡ pos (target - (own + 1)) }
@@ -60,7 +60,7 @@ fn distance(own: usize, target: usize) -> i16
     }
 }
 
-/// The instruction of a line, which begins at the unit `own`. `None` if the line has no instruction.
+/// Returns the instruction of a line that begins at the unit `own`, or `None` if the line has no instruction.
 fn resolved<'a, A: Allocator>(
     labels: &Labels<'a, A>,
     own: usize,
@@ -86,7 +86,7 @@ fn resolved<'a, A: Allocator>(
     }
 }
 
-/// Returns true unless the line is a label that the table does not define on this line.
+/// Returns false if the line is a label whose definition in the table is not on this line.
 fn is_definition<'a, A: Allocator>(labels: &Labels<'a, A>, at: usize, line: &Line<'a>) -> bool
     ensures { MatchBool result (IsDefinition labels.now at (view_line line.now)) (IsSecond labels.now at (view_line line.now)) }
 {
@@ -126,7 +126,7 @@ fn emit_line<'a, A: Allocator, B: Allocator>(
     }
 }
 
-/// The code of the lines.
+/// Returns the code of the lines, or the fault of the first invalid line.
 fn emit<'a, A: Allocator, B: Allocator>(
     alloc: A,
     lines: &[Line<'a>],
@@ -147,7 +147,6 @@ fn emit<'a, A: Allocator, B: Allocator>(
     Ok(code)
 }
 
-/// Reads all lines of a text.
 fn read_lines<A: Allocator>(alloc: A, text: &[u8]) -> Result<Vec<Line<'_>, A>, AllocError>
     ensures value { IfOk result (λ v. map view_line v.items ≡ meanings text.now) }
     ensures spelled { IfOk result (λ v. All (λ l. HasSpellingIn (view_line l)) v.items) }
@@ -162,16 +161,14 @@ fn read_lines<A: Allocator>(alloc: A, text: &[u8]) -> Result<Vec<Line<'_>, A>, A
     Ok(read)
 }
 
-/// Assembles a text to the only code that it denotes.
+/// Assembles a text to the one code that it denotes.
 ///
 /// Each line is blank, a label or an instruction, with an optional comment after `;`. The distance of a jump to a label is the number of
-/// units between the jump and the label.
+/// units between the jump and the label. Labels are in a map sorted by name, so no choice of label names makes assembling slow.
 ///
 /// # Errors
-/// `NoMemory` if memory runs out. Every other error means that the text denotes no code. It names the first invalid line, counted from 1,
-/// and the first of these faults that the line has: `Mnemonic`, `Operand`, `Number`, `Label`, `Backward` and `TooLong`.
-///
-/// The labels are in a map sorted by name, so no choice of label names makes a text slow to assemble.
+/// `NoMemory` if memory runs out. Every other error means that the text denotes no code. The error names the first invalid line, counted
+/// from 1, and the first fault of that line in this order: `Mnemonic`, `Operand`, `Number`, `Label`, `Backward`, `TooLong`.
 pub fn assemble<A: Allocator + Copy>(alloc: A, text: &str) -> Result<Code<A>, AsmFault>
     ensures ok { IfOk result (Denotes text.now) }
     ensures only { IfOk result (IsOnlyCode text.now) }

@@ -8,8 +8,8 @@ use crate::printing::write_line;
 use bpf_insn::Code;
 use std::alloc::{AllocError, Allocator};
 
-/// Prints a code as text, one instruction a line. `assemble` turns the text back into the code. Numbers are in signed decimal, constants of
-/// 64 bits in hex, and distances in units with their sign. The only error is that memory ran out.
+/// Prints a code as text, one instruction per line. `assemble` turns the text back into the code. Numbers are in signed decimal, 64-bit
+/// constants in hex, and distances in units with their sign. The only error is a failed allocation.
 pub fn disassemble<A: Allocator, B: Allocator>(
     alloc: A,
     code: &Code<B>,

@@ -1,4 +1,4 @@
-//! The faults of texts that are not a program.
+//! The faults of a text that is not a program.
 
 ghost use Rattle.std.specs.Prelude.{◌≡◌, ◌<◌};
 ghost use Rattle.bpf_asm.specs.Fault.{IsLineOf};
@@ -7,14 +7,14 @@ use std::alloc::{AllocError, AllocFailed};
 use std::error::Error;
 use std::fmt;
 
-/// The fault of a line. If a line has several faults, the first of the variants after `NoMemory` that applies is reported.
+/// The fault of a line. If a line has several faults, the first applicable variant after `NoMemory` is reported.
 #[derive(Clone, Copy, Debug, PartialEq, Eq)]
 pub enum FaultKind {
     /// Memory ran out.
     NoMemory,
     /// The line is not a label, and its first word is not a mnemonic.
     Mnemonic,
-    /// The number of operands is wrong, or an operand has a form that the instruction does not take.
+    /// The number of operands is wrong, or the form of an operand is wrong for the instruction.
     Operand,
     /// A number does not fit its field.
     Number,
@@ -54,7 +54,7 @@ pub struct AsmFault {
 }
 
 impl AsmFault {
-    /// The fault of a line. `NoMemory` belongs to no line.
+    /// The fault of a line. `NoMemory` gets line 0 instead.
     pub(crate) fn at(line: usize, kind: FaultKind) -> AsmFault
         requires { 0 < line }
         ensures kind { result.kind ≡ kind }

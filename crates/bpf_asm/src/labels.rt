@@ -9,7 +9,7 @@ use crate::line::Line;
 use std::alloc::{AllocError, Allocator};
 use std::collections::BTreeMap;
 
-/// The definition of a label: the index of its line, from 0, and the number of the next unit.
+/// The definition of a label: the index of its line, and the index of the next unit. Both count from 0.
 #[derive(Clone, Copy, Debug, PartialEq, Eq)]
 pub struct Definition {
     pub line: usize,
@@ -19,7 +19,7 @@ pub struct Definition {
 /// The labels of a text, sorted by name. A hash map would be slow if the author of the text chose names that collide.
 pub type Labels<'a, A> = BTreeMap<&'a [u8], Definition, A>;
 
-/// The definition of a label, if there is one.
+/// Returns the definition of a label, or `None` if the label is not defined.
 pub fn find_label<'a, A: Allocator>(labels: &Labels<'a, A>, name: &'a [u8]) -> Option<Definition>
     ensures { result ≡ definition_of labels.now name.now }
 {
@@ -68,7 +68,7 @@ fn record_line<'a, A: Allocator + Copy>(
     }
 }
 
-/// The labels of all lines. If a label is defined twice, its first line counts.
+/// Returns the labels of all lines. If a label is defined twice, the first definition is used.
 pub fn find_labels<'a, A: Allocator + Copy>(
     alloc: A,
     lines: &[Line<'a>],

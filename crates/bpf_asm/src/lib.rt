@@ -1,6 +1,6 @@
 //! Programs as text.
 //!
-//! `assemble` gives the code that a text denotes, or the first invalid line. `disassemble` prints a code as a text that `assemble` turns
+//! `assemble` returns the code that a text denotes, or the first invalid line. `disassemble` prints a code as a text that `assemble` turns
 //! back into the code. `specs/` defines the meaning of a line and the code of a text; `docs/ASSEMBLER.md` is the reference of the
 //! language.
 #![tactic(auto)]

@@ -24,7 +24,7 @@ pub enum Line<'a> {
     Plain(Insn),
     /// A jump to the label of this name.
     Aimed(Insn, &'a [u8]),
-    /// A line that is not in the language.
+    /// An invalid line, with its fault.
     Bad(FaultKind),
 }
 
@@ -225,7 +225,7 @@ fn exit(rest: &[u8]) -> Result<Line<'_>, FaultKind>
     }
 }
 
-/// Reads the instruction of a row with these operands.
+/// Reads the operands of an instruction of this row.
 fn read_row(row: Row, rest: &[u8]) -> Result<Line<'_>, FaultKind>
     requires { IsTrue (is_row row) }
     ensures value { Reads result (instruction row rest.now) }

@@ -79,7 +79,7 @@ pub fn read_address(bytes: &[u8]) -> Result<(u8, i16), FaultKind>
     }
 }
 
-/// The text before the first comma, and the text after it.
+/// Splits the text at the first comma. Returns `Operand` if there is no comma.
 fn first_part(rest: &[u8]) -> Result<(&[u8], &[u8]), FaultKind>
     ensures { MatchResult result (λ x. parts rest.now ≡ x.0.now ∷ parts x.1.now) (λ _. (a : List ℕ) × (parts rest.now ≡ a ∷ [])) }
 {
@@ -89,7 +89,7 @@ fn first_part(rest: &[u8]) -> Result<(&[u8], &[u8]), FaultKind>
     }
 }
 
-/// The whole text, if it has no comma.
+/// Returns the whole text, or `Operand` if it has a comma.
 fn last_part(rest: &[u8]) -> Result<&[u8], FaultKind>
     ensures { MatchResult result (λ x. parts rest.now ≡ x.now ∷ []) (λ _. HasMore (parts rest.now)) }
 {

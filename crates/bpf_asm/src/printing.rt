@@ -131,7 +131,7 @@ fn write_operands<A: Allocator>(out: &mut String<A>, insn: Insn) -> Result<(), A
     }
 }
 
-/// Prints the operands of a constant of 64 bits.
+/// Prints the operands of an `lddw`, which loads a 64-bit constant.
 #[tactic(auto, using(crate::proofs::Digits::padded16))]
 fn write_wide<A: Allocator>(out: &mut String<A>, dst: u8, value: u64) -> Result<(), AllocError>
     ensures { OnOk result (string_bytes out.new ≡ string_bytes out.old ++ operands_text (Insn.Wide dst value)) }
@@ -139,7 +139,6 @@ fn write_wide<A: Allocator>(out: &mut String<A>, dst: u8, value: u64) -> Result<
     write!(out, " r{dst}, 0x{value:016x}")
 }
 
-/// Prints the operands of a load.
 fn write_load<A: Allocator>(
     out: &mut String<A>,
     dst: u8,
@@ -152,7 +151,6 @@ fn write_load<A: Allocator>(
     write!(out, " r{dst}, {address}")
 }
 
-/// Prints the operands of a memory access.
 fn write_access<A: Allocator>(out: &mut String<A>, insn: Insn) -> Result<(), AllocError>
     requires { IsTrue (is_access insn) }
     ensures { OnOk result (string_bytes out.new ≡ string_bytes out.old ++ operands_text insn) }
@@ -192,7 +190,7 @@ fn write_access<A: Allocator>(out: &mut String<A>, insn: Insn) -> Result<(), All
     }
 }
 
-/// Appends the line of an instruction. If allocation fails, a part of the line may be appended.
+/// Appends the line of an instruction. If allocation fails, a part of the line may have been appended.
 pub fn write_line<A: Allocator>(out: &mut String<A>, insn: Insn) -> Result<(), AllocError>
     ensures { OnOk result (string_bytes out.new ≡ string_bytes out.old ++ line_text insn) }
 {

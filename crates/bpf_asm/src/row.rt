@@ -5,12 +5,12 @@ ghost use Rattle.bpf_asm.specs.Mnemonics.{name_of, row_named, is_row};
 
 use bpf_insn::{Op, Size, Test, Width};
 
-/// The instructions that share a mnemonic. The comment of each variant lists the operands that they take.
+/// The instructions that share a mnemonic. The comment of each variant lists their operands.
 #[derive(Clone, Copy, PartialEq, Eq)]
 pub enum Row {
     /// A register, and a register or a number.
     Arith(Op, Width),
-    /// Two registers. The low part of the second one is sign-extended.
+    /// Two registers. The low part of the second register is sign-extended.
     SignMove(Size, Width),
     /// A register.
     Unary(Op, Width),
@@ -34,7 +34,7 @@ pub enum Row {
     Exit,
 }
 
-/// The rows that have a mnemonic.
+/// All rows that have a mnemonic.
 pub const ROWS: [Row; 86] = [
     Row::Arith(Op::Add, Width::W64),
     Row::Arith(Op::Sub, Width::W64),
@@ -172,7 +172,6 @@ fn name32(op: Op) -> &'static str
     }
 }
 
-/// The mnemonic of a sign-extending move.
 fn sign_move_name(size: Size, width: Width) -> &'static str
     ensures { result.now ≡ name_of (Row.SignMove size width) }
 {
@@ -188,7 +187,7 @@ fn sign_move_name(size: Size, width: Width) -> &'static str
     }
 }
 
-/// The mnemonic of an operation without an operand.
+/// The mnemonic of an operation on a single register.
 fn unary_name(op: Op, width: Width) -> &'static str
     ensures { result.now ≡ name_of (Row.Unary op width) }
 {
@@ -213,7 +212,6 @@ fn unary_name(op: Op, width: Width) -> &'static str
     }
 }
 
-/// The mnemonic of a load.
 fn load_name(size: Size) -> &'static str
     ensures { result.now ≡ name_of (Row.Load size) }
 {
@@ -225,7 +223,6 @@ fn load_name(size: Size) -> &'static str
     }
 }
 
-/// The mnemonic of a sign-extending load.
 fn signed_load_name(size: Size) -> &'static str
     ensures { result.now ≡ name_of (Row.LoadSigned size) }
 {
@@ -237,7 +234,6 @@ fn signed_load_name(size: Size) -> &'static str
     }
 }
 
-/// The mnemonic of a store of a number.
 fn store_number_name(size: Size) -> &'static str
     ensures { result.now ≡ name_of (Row.StoreImm size) }
 {
@@ -249,7 +245,6 @@ fn store_number_name(size: Size) -> &'static str
     }
 }
 
-/// The mnemonic of a store of a register.
 fn store_name(size: Size) -> &'static str
     ensures { result.now ≡ name_of (Row.Store size) }
 {
@@ -261,7 +256,6 @@ fn store_name(size: Size) -> &'static str
     }
 }
 
-/// The mnemonic of a jump on a 64-bit test.
 fn branch_name64(test: Test) -> &'static str
     ensures { result.now ≡ name_of (Row.Branch test Width.W64) }
 {
@@ -280,7 +274,6 @@ fn branch_name64(test: Test) -> &'static str
     }
 }
 
-/// The mnemonic of a jump on a 32-bit test.
 fn branch_name32(test: Test) -> &'static str
     ensures { result.now ≡ name_of (Row.Branch test Width.W32) }
 {
@@ -333,7 +326,7 @@ fn find_row(name: &[u8]) -> Option<Row>
         .find(|row| row.name().as_bytes() == name)
 }
 
-/// The row of a mnemonic.
+/// Returns the row with this mnemonic, or `None` if no row has it.
 #[tactic(auto, using(crate::proofs::Mnemonics::row_has_operation))]
 pub fn row_named(name: &[u8]) -> Option<Row>
     ensures value { result ≡ row_named name.now }

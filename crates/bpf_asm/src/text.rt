@@ -16,7 +16,7 @@ fn position_or_len(bytes: &[u8], at: u8) -> usize
     bytes.len()
 }
 
-/// Splits bytes at the first byte `at`: the part before it, and the part after it if there is such a byte.
+/// Splits bytes at the first byte equal to `at`. Returns the part before it and the part after it, or all bytes and `None`.
 #[tactic(auto, using(std::proofs::lemmas::List::Splits::slice_split_first))]
 pub fn cut(bytes: &[u8], at: u8) -> (&[u8], Option<&[u8]>)
     ensures parts { MatchOption result.1 (slice_split (λ b. b == at) bytes.now ≡ result.0.now ∷ [])

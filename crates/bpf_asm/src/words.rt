@@ -45,7 +45,7 @@ fn are_digits(bytes: &[u8], radix: u32) -> bool
     bytes.len() > 0 && only_digits(bytes, radix)
 }
 
-/// Reads the number written by digits.
+/// Reads a number from its digits.
 #[tactic(auto, unfolding(crate::specs::Words::numeral))]
 fn numeral(bytes: &[u8], radix: u32) -> Result<u64, FaultKind>
     requires low { 2 ≤ radix }
@@ -115,7 +115,7 @@ fn positive16(size: u64) -> Result<i16, FaultKind>
     }
 }
 
-/// Reads a number of 32 bits.
+/// Reads a signed number of 32 bits.
 #[tactic(auto, unfolding(crate::specs::Words::word, crate::specs::Words::number))]
 pub fn read_word(bytes: &[u8]) -> Result<i32, FaultKind>
     ensures { Gives (λ n. n) result (word bytes.now) }
@@ -192,7 +192,7 @@ fn are_parts(bytes: &[u8]) -> bool
     bytes.iter().all(|b| is_part(*b))
 }
 
-/// Returns true if the bytes are a label's name.
+/// Returns true if the bytes are a valid label name.
 #[tactic(auto, unfolding(crate::specs::Words::is_name))]
 pub fn is_name(bytes: &[u8]) -> bool
     ensures { result ≡ is_name bytes.now }

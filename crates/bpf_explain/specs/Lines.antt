@@ -1,4 +1,4 @@
--- The instructions of a program, each with the verifier's state before it (own).
+-- The instructions of a program, each with the verifier's state before it.
 use Rattle.std.specs.Prelude.{ℕ, zero, suc, List, [], ◌++◌, Option, Some, None}
 use Rattle.std.specs.Option.{option_map, option_to_list}
 use Rattle.bpf_insn.specs.declared.insn.Insn.{Insn}
@@ -15,7 +15,7 @@ abbrev pub lines_below : List Insn → States → ℕ → List Line
 lines_below code states zero = []
 lines_below code states (suc at) = lines_below code states at ++ option_to_list (line_at code states at)
 
--- all instructions, or those up to and including the one at a unit
+-- all instructions, or those that begin at or before the unit `last`
 abbrev pub lines_up_to : List Insn → States → Option ℕ → List Line
 lines_up_to code states None = lines_below code states (unit_count code)
 lines_up_to code states (Some last) = lines_below code states (suc last)

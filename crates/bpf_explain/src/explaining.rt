@@ -12,18 +12,18 @@ use bpf_insn::Code;
 use bpf_verify::{Examined, Refused, States, VerifyFault};
 use std::alloc::{AllocError, Allocator, Global};
 
-/// The explanation of a program: its instructions, each with the facts that the verifier knows before it. For a refused program it ends
-/// with the instruction that the fault names, and has the fault.
+/// The explanation of a program: its instructions, each with the facts that the verifier knows before it. For a refused program the
+/// instructions end with the one that the fault names.
 #[derive(Drop)]
 pub struct Explanation<A: Allocator = Global> {
     pub lines: Vec<Line, A>,
     pub fault: Option<VerifyFault>,
-    // The program's text, one instruction a line, and its number of units.
+    // The program's text, one instruction per line, and its number of units.
     pub(crate) insns: String<A>,
     pub(crate) units: usize,
 }
 
-/// All instructions of an accepted program, each with the state before it. The states are true of each run.
+/// Returns all instructions of an accepted program, each with the state before it. The states are true of every run.
 ///
 /// # Errors
 /// `AllocError` if allocation fails.
@@ -38,7 +38,7 @@ pub fn explain_accepted<A: Allocator + Copy>(
     explained(alloc, examined.code(), examined.states(), None)
 }
 
-/// The instructions of a refused program up to the invalid one, each with the verifier's state before it, and the fault.
+/// Returns the instructions of a refused program up to the one that the fault names, each with the state before it, and the fault.
 ///
 /// # Errors
 /// `AllocError` if allocation fails.
@@ -52,7 +52,6 @@ pub fn explain_refused<A: Allocator + Copy>(
     explained(alloc, &refused.code, &refused.states, Some(refused.fault))
 }
 
-// The explanation of a code with its states and its fault.
 fn explained<A: Allocator + Copy>(
     alloc: A,
     code: &Code<A>,

@@ -14,7 +14,7 @@ pub fn kind_of(state: &State, register: u8) -> Kind {
     }
 }
 
-/// Prints a register and the fact known about it, as `r6 = 0..255`.
+/// Prints a register and the fact known about it, for example `r6 = 0..255`.
 pub fn write_fact<A: Allocator>(
     out: &mut String<A>,
     register: u8,
@@ -60,8 +60,8 @@ fn write_length<A: Allocator>(
     out.push_str(")")
 }
 
-/// Prints an offset, or the least and the greatest offset, as `record+0..7`. Offsets count from the first byte of the region, and on the
-/// stack from its end.
+/// Prints an offset, or the least and the greatest offset, for example `record+0..7`. Offsets count from the first byte of the region, but
+/// from the end of the stack.
 pub fn write_place<A: Allocator>(
     out: &mut String<A>,
     name: &str,
@@ -76,7 +76,7 @@ pub fn write_place<A: Allocator>(
     write!(out, "..{hi}")
 }
 
-/// Prints the number of a range, or its least and greatest number.
+/// Prints the only number of a range, or its least and greatest number.
 pub fn write_range<A: Allocator>(out: &mut String<A>, range: Range) -> Result<(), AllocError> {
     let (lo, hi) = (range.lo, range.hi);
     if lo == hi {
@@ -85,7 +85,7 @@ pub fn write_range<A: Allocator>(out: &mut String<A>, range: Range) -> Result<()
     write!(out, "{lo}..{hi}")
 }
 
-// Prints the facts known about a number: its range, the signed range if all its numbers are negative, and the bits if they say more.
+// Prints the facts known about a number: its range, its signed range if it is negative, and the bits that the range does not imply.
 fn write_number<A: Allocator>(out: &mut String<A>, known: Known) -> Result<(), AllocError> {
     let range = known.range();
     if range.lo == 0 && range.hi == u64::MAX {
@@ -108,7 +108,7 @@ fn write_signed<A: Allocator>(out: &mut String<A>, range: Range) -> Result<(), A
     write!(out, " ({lo}..{hi})")
 }
 
-// Prints the known bits if they say more than the range (`plain`).
+// Prints the known bits unless they are `plain`, the bits that the range implies.
 fn write_bits<A: Allocator>(
     out: &mut String<A>,
     bits: Bits,

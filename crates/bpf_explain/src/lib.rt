@@ -1,7 +1,7 @@
-//! Explains as a text for people why the verifier accepts or refuses a program.
+//! Explains in text why the verifier accepts or refuses a program.
 //!
 //! `explain_accepted` and `explain_refused` return a program's instructions, each with the facts that the verifier knows before it. `text`
-//! prints them as a table. For a refused program a sentence follows with the register, its bounds and the requirement that it breaks.
+//! prints the instructions as a table. For a refused program, a sentence follows with the register, its bounds and the broken requirement.
 #![tactic(auto)]
 
 mod explaining;

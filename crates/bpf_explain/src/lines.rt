@@ -18,7 +18,6 @@ pub struct Line {
     pub state: Option<State>,
 }
 
-// The state before the instruction at a unit.
 fn state_at<A: Allocator>(states: &States<A>, at: usize) -> Option<State>
     ensures { result ≡ state_at states.now at }
 {
@@ -28,7 +27,7 @@ fn state_at<A: Allocator>(states: &States<A>, at: usize) -> Option<State>
     }
 }
 
-// The instruction that begins at a unit, if one does.
+// Returns the instruction that begins at a unit, if any.
 fn line_at<A: Allocator>(code: &Code<A>, states: &States<A>, at: usize) -> Option<Line>
     ensures { result ≡ line_at code.now states.now at }
 {
@@ -73,7 +72,6 @@ pub fn lines_to<A: Allocator + Copy>(
     Ok(lines)
 }
 
-// Adds a line, if there is one.
 fn push_line<A: Allocator>(lines: &mut Vec<Line, A>, line: Option<Line>) -> Result<(), AllocError>
     ensures { OnOk result (lines.new.items ≡ lines.old.items ++ option_to_list line) }
 {

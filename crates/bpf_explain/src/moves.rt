@@ -47,7 +47,7 @@ fn write_operand<A: Allocator>(
     }
 }
 
-// Returns true if a number may be negative and may be nonnegative.
+// Returns true if a number may have either sign.
 fn has_both_signs(operand: Operand, state: &State) -> bool {
     match operand {
         Operand::Imm(_) => false,
@@ -58,7 +58,6 @@ fn has_both_signs(operand: Operand, state: &State) -> bool {
     }
 }
 
-// The range of a number.
 fn range_of(kind: Kind, state: &State) -> Range {
     match kind {
         Kind::Num(known) => known.range(),

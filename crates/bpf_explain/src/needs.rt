@@ -18,8 +18,8 @@ struct Access {
     count: i64,
 }
 
-/// The bytes that an access may touch, from the least offset of its first byte to the greatest offset of its end. `there` is the number of
-/// bytes that the region is known to have.
+/// The bytes that an access may touch, from the least offset of its first byte to the greatest offset of its end. `there` is the least
+/// possible length of the region; the stack does not use it.
 #[derive(Clone, Copy)]
 struct Extent {
     region: &'static str,
@@ -39,7 +39,7 @@ fn most(state: &State, register: u8) -> i64 {
     i64::try_from(greatest).unwrap_or(i64::MAX)
 }
 
-// The access of an instruction that loads or stores.
+// The access of a load or a store.
 fn access_at(size: Size, base: u8, offset: i16) -> [Option<Access>; 2] {
     let access = Access {
         base,
@@ -58,7 +58,7 @@ fn access_by(base: u8, count: i64) -> Option<Access> {
     })
 }
 
-// The accesses of an instruction, in the order of the verifier's tests.
+// The accesses of an instruction, in the order in which the verifier checks them.
 fn accesses(insn: Insn, state: &State) -> [Option<Access>; 2] {
     match insn {
         Insn::Load {
@@ -93,7 +93,7 @@ fn accesses(insn: Insn, state: &State) -> [Option<Access>; 2] {
     }
 }
 
-// The bytes that an access may touch. `None` if its register is not a pointer.
+// Returns the bytes that an access may touch, or `None` if its register is not a pointer.
 fn extent_of(access: Access, state: &State) -> Option<Extent> {
     let (region, lo, hi, there) = match kind_of(state, access.base) {
         Kind::Rec { lo, hi } => ("record", lo, hi, state.bytes.lo),
@@ -122,8 +122,8 @@ fn lies_inside(extent: Extent) -> bool {
     extent.first >= 0 && extent.end <= there
 }
 
-/// Prints the first access that may lie outside its region, with the bytes that it needs and those that exist: `r1+0..7 needs 8 bytes; the
-/// record has at least 0`.
+/// Prints the first access that may lie outside its region, with the needed and the existing bytes, for example
+/// `r1+0..7 needs 8 bytes; the record has at least 0`.
 pub fn write_need<A: Allocator>(
     out: &mut String<A>,
     insn: Insn,
@@ -144,7 +144,7 @@ pub fn write_need<A: Allocator>(
     out.push_str("an access lies outside")
 }
 
-// Prints the bytes of an access relative to its register, and the place of the register unless it is the start of its region.
+// Prints the bytes of an access relative to its register, and the place of the register unless its offset is 0.
 fn write_access<A: Allocator>(
     out: &mut String<A>,
     access: Access,

@@ -11,7 +11,7 @@ fn register_of(operand: Operand) -> Option<u8> {
     }
 }
 
-// Two registers, or one if they are equal.
+// Two registers, or only the first if they are equal.
 fn both(first: u8, second: Option<u8>) -> [Option<u8>; 3] {
     match second {
         Some(register) if register != first => [Some(first), second, None],
@@ -19,7 +19,7 @@ fn both(first: u8, second: Option<u8>) -> [Option<u8>; 3] {
     }
 }
 
-/// The registers that an instruction reads, each once, in the order of the verifier's tests.
+/// The registers that an instruction reads, each once, in the order in which the verifier checks them.
 pub fn registers_read(insn: Insn) -> [Option<u8>; 3] {
     match insn {
         Insn::Alu {
@@ -48,7 +48,7 @@ fn arguments_of(helper: i32) -> [Option<u8>; 3] {
     }
 }
 
-/// The jump distance of an instruction, in units from the next unit. `None` if it does not jump.
+/// Returns the jump distance of an instruction, in units from the next unit, if the instruction jumps.
 pub fn distance_of(insn: Insn) -> Option<i64> {
     match insn {
         Insn::Branch { offset, .. } => Some(offset as i64),
@@ -58,7 +58,7 @@ pub fn distance_of(insn: Insn) -> Option<i64> {
     }
 }
 
-/// The target unit of a jump. It may be negative or past the end. `None` if the instruction does not jump.
+/// Returns the target unit of an instruction, if the instruction jumps. The target may be negative or past the end.
 pub fn target_of(at: usize, insn: Insn) -> Option<i64> {
     let distance = distance_of(insn)?;
     let own = i64::try_from(at).ok()?;

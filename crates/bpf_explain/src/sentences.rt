@@ -12,7 +12,7 @@ use bpf_range::Kind;
 use bpf_verify::{State, VerifyFault};
 use std::alloc::{AllocError, Allocator};
 
-/// Prints the sentence for a fault of the instruction with this text, in a program of `units` units.
+/// Prints the sentence for a fault of an instruction, whose text is `text`, in a program of `units` units.
 pub fn write_sentence<A: Allocator>(
     out: &mut String<A>,
     fault: VerifyFault,
@@ -55,7 +55,7 @@ fn write_first<A: Allocator>(
     write_fact(out, first.unwrap_or(0), state)
 }
 
-// Prints the first register that an instruction reads and that may be unset.
+// Prints the first register that is read and may be unset, and the possible reasons.
 fn write_unset<A: Allocator>(
     out: &mut String<A>,
     insn: Insn,
@@ -82,7 +82,7 @@ fn reason_unset(register: u8) -> &'static str {
     }
 }
 
-// Prints the arguments that a helper takes.
+// Prints the requirement on a helper's first wrong argument, and the fact known about this argument.
 fn write_call<A: Allocator>(
     out: &mut String<A>,
     insn: Insn,
@@ -116,7 +116,7 @@ fn is_pointer(kind: Kind) -> bool {
     )
 }
 
-// Prints the address register.
+// Prints that an address needs a pointer, and the fact about the address register.
 fn write_address<A: Allocator>(
     out: &mut String<A>,
     insn: Insn,
@@ -128,7 +128,7 @@ fn write_address<A: Allocator>(
     write_fact(out, base, state)
 }
 
-// Prints the stored register.
+// Prints that only a number can be stored, and the fact about the stored register.
 fn write_stored<A: Allocator>(
     out: &mut String<A>,
     insn: Insn,

@@ -2,7 +2,7 @@
 
 use std::alloc::{AllocError, Allocator};
 
-/// The numbers of the lines of an assembled text that have an instruction, in order, counted from 1.
+/// Returns the numbers of the lines with an instruction in an assembled text, in order, counted from 1.
 ///
 /// # Errors
 /// `AllocError` if allocation fails.

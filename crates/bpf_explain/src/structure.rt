@@ -6,7 +6,7 @@ use bpf_insn::Insn;
 use bpf_verify::VerifyFault;
 use std::alloc::{AllocError, Allocator};
 
-/// Prints the sentence for a fault of the structure, in a program of `units` units.
+/// Prints the sentence for a structural fault, in a program of `units` units.
 pub fn write_structure<A: Allocator>(
     out: &mut String<A>,
     fault: VerifyFault,

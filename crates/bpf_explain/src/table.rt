@@ -28,7 +28,7 @@ fn pad<A: Allocator>(out: &mut String<A>, start: usize, width: usize) -> Result<
     out.push_str("  ")
 }
 
-// Prints a range of lengths, or `-` if none is known.
+// Prints a range of lengths, or `-` if the range is not known.
 fn write_bounds<A: Allocator>(out: &mut String<A>, range: Option<Range>) -> Result<(), AllocError> {
     let start = out.len();
     match range {
@@ -61,7 +61,7 @@ struct Column {
 }
 
 impl Column {
-    // Adds a space if `more` bytes and a semicolon fit on the current line, otherwise a new line.
+    // Adds a space if `more` bytes and a semicolon fit on the current line, otherwise a line break and the indentation.
     fn space<A: Allocator>(&mut self, out: &mut String<A>, more: usize) -> Result<(), AllocError> {
         let used = out.len().saturating_sub(self.line);
         if used.saturating_add(more) < ROW_WIDTH - 1 {
@@ -76,7 +76,7 @@ impl Column {
     }
 }
 
-// Prints facts in the last column of a row that begins at `row`. A fact that does not fit on the current line begins the next one, in the
+// Prints facts in the last column of a row that begins at `row`. A fact that does not fit on the current line begins the next line, in the
 // column `indent`. A fact that is longer than a line is broken at spaces.
 fn write_facts_in<A: Allocator>(
     out: &mut String<A>,
@@ -100,7 +100,7 @@ fn write_facts_in<A: Allocator>(
     Ok(())
 }
 
-// Prints the columns after an instruction's numbers: its text and the facts known before it. The row begins at `row`.
+// Prints the columns after an instruction's numbers: the lengths, the instruction and the facts known before it. The row begins at `row`.
 fn write_known<A: Allocator + Copy>(
     alloc: A,
     out: &mut String<A>,
@@ -121,7 +121,6 @@ fn write_known<A: Allocator + Copy>(
     write_facts_in(out, row, indent, known.as_str())
 }
 
-// Returns true if the instruction reads a register.
 fn reads(line: &Line) -> bool {
     let [first, _, _] = registers_read(line.insn);
     first.is_some()
@@ -160,9 +159,9 @@ impl<A: Allocator + Copy> Explanation<A> {
         }
     }
 
-    /// The explanation as a text without a line feed at its end. Each line has an instruction with its unit, its line number in the
-    /// source (if given), the possible lengths of record and argument before it, and the facts known about each register that it reads.
-    /// The text of a refused program ends with the reason. If its structure is invalid, the text says nothing of registers and lengths.
+    /// Returns the explanation as text, without a final line feed. Each row has an instruction, its unit, its line number in the source
+    /// (if given), the possible lengths of record and argument before it, and the facts known about each register that it reads. The text
+    /// of a refused program ends with the reason. If the structure of the program is invalid, the rows have no lengths and no facts.
     ///
     /// `source` is the program's text as it was assembled.
     ///
@@ -188,7 +187,9 @@ impl<A: Allocator + Copy> Explanation<A> {
         Ok(out)
     }
 
-    /// The reason why a program is refused: one sentence with the instruction's unit and its line. Empty for an accepted program.
+    /// Returns one sentence with the reason why a program is refused, and the instruction's unit and line. Returns an empty text for an
+    /// accepted program.
+    ///
     /// `source` is the program's text as it was assembled.
     ///
     /// # Errors
@@ -213,7 +214,7 @@ fn number_at<A: Allocator>(numbers: &Option<Vec<usize, A>>, index: usize) -> Opt
 }
 
 impl<A: Allocator> Explanation<A> {
-    // Returns true if the instructions have states. A program whose structure is invalid has none.
+    // Returns true if the instructions have states. A program with an invalid structure has no states.
     fn has_states(&self) -> bool {
         self.lines.iter().any(|line| line.state.is_some())
     }

@@ -33,7 +33,7 @@ HoldsKind (Rec lo hi) m n v = IsPointer Record (Between lo hi) v
 HoldsKind (Arg lo hi) m n v = IsPointer Argument (Between lo hi) v
 HoldsKind (Stack lo hi) m n v = IsPointer StackBytes (Between lo hi) v
 
--- there is a value, and it is of the kind
+-- the value exists and is of the kind
 abbrev pub KindKeeps : Kind → ℕ → ℕ → Option Value → Type 0
 KindKeeps k m n None = ⊥
 KindKeeps k m n (Some v) = HoldsKind k m n v

@@ -18,7 +18,7 @@ pub record IsConfig (c : Config) : Type 0 where
   pub now_fits : c.env.now < 2 ^ 64
   pub who_fits : c.env.who < 2 ^ 64
 
--- the kind that a state gives a register
+-- the kind of a register in a state
 abbrev pub kind_in : State → ℕ → Kind
 kind_in s r = slice_index_or s.kinds r Unset
 

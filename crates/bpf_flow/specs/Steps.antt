@@ -21,7 +21,7 @@ use Rattle.bpf_flow.specs.States.{Fits, IsConfig}
 abbrev pub Gives : (Value → Value → Option Value) → Kind → Kind → Range → Range → Kind → Type 0
 Gives f a b bytes argument k = (m n : ℕ) (x y : Value) → In bytes m → In argument n → HoldsKind a m n x → HoldsKind b m n y → KindKeeps k m n (f x y)
 
--- t is s with one register's kind changed
+-- t is s, except that the register r has the kind k
 pub record Sets (s t : State) (r : ℕ) (k : Kind) : Type 0 where
   pub long : length s.kinds ≡ 11
   pub kinds : t.kinds ≡ slice_set s.kinds r k
@@ -34,11 +34,10 @@ pub record Sets (s t : State) (r : ℕ) (k : Kind) : Type 0 where
 abbrev pub Accesses : Region → ℤ → ℤ → State → ℤ → ℕ → Type 0
 Accesses r lo hi s off size = (c : Config) → IsConfig c → Fits s c → (o : ℤ) (n : ℕ) → Between lo hi o → n ≤ size → IsSome (access c r (o +ℤ off) n)
 
--- a register points into a region, and each access of n bytes at it is inside
+-- the register a points into the region q, and an access of n bytes at the pointer plus `off` is inside
 abbrev pub Reaching : State → ℕ → ℤ → ℕ → Region → Type 0
 Reaching s a off n q = (c : Config) → IsConfig c → Fits s c → IsPointer q (λ o. IsSome (access c q (o +ℤ off) n)) (register c a)
 
--- loads and stores
 abbrev pub IsAccess : Insn → Type 0
 IsAccess (Load n d b off) = ⊤
 IsAccess (LoadSigned n d b off) = ⊤
@@ -70,8 +69,8 @@ pub record Edges : Type 0 where
   pub next : Option State
   pub jump : Option State
 
--- The edges of a way. The first state is that of the only edge, or of the edge to the next instruction; the
--- second is that of the jump.
+-- The edges of a way. The state s belongs to the only edge, or to the edge to the next instruction; t belongs to
+-- the jump.
 abbrev pub edges_of : Way → State → State → Edges
 edges_of way.End s t = record { next = None; jump = None }
 edges_of way.Next s t = record { next = Some s; jump = None }
@@ -109,7 +108,7 @@ GoesTo i e c = IsSome (exit_code i c) ⊎ ((d : Config) × (effect i c ≡ Some 
 abbrev pub Sound : Insn → State → Edges → Type 0
 Sound i s e = (c : Config) → IsConfig c → Fits s c → GoesTo i e c
 
--- instructions that may continue at the next one, and those that may jump
+-- instructions that may continue at the next instruction, and instructions that may jump
 abbrev pub HasNext : Insn → Type 0
 HasNext Exit = ⊥
 HasNext (Jump off) = ⊥

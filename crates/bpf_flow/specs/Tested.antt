@@ -9,7 +9,7 @@ use Rattle.bpf_helpers.specs.declared.values.Value.{Value}
 use Rattle.bpf_helpers.specs.declared.values.Value.TheVariants.{Number}
 use Rattle.bpf_helpers.specs.Machine.{Config, register}
 
--- A test reads only the low bits of an immediate, by its width (RFC 9669, section 4.3).
+-- A 32-bit test reads only the low 32 bits of an immediate (RFC 9669, section 4.3).
 abbrev pub tested : Width → Config → Operand → Value
 tested w c (Imm k) = Number (cast_unsigned w64 k % modulus w)
 tested w c (Reg r) = register c r

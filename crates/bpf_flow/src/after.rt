@@ -57,7 +57,6 @@ fn after_wide(dst: u8, n: u64, state: &mut State)
     state.set(dst, Kind::Num(Known::single(n)));
 }
 
-/// The state after a load or a store.
 fn after_access(insn: Insn, state: &mut State) -> Result<(), FlowFault>
     requires has { HasSpelling insn }
     requires built { CanFlow insn }
@@ -93,7 +92,7 @@ fn after_access(insn: Insn, state: &mut State) -> Result<(), FlowFault>
     }
 }
 
-/// Tests that a program ends with a number in R0.
+/// Checks that a program ends with a number in R0.
 fn after_exit(state: &State) -> Result<Way, FlowFault>
     ensures { IfOk result (λ way. (s t : _) → Flows Insn.Exit state.now (edges_of way s t)) }
 {

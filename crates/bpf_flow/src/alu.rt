@@ -48,7 +48,7 @@ fn of_source(
     Ok(Kind::Num(transfer(op, width, Known::single(0), y)))
 }
 
-/// Adds numbers to pointers.
+/// The kind of a pointer plus a number.
 fn pointer_plus(place: Place, number: Known) -> Result<Kind, FlowFault>
     ensures plus { IfOk result (λ k. (m n : ℕ) (x y : _) → IsPointer place.region (Between place.lo place.hi) x → IsNumber (Contains number) y → KindKeeps k m n (sum_of x y)) }
     ensures turned { IfOk result (λ k. (m n : ℕ) (x y : _) → IsPointer place.region (Between place.lo place.hi) x → IsNumber (Contains number) y → KindKeeps k m n (sum_of y x)) }
@@ -59,7 +59,7 @@ fn pointer_plus(place: Place, number: Known) -> Result<Kind, FlowFault>
     moved(place, span)
 }
 
-/// Subtracts numbers from pointers.
+/// The kind of a pointer minus a number.
 fn pointer_minus(place: Place, number: Known) -> Result<Kind, FlowFault>
     ensures { IfOk result (λ k. (m n : ℕ) (x y : _) → IsPointer place.region (Between place.lo place.hi) x → IsNumber (Contains number) y → KindKeeps k m n (difference_of x y)) }
 {
@@ -72,7 +72,7 @@ fn pointer_minus(place: Place, number: Known) -> Result<Kind, FlowFault>
     moved(place, back)
 }
 
-/// The kind of a sum of 64 bits. At most one operand may be a pointer.
+/// The kind of a 64-bit sum. At most one operand may be a pointer.
 fn sum(a: Kind, b: Kind, bytes: Range, argument: Range) -> Result<Kind, FlowFault>
     ensures { IfOk result (λ k. Gives sum_of a b bytes argument k) }
 {
@@ -91,7 +91,7 @@ fn sum(a: Kind, b: Kind, bytes: Range, argument: Range) -> Result<Kind, FlowFaul
     of_numbers(Op::Add, Width::W64, a, b, bytes, argument)
 }
 
-/// The kind of a difference of 64 bits. Only the first operand may be a pointer.
+/// The kind of a 64-bit difference. Only the first operand may be a pointer.
 fn difference(a: Kind, b: Kind, bytes: Range, argument: Range) -> Result<Kind, FlowFault>
     ensures { IfOk result (λ k. Gives difference_of a b bytes argument k) }
 {
@@ -104,7 +104,7 @@ fn difference(a: Kind, b: Kind, bytes: Range, argument: Range) -> Result<Kind, F
     of_numbers(Op::Sub, Width::W64, a, b, bytes, argument)
 }
 
-/// The kind of a move of 64 bits. The source must be set.
+/// The kind of the result of a 64-bit move. The source must be set.
 fn copied(b: Kind) -> Result<Kind, FlowFault>
     ensures { IfOk result (λ k. (m n : ℕ) (v : _) → HoldsKind b m n v → KindKeeps k m n (Rattle.bpf_helpers.specs.Machine.written_value v)) }
 {
@@ -114,7 +114,7 @@ fn copied(b: Kind) -> Result<Kind, FlowFault>
     }
 }
 
-/// Tests that the registers which an operation reads are set.
+/// Checks that the registers that an operation reads are set.
 fn read_all(op: Op, a: Kind, b: Kind) -> Result<(), FlowFault> {
     match op {
         Op::Mov | Op::MovSx(_) => written(b),
@@ -145,7 +145,7 @@ fn outcome(
     }
 }
 
-/// The kind of an operation's result.
+/// Returns the kind of an operation's result, or the fault of the operation.
 pub fn alu_kind(
     op: Op,
     width: Width,

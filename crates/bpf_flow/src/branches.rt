@@ -71,7 +71,7 @@ fn follow_edge(
     true
 }
 
-/// The kind of the second operand of a test. At 32 bits an immediate is a number below 2^32.
+/// The kind of the second operand of a test. In a 32-bit test, an immediate is a number below 2^32.
 fn tested_operand(state: &State, width: Width, operand: Operand) -> Kind
     requires { IsOperand operand }
     ensures { (c : _) → Fits state.now c → HoldsKind result (length c.bytes) (length c.argument) (tested width c operand) }
@@ -84,8 +84,8 @@ fn tested_operand(state: &State, width: Width, operand: Operand) -> Kind
     }
 }
 
-/// Computes the states after a conditional jump, which must not lead backward. If both edges can be taken, `state` is
-/// that of the edge to the next instruction, and `target` that of the jump. If only one can be taken, `state` is its state.
+/// Computes the states after a conditional jump, which must not lead backward. If both edges can be taken, `state` becomes the state
+/// on the edge to the next instruction, and `target` the state on the jump. If only one edge can be taken, `state` becomes its state.
 pub fn flow_branch(
     test: Test,
     width: Width,

@@ -16,7 +16,7 @@ use bpf_helpers::{COPY_LIMIT, Helper, helper_of};
 use bpf_insn::Insn;
 use bpf_range::{Kind, Known};
 
-/// Sets the state to that after a call with one of these answers. R1 to R5 are then unset.
+/// Sets the state to the state after a call with one of these answers: R0 is the answer, and R1 to R5 are unset.
 fn answered(state: &mut State, answer: Known)
     ensures { (c : _) (a : Answer) → Fits state.old c → Contains answer a.value → Fits state.new (after_answer a c) }
 {
@@ -49,8 +49,8 @@ fn call_reply(state: &mut State) -> Result<(), FlowFault>
     Ok(())
 }
 
-/// The state after a call of `Copy`, which takes the addresses in R1 and R2 and the number of bytes in R3. At both
-/// addresses there must be as many bytes as the greatest number that R3 may hold, and those at R1 must be writable.
+/// The state after a call of `Copy`, which takes the addresses in R1 and R2 and the number of bytes in R3. At both addresses
+/// there must be n bytes, for the greatest number n that R3 may hold. The bytes at R1 must be writable.
 fn call_copy(state: &mut State) -> Result<(), FlowFault>
     ensures { OnOk result (IsCalled Copy state.old state.new) }
 {
@@ -80,7 +80,6 @@ fn call_copy(state: &mut State) -> Result<(), FlowFault>
     Ok(())
 }
 
-/// The state after a call of the helper.
 fn called(helper: Helper, state: &mut State) -> Result<(), FlowFault>
     ensures { OnOk result (IsCalled helper state.old state.new) }
 {

@@ -9,7 +9,7 @@ use crate::numbers::{Span, number_of};
 use crate::state::State;
 use bpf_range::{Kind, Range, hull, join};
 
-/// The join of two kinds as numbers. If one of them is not a number, the result is `Unset`.
+/// The join of two kinds as numbers. If either kind is not a number, the result is `Unset`.
 fn join_numbers(
     a: Kind,
     a_bytes: Range,
@@ -81,7 +81,7 @@ fn join_kinds(
     }
 }
 
-/// Joins `b` into `a`: configurations that fit either state fit the new one.
+/// Joins `b` into `a`: configurations that fit either state fit the new `a`.
 pub fn join_states(a: &mut State, b: &State)
     ensures left { (c : _) → Fits a.old c → Fits a.new c }
     ensures right { (c : _) → Fits b.now c → Fits a.new c }

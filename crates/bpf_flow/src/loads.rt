@@ -13,7 +13,7 @@ use bpf_helpers::memory::count_of;
 use bpf_insn::{Insn, Size};
 use bpf_range::{Kind, Known};
 
-/// Tests that each access at an address is inside its region, and returns the region.
+/// Checks that each access at an address is inside its region, and returns the region.
 fn reached(size: Size, base: u8, offset: i16, state: &State) -> Result<Region, FlowFault>
     requires { base ≤ 10 }
     ensures { IfOk result (λ q. Reaching state.now base offset (bytes_of size) q) }
@@ -26,8 +26,8 @@ fn reached(size: Size, base: u8, offset: i16, state: &State) -> Result<Region, F
     Ok(place.region)
 }
 
-/// The state after a load; the result is any number of that size (RFC 9669, section 5.1). The error says that
-/// the address is invalid or may lie outside its region.
+/// The state after a load: `dst` may hold any number of the size (RFC 9669, section 5.1). Returns an error if the
+/// address is unset, is not a pointer, or may lie outside its region.
 pub fn after_load(
     size: Size,
     dst: u8,
@@ -46,8 +46,8 @@ pub fn after_load(
     Ok(())
 }
 
-/// The state after a sign-extending load; the result is any number (RFC 9669, section 5.2). The error is that
-/// of `after_load`.
+/// The state after a sign-extending load: `dst` may hold any number (RFC 9669, section 5.2). Returns the errors of
+/// `after_load`.
 pub fn after_load_signed(
     size: Size,
     dst: u8,
@@ -66,8 +66,8 @@ pub fn after_load_signed(
     Ok(())
 }
 
-/// Tests a store of a register; the state is unchanged (RFC 9669, section 5.1). The error is that of
-/// `after_load`, or says that a pointer is stored or the argument written.
+/// Checks a store of a register; the state is unchanged (RFC 9669, section 5.1). Returns the errors of `after_load`,
+/// and an error if `src` is not a number or the argument is written.
 pub fn after_store(
     size: Size,
     base: u8,
@@ -91,7 +91,7 @@ pub fn after_store(
     inside(place, state, offset as i64, count_of(size) as u64)
 }
 
-/// Tests a store of an immediate. The stored number does not matter.
+/// Checks a store of an immediate. The stored number does not matter.
 pub fn after_store_imm(size: Size, base: u8, offset: i16, state: &State) -> Result<(), FlowFault>
     requires { base ≤ 10 }
     ensures { OnOk result ((value : _) → Passes (Insn.StoreImm size base offset value) state.now state.now) }

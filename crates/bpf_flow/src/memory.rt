@@ -24,7 +24,7 @@ fn first_of(region: Region) -> i64
     }
 }
 
-/// An offset up to which the region has bytes, for each of its possible lengths.
+/// An offset up to which the region has bytes, whatever its length is.
 fn last_of(region: Region, state: &State) -> i64
     ensures { (c : _) → IsConfig c → Fits state.now c → (result +ℤ base_of region) ≤ℤ pos (length (contents c region)) }
 {
@@ -35,7 +35,7 @@ fn last_of(region: Region, state: &State) -> i64
     }
 }
 
-/// A small number as a signed one.
+/// A number of at most 65,536 as a signed number.
 fn signed(n: u64) -> i64
     requires { n ≤ 65536 }
     ensures { result ≡ pos n }
@@ -77,7 +77,7 @@ fn offsets_fit(lo: i64, hi: i64, offset: i64, count: i64, first: i64, last: i64)
     true
 }
 
-/// Tests that each access of up to `size` bytes through these pointers is inside their region.
+/// Checks that each access of up to `size` bytes through these pointers is inside their region.
 pub fn inside(place: Place, state: &State, offset: i64, size: u64) -> Result<(), FlowFault>
     requires offset_lower { neg_ℤ (pos 65536) ≤ℤ offset }
     requires offset_upper { offset ≤ℤ pos 65536 }
@@ -97,7 +97,7 @@ pub fn inside(place: Place, state: &State, offset: i64, size: u64) -> Result<(),
     }
 }
 
-/// Tests that a region may be written. The argument is read-only.
+/// Checks that a region may be written. The argument is read-only.
 pub fn writable(region: Region) -> Result<(), FlowFault>
     ensures { OnOk result (region ≡ Argument → ⊥) }
 {

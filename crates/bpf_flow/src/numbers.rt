@@ -10,7 +10,7 @@ use crate::fault::FlowFault;
 use bpf_helpers::Region;
 use bpf_range::{Kind, Known, Range};
 
-/// The numbers of a kind, if the lengths are in these ranges. `None` if the kind is `Unset` or a pointer.
+/// Returns the numbers of a kind if the lengths are in these ranges, or `None` if the kind is `Unset` or a pointer.
 pub fn number_of(kind: Kind, bytes: Range, argument: Range) -> Option<Known>
     ensures { IfSome result (λ k. (m n : ℕ) (v : _) → In bytes m → In argument n → HoldsKind kind m n v → IsNumber (Contains k) v) }
 {
@@ -30,7 +30,7 @@ pub struct Place {
     pub hi: i64,
 }
 
-/// The pointers of a kind. `None` if the kind is not a pointer.
+/// Returns the pointers of a kind, or `None` if the kind is not a pointer.
 pub fn place_of(kind: Kind) -> Option<Place>
     ensures { IfSome result (λ p. (m n : ℕ) (v : _) → HoldsKind kind m n v → IsPointer p.region (Between p.lo p.hi) v) }
 {
@@ -65,7 +65,7 @@ pub fn pointers(region: Region, lo: i64, hi: i64) -> Kind
     }
 }
 
-/// Tests that a register is set before it is read.
+/// Returns an error if a register that is read may be unset.
 pub fn written(kind: Kind) -> Result<(), FlowFault> {
     match kind {
         Kind::Unset => Err(FlowFault::Unset),
@@ -73,14 +73,14 @@ pub fn written(kind: Kind) -> Result<(), FlowFault> {
     }
 }
 
-/// Signed numbers from the least to the greatest.
+/// The signed numbers from `lo` to `hi`.
 #[derive(Clone, Copy)]
 pub struct Span {
     pub lo: i64,
     pub hi: i64,
 }
 
-/// The numbers as signed ones. `None` if they lie on both sides of 2^63.
+/// Returns the range of the numbers as signed numbers, or `None` if they lie on both sides of 2^63.
 pub fn span_of(a: Known) -> Option<Span>
     ensures { IfSome result (λ s. (x : ℕ) → Contains a x → Between s.lo s.hi (cast_signed w64 x)) }
 {
@@ -100,7 +100,7 @@ pub fn span_of(a: Known) -> Option<Span>
     None
 }
 
-/// The span of the negated numbers. `None` on overflow.
+/// Returns the span of the negated numbers, or `None` on overflow.
 pub fn negated(span: Span) -> Option<Span>
     ensures { IfSome result (λ s. (z : _) → Between span.lo span.hi z → Between s.lo s.hi (neg_ℤ z)) }
 {
@@ -109,7 +109,7 @@ pub fn negated(span: Span) -> Option<Span>
     Some(Span { lo, hi })
 }
 
-/// The kind of pointers moved by a number of the span.
+/// The kind of pointers moved by a number of the span. Returns `PointerRange` if an offset may be outside -65,536 to 65,536.
 pub fn moved(place: Place, by: Span) -> Result<Kind, FlowFault>
     ensures { IfOk result (λ k. (m n : ℕ) (o d : _) → Between place.lo place.hi o → Between by.lo by.hi d → KindKeeps k m n (moved_pointer place.region (o +ℤ d))) }
 {

@@ -21,7 +21,7 @@ pub struct State {
 }
 
 impl State {
-    /// The state at the start.
+    /// The state at the start of a run.
     pub fn at_start() -> State
         ensures { (bytes argument : _) (env : _) → IsInput bytes argument env → Fits result (start bytes argument env) }
     {

@@ -8,22 +8,22 @@ ghost use Rattle.bpf_range.specs.Sets.{Contains, range_of};
 use crate::values::Env;
 use bpf_range::Known;
 
-/// A helper. A call puts the helper's answer, a number, into R0.
+/// A helper. A call puts the returned number, the helper's answer, into R0.
 #[derive(Clone, Copy, Debug, PartialEq, Eq)]
 pub enum Helper {
-    /// 1: makes the number in R1 the reply word; answers 0.
+    /// 1: makes the number in R1 the reply word; returns 0.
     Reply,
-    /// 2: answers the time that the command names.
+    /// 2: returns the time given in the command.
     Now,
-    /// 3: answers 1 if the key existed, otherwise 0.
+    /// 3: returns 1 if the key existed, otherwise 0.
     Present,
-    /// 4: answers the session's number.
+    /// 4: returns the session's number.
     Who,
-    /// 5: copies n bytes from the address in R2 to the address in R1, for the number n in R3; answers n.
+    /// 5: copies n bytes from the address in R2 to the address in R1, for the number n in R3; returns n.
     Copy,
 }
 
-/// The helper with a number, from 1 to 5; `None` for every other number. Allocates no memory.
+/// Returns the helper with a number from 1 to 5, or `None` for any other number. Allocates no memory.
 pub fn helper_of(id: i32) -> Option<Helper>
     ensures { result ≡ numbered id }
 {
@@ -59,10 +59,9 @@ pub fn copies(id: i32) -> bool
 }
 
 impl Helper {
-    /// Returns the helper's answer for R0. `given` is its argument: for `Reply` the number in R1,
-    /// which becomes the reply word; for `Copy` the number of bytes, which the caller of `answer`
-    /// copies. The other helpers take no argument and leave the reply word unchanged. Allocates no
-    /// memory.
+    /// Returns the helper's answer for R0. `given` is the argument: for `Reply` the number in R1,
+    /// which becomes the reply word; for `Copy` the number of bytes. The caller copies the bytes.
+    /// The other helpers ignore `given`. Only `Reply` changes the reply word. Allocates no memory.
     pub fn answer(self, given: u64, env: &Env, word: &mut u64) -> u64
         ensures value { result ≡ (answer_of self given env.entry.now word.old).value }
         ensures word { word.new ≡ (answer_of self given env.entry.now word.old).word }
@@ -103,7 +102,7 @@ impl Helper {
     }
 }
 
-/// The possible answers of the helper with a number, as in `Helper::result`. The helper must exist.
+/// The possible answers of the helper with a number, like `Helper::result`. The helper must exist.
 /// Allocates no memory.
 pub fn result(id: i32) -> Known
     requires { IsSome (numbered id) }
@@ -117,9 +116,8 @@ pub fn result(id: i32) -> Known
     }
 }
 
-/// Returns the answer of the helper with a number, like `Helper::answer`. `given` is the number in
-/// R1 for helper 1, and the number of bytes for helper 5. Returns `None` only if there is no such
-/// helper; the reply word is then unchanged. Allocates no memory.
+/// Returns the answer of the helper with a number, like `Helper::answer`. If no helper has the
+/// number, returns `None` and leaves the reply word unchanged. Allocates no memory.
 pub fn call(id: i32, given: u64, env: &Env, word: &mut u64) -> Option<u64>
     ensures { Answers id given env.entry.now word.old result word.new }
 {

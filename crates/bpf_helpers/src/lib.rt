@@ -1,6 +1,6 @@
 //! The values of a program's registers, the answers of its helpers, and the meaning of its runs.
 //!
-//! `helper_of` and `call` find a helper by its number, and `result` gives its possible answers.
+//! `helper_of` and `call` find a helper by its number, and `result` returns its possible answers.
 //! `memory` reads and writes numbers and bytes for both machines. The definitions of a step, of
 //! safety and of the meaning of a run are in `specs/`.
 #![tactic(auto)]

@@ -23,7 +23,7 @@ IsWhole bytes = length bytes % 8 ≡ 0
 abbrev pub IsShort : List ℕ → Type 0
 IsShort bytes = length bytes / 8 ≤ unit_limit
 
--- The units before the unit `at` are a code, and at `at` no instruction's spelling begins.
+-- The units before the unit `at` are a code, and no spelling of an instruction begins at `at`.
 pub record FailsAt (bytes : List ℕ) (at : ℕ) : Type 0 where
   pub whole : IsWhole bytes
   pub short : IsShort bytes
@@ -49,7 +49,7 @@ HasFault bytes (Reserved at) = FailsAt bytes at
 abbrev pub IsCodeUnlessMemory : Result (List Insn) DecodeFault → List Insn → Type 0
 IsCodeUnlessMemory r code = MatchResult r (λ c. c ≡ code) (λ e. e ≡ NoMemory)
 
--- A fault's text: its name, and its unit in brackets (own).
+-- The text of a fault: its name, and its unit in brackets.
 abbrev pub with_place : List ℕ → ℕ → List ℕ
 with_place name at = name ++ (codes "(" ++ (decimal at ++ codes ")"))
 

@@ -19,7 +19,7 @@ use Rattle.bpf_insn.specs.declared.fields.Fields.{Fields}
 -- ---- units
 
 -- The bytes of a unit: the opcode, the destination in the low and the source in the high four bits, the
--- offset and the immediate, both little-endian (RFC 9669, section 3.1; big-endian images are left out).
+-- offset and the immediate, both little-endian (RFC 9669, section 3.1; without big-endian images).
 abbrev pub unit_bytes : Fields → List ℕ
 unit_bytes f = f.opcode ∷ (f.dst + 16 * f.src) ∷ (to_le_bytes w16 (cast_unsigned w16 f.offset) ++ to_le_bytes w32 (cast_unsigned w32 f.imm))
 
@@ -165,14 +165,14 @@ second_unit (StoreImm n b off k) = []
 second_unit (Store n b off s) = []
 second_unit (Wide d n) = unit_bytes (high_half n)
 
--- the one spelling of an instruction, of 8 or 16 bytes
+-- the only spelling of an instruction, of 8 or 16 bytes
 abbrev pub spelling_of : Insn → List ℕ
 spelling_of i = unit_bytes (row_of i) ++ second_unit i
 
 -- ---- the instructions that have a row
 
--- An operation with an operand. A sign-extending move takes a register and a part below the width
--- (RFC 9669, section 4.1).
+-- An operation with an operand. A sign-extending move takes a register and a part narrower than the
+-- width (RFC 9669, section 4.1).
 abbrev pub is_binary : Op → Width → Operand → Bool
 is_binary Neg w s = false
 is_binary (Little n) w s = false
@@ -186,7 +186,7 @@ is_binary (MovSx Word) W64 (Reg r) = true
 is_binary (MovSx Double) w (Reg r) = false
 is_binary op w s = true
 
--- the operations that take an operand, at one width at least
+-- the operations that take an operand at some width
 abbrev pub takes_operand : Op → Bool
 takes_operand Neg = false
 takes_operand (Little n) = false
@@ -209,12 +209,11 @@ is_unary (Big n) W32 = has_order n
 is_unary (Swap n) W64 = has_order n
 is_unary op w = false
 
--- A sign-extending load reads a part below 64 bits (RFC 9669, section 5.2).
+-- A sign-extending load reads a part narrower than 64 bits (RFC 9669, section 5.2).
 abbrev pub is_narrow : Size → Bool
 is_narrow Double = false
 is_narrow n = true
 
--- memory accesses
 abbrev pub is_access : Insn → Bool
 is_access (Load n d b off) = true
 is_access (LoadSigned n d b off) = true

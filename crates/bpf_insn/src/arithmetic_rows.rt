@@ -8,7 +8,7 @@ use crate::fields::Fields;
 use crate::insn::{Insn, Op, Operand, Size, Width};
 use crate::operands::{UnitFault, operand_of};
 
-/// The operation with this number and selector that takes an operand.
+/// Returns the operation with an operand that has this number and selector.
 fn op_of(code: u8, selector: i16) -> Option<Op>
     ensures found { IfSome result (λ op. IsTrue (takes_operand op) × (code_of op ≡ code) × (pos (selector_of op) ≡ selector)) }
     ensures only { (op : Op) → IsTrue (takes_operand op) → code_of op ≡ code → pos (selector_of op) ≡ selector → result ≡ Some op }
@@ -90,7 +90,6 @@ fn swap_size(bits: i32) -> Option<Size>
     }
 }
 
-/// Reads a byte swap.
 fn byte_swap(fields: Fields, width: Width) -> Result<Insn, UnitFault>
     requires class { fields.opcode % 8 ≡ arithmetic_class width }
     requires code { fields.opcode / 16 ≡ 13 }
@@ -128,7 +127,6 @@ fn byte_swap(fields: Fields, width: Width) -> Result<Insn, UnitFault>
     })
 }
 
-/// Reads a negation.
 fn negation(fields: Fields, width: Width) -> Result<Insn, UnitFault>
     requires class { fields.opcode % 8 ≡ arithmetic_class width }
     requires code { fields.opcode / 16 ≡ 8 }

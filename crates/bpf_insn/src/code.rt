@@ -23,7 +23,7 @@ impl Insn {
 /// The maximum number of units of a code.
 pub const UNIT_LIMIT: usize = 4096;
 
-/// A code: a list of instructions of the table, of at most 4,096 units. In clauses it is that list.
+/// A code: a list of instructions of the table, of at most 4,096 units. In contracts, a code is this list.
 #[derive(Drop)]
 #[derive_where(Debug)]
 pub struct Code<A: Allocator = Global> {
@@ -89,8 +89,8 @@ impl<A: Allocator> Code<A> {
         self.slots.len()
     }
 
-    /// The instruction that begins at a unit, in constant time. `None` at the second unit of a
-    /// constant and past the end.
+    /// Returns the instruction that begins at a unit, or `None` at the second unit of a constant and
+    /// past the end. Takes constant time.
     pub fn insn_at(&self, unit: usize) -> Option<Insn>
         ensures value { result ≡ fetch self.now unit }
         ensures has { IfSome result HasSpelling }
@@ -100,8 +100,8 @@ impl<A: Allocator> Code<A> {
         *self.slots.get(unit)?
     }
 
-    /// Appends an instruction of the table. There must be room for its units. If allocation fails, the
-    /// code is unchanged.
+    /// Appends an instruction of the table. The code must stay within 4,096 units. If allocation
+    /// fails, the code is unchanged.
     pub fn push(&mut self, insn: Insn) -> Result<(), AllocError>
         requires has { HasSpelling insn }
         requires room { unit_count self.old + units_of insn ≤ unit_limit }

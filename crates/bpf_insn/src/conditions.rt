@@ -42,8 +42,8 @@ fn holds32(test: Test, a: u32, b: u32) -> bool
     }
 }
 
-/// Returns true if a jump's test holds of the destination `a` and the operand `b` (RFC 9669,
-/// section 4.3). At 32 bits the upper halves are ignored. Allocates no memory.
+/// Returns true if a test holds for the destination `a` and the operand `b` (RFC 9669, section 4.3).
+/// A 32-bit test ignores the upper halves. Allocates no memory.
 pub fn holds(test: Test, width: Width, a: u64, b: u64) -> bool
     ensures { result ≡ holds_of test width a b }
 {

@@ -10,7 +10,7 @@ use crate::insn::Insn;
 use crate::reading::first_insn;
 use std::alloc::Allocator;
 
-/// Decodes a whole number of units, one by one.
+/// Decodes an image of whole units, at most 4,096, one instruction at a time.
 fn decode_units<A: Allocator>(alloc: A, image: &[u8]) -> Result<Code<A>, DecodeFault>
     requires whole { IsWhole image.now }
     requires short { IsShort image.now }
@@ -32,15 +32,15 @@ fn decode_units<A: Allocator>(alloc: A, image: &[u8]) -> Result<Code<A>, DecodeF
     Ok(code)
 }
 
-/// Decodes an image, and reads each unit once.
+/// Decodes an image. Reads each unit once.
 ///
 /// # Errors
-/// `Length` if the number of bytes is not a multiple of 8, otherwise `TooLong` above 4,096 units.
-/// Otherwise the fault of the first unit at which no instruction of the table begins: the first one
-/// that applies of `Opcode`, `HalfWide`, `Register` and `Reserved`. `NoMemory` if memory ran out.
+/// `Length` if the number of bytes is not a multiple of 8; otherwise `TooLong` if there are more than
+/// 4,096 units. Otherwise the fault of the first invalid instruction: the first applicable of
+/// `Opcode`, `HalfWide`, `Register` and `Reserved`. `NoMemory` if allocation fails.
 pub fn decode<A: Allocator>(alloc: A, image: &[u8]) -> Result<Code<A>, DecodeFault>
-    // The bytes are the image of the result. If they are the image of a code, that code is the
-    // result, unless memory runs out.
+    // The bytes are the image of the returned code. If the bytes are the image of a code, this code
+    // is returned, unless memory runs out.
     ensures found { IfOk result (λ code. IsImage code image.now) }
     ensures only { (code : List Insn) → IsImage code image.now → IsCodeUnlessMemory result code }
 

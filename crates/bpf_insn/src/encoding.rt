@@ -7,8 +7,8 @@ use crate::code::Code;
 use crate::spelling::put_insn;
 use std::alloc::{AllocError, Allocator};
 
-/// Returns the bytes of a code: the joined spellings of its instructions (RFC 9669, section 3).
-/// `decode` turns them back into the code. The only error is that memory ran out.
+/// Returns the image of a code: the concatenated bytes of its instructions (RFC 9669, section 3).
+/// `decode` turns the image back into the code. The only error is a failed allocation.
 pub fn encode<A: Allocator, B: Allocator>(
     alloc: A,
     code: &Code<B>,

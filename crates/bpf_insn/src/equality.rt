@@ -38,7 +38,6 @@ fn same_insn(a: Insn, b: Insn) -> bool
     high_of(a) == high_of(b)
 }
 
-/// Compares the slots of two units.
 fn same_slot(a: Option<Insn>, b: Option<Insn>) -> bool
     requires left { IfSome a HasSpelling }
     requires right { IfSome b HasSpelling }
@@ -51,7 +50,6 @@ fn same_slot(a: Option<Insn>, b: Option<Insn>) -> bool
     }
 }
 
-/// Returns true if two codes have the same instructions.
 fn same_code<A: Allocator>(a: &Code<A>, b: &Code<A>) -> bool
     ensures same { IsTrue result ↔ (a.now ≡ b.now) }
     ensures left { IsCode a.now }
@@ -80,7 +78,8 @@ impl<A: Allocator> PartialEq for Code<A> {
 
     ghost laws = { on_per image_of (partial_equiv_from_equiv nat_list_eq_equiv) };
 
-    /// Compares the instructions. They are equal if and only if the bytes are. Allocates no memory.
+    /// Compares the instructions. Two codes are equal if and only if their images are equal.
+    /// Allocates no memory.
     fn eq(&self, other: &Self) -> bool
         ensures exact { IsTrue result ↔ (self.now ≡ other.now) }
         ensures value { result ≡ bytes_eq (image_of self.now) (image_of other.now) }

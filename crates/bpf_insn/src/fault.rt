@@ -1,4 +1,4 @@
-//! The faults of bytes that are not a code.
+//! The faults of bytes that are not the image of a code.
 
 ghost use Rattle.std.specs.Prelude.{◌≡◌};
 ghost use Rattle.bpf_insn.specs.declared.fault.DecodeFault.TheVariants.{NoMemory};
@@ -8,7 +8,7 @@ use std::alloc::AllocError;
 use std::error::Error;
 use std::fmt;
 
-/// The fault of an image. The number is the first unit of the invalid instruction, from 0.
+/// The fault of an image. The number is the first unit of the invalid instruction, counted from 0.
 #[derive(Clone, Copy, Debug, PartialEq, Eq)]
 pub enum DecodeFault {
     /// Memory ran out.
@@ -23,8 +23,7 @@ pub enum DecodeFault {
     HalfWide(usize),
     /// A register number is above 10.
     Register(usize),
-    /// An unused field is not zero, a selector or a width is not in the table, or the second unit of
-    /// a constant has more than the high half of the constant.
+    /// An unused field of the instruction is not zero, or a selector or a width is not in the table.
     Reserved(usize),
 }
 

@@ -26,7 +26,7 @@ pub enum Op {
     Mul,
     /// Unsigned division.
     Div,
-    /// Signed division, towards zero.
+    /// Signed division, rounded towards zero.
     SDiv,
     Or,
     And,
@@ -118,7 +118,7 @@ pub enum Insn {
     Call {
         helper: i32,
     },
-    /// The end of the program, with its exit number in R0.
+    /// Ends the program with the number in R0.
     Exit,
     /// Loads a number from memory into `dst`.
     Load {

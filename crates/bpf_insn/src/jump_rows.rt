@@ -29,7 +29,6 @@ fn test_of(code: u8) -> Option<Test>
     }
 }
 
-/// Reads a conditional jump.
 fn branch(fields: Fields, width: Width) -> Result<Insn, UnitFault>
     requires { fields.opcode % 8 ≡ jump_class width }
     ensures found { Reads fields result }
@@ -94,7 +93,7 @@ fn jump_far(fields: Fields) -> Result<Insn, UnitFault>
     Ok(Insn::JumpFar { offset: fields.imm })
 }
 
-/// Reads a call of a helper by its number. With a source other than 0 it would be another kind of call.
+/// Reads a call of a helper by its number. A source other than 0 means another kind of call.
 fn call(fields: Fields) -> Result<Insn, UnitFault>
     requires { fields.opcode ≡ 0x85 }
     ensures found { Reads fields result }
@@ -112,7 +111,6 @@ fn call(fields: Fields) -> Result<Insn, UnitFault>
     Ok(Insn::Call { helper: fields.imm })
 }
 
-/// Reads EXIT.
 fn exit(fields: Fields) -> Result<Insn, UnitFault>
     requires { fields.opcode ≡ 0x95 }
     ensures found { Reads fields result }

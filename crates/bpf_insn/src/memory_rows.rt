@@ -8,7 +8,6 @@ use crate::fields::Fields;
 use crate::insn::{Insn, Size};
 use crate::operands::UnitFault;
 
-/// Reads a load.
 fn load(fields: Fields, size: Size) -> Result<Insn, UnitFault>
     requires { fields.opcode ≡ 0x61 + size_code size * 8 }
     ensures found { Reads fields result }
@@ -31,7 +30,6 @@ fn load(fields: Fields, size: Size) -> Result<Insn, UnitFault>
     })
 }
 
-/// Reads a sign-extending load.
 fn load_signed(fields: Fields, size: Size) -> Result<Insn, UnitFault>
     requires row { fields.opcode ≡ 0x81 + size_code size * 8 }
     requires narrow { IsTrue (is_narrow size) }
@@ -55,7 +53,6 @@ fn load_signed(fields: Fields, size: Size) -> Result<Insn, UnitFault>
     })
 }
 
-/// Reads a store of a number.
 fn store_imm(fields: Fields, size: Size) -> Result<Insn, UnitFault>
     requires { fields.opcode ≡ 0x62 + size_code size * 8 }
     ensures found { Reads fields result }
@@ -75,7 +72,6 @@ fn store_imm(fields: Fields, size: Size) -> Result<Insn, UnitFault>
     })
 }
 
-/// Reads a store of a register.
 fn store(fields: Fields, size: Size) -> Result<Insn, UnitFault>
     requires { fields.opcode ≡ 0x63 + size_code size * 8 }
     ensures found { Reads fields result }

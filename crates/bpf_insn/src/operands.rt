@@ -18,7 +18,7 @@ pub enum UnitFault {
     Reserved,
 }
 
-/// The operand of a unit. `None` if its register is above R10, or a field that it leaves unused is not zero.
+/// Returns the operand of a unit, or `None` if its register is above R10 or an unused field is not zero.
 pub fn operand_of(fields: Fields) -> Option<Operand>
     ensures found { IfSome result (λ s. IsOperand s × (source_of s ≡ fields.src) × (immediate_of s ≡ fields.imm) × (source_bit s ≡ fields.opcode / 8 % 2 * 8)) }
     ensures only { (s : Operand) → IsOperand s → source_of s ≡ fields.src → immediate_of s ≡ fields.imm → source_bit s ≡ fields.opcode / 8 % 2 * 8 → result ≡ Some s }

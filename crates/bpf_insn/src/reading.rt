@@ -1,4 +1,4 @@
-//! Reads the first instruction of bytes.
+//! Reads the first instruction of an image.
 
 ghost use Rattle.std.specs.Prelude.{◌≤◌, length};
 ghost use Rattle.bpf_insn.specs.Rows.{Finds, OnlyFinds};

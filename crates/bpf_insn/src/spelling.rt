@@ -1,4 +1,4 @@
-//! The spelling of an instruction.
+//! The spelling of an instruction: its bytes in an image.
 
 ghost use Rattle.std.specs.Prelude.{◌≡◌, ◌≤◌, ◌<◌, ◌^◌, ◌+◌, ◌*◌, ◌++◌, OnOk, IsTrue, pos};
 ghost use Rattle.std.specs.Int.{cast_signed, w32};
@@ -182,7 +182,6 @@ fn with_offset(opcode: u8, dst: u8, src: u8, offset: i16) -> Fields
     }
 }
 
-/// The row of a memory access.
 fn access_row(insn: Insn) -> Fields
     requires { IsTrue (is_access insn) }
     ensures { result ≡ row_of insn }
@@ -259,7 +258,7 @@ pub fn row(insn: Insn) -> Fields
     }
 }
 
-/// Appends the only spelling of an instruction. If allocation fails, a part of the spelling may be appended.
+/// Appends the spelling of an instruction. If allocation fails, a part of the spelling may have been appended.
 pub fn put_insn<A: Allocator>(out: &mut Vec<u8, A>, insn: Insn) -> Result<(), AllocError>
     requires { HasSpelling insn }
     ensures { OnOk result (out.new.items ≡ out.old.items ++ spelling_of insn) }

@@ -1,7 +1,7 @@
-//! The machines that run programs on a record.
+//! The machine that runs accepted programs on a record.
 //!
-//! `run` runs only accepted programs: each of its registers is one bare word, and nothing is tested that was proved of the program.
-//! `run_checked` of `bpf_reference` runs any code, accepted or not, and tests each instruction before it has any effect.
+//! `run` runs only accepted programs: each register is a plain word, and `run` does not check again what the verifier has proved.
+//! `run_checked` of `bpf_reference` runs any code, accepted or not, and checks each instruction first.
 #![tactic(auto)]
 
 mod access;

@@ -5,7 +5,7 @@ use Rattle.bpf_range.specs.declared.values.Bits.{Bits}
 use Rattle.bpf_range.specs.declared.known.Known.{Known}
 use Rattle.bpf_range.specs.Bits.{Matches}
 
--- x is from the least to the greatest number of the range
+-- x is between the ends of the range, both included
 pub record In (r : Range) (x : ℕ) : Type 0 where
   pub least : r.lo ≤ x
   pub greatest : x ≤ r.hi
@@ -41,6 +41,6 @@ pub record IsOf (k : Known) (lo hi value unknown : ℕ) : Type 0 where
   pub value_is : (bits_of k).value ≡ value
   pub unknown_is : (bits_of k).unknown ≡ unknown
 
--- each result of operands in two ranges is in the third
+-- each result of f on a number of a and a number of b is in r
 abbrev pub Covers : (ℕ → ℕ → ℕ) → Range → Range → Range → Type 0
 Covers f a b r = (x y : ℕ) → In a x → In b y → In r (f x y)

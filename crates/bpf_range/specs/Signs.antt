@@ -6,13 +6,13 @@ use Rattle.bpf_insn.specs.declared.insn.Test.{Test}
 use Rattle.bpf_insn.specs.declared.insn.Test.TheVariants.{SGt, SGe, SLt, SLe}
 use Rattle.bpf_insn.specs.Arithmetic.{modulus}
 
--- Half of a width's modulus: the sign bit of the numbers below it is 0, so they are the same when
--- read as signed (two's complement).
+-- Half of a width's modulus. Numbers below it have a sign bit of 0, so they do not change when read
+-- as signed (two's complement).
 abbrev pub half : Width → ℕ
 half W32 = 2 ^ 31
 half W64 = 2 ^ 63
 
--- On numbers below this a test equals the corresponding unsigned test of 64 bits.
+-- On numbers below `reach`, a test equals the corresponding unsigned 64-bit test.
 abbrev pub reach : Test → Width → ℕ
 reach SGt w = half w
 reach SGe w = half w

@@ -8,7 +8,7 @@ use crate::filling::fill;
 use crate::values::Range;
 use crate::widths::all;
 
-/// Sums, cut to the width. The ends are added if no sum wraps or every sum does.
+/// Sums, wrapped to the width. The ends are added if no sum wraps or every sum wraps.
 #[tactic(auto, using(crate::proofs::RangeFacts::wrapped))]
 pub fn add(max: u64, a: Range, b: Range) -> Range
     requires a_fits { a.hi ≤ max }
@@ -30,7 +30,7 @@ pub fn add(max: u64, a: Range, b: Range) -> Range
     all(max)
 }
 
-/// Differences, cut to the width. The ends are subtracted if no difference wraps or every one does.
+/// Differences, wrapped to the width. The ends are subtracted if no difference wraps or every difference wraps.
 pub fn sub(max: u64, a: Range, b: Range) -> Range
     requires a_fits { a.hi ≤ max }
     requires b_fits { b.hi ≤ max }
@@ -51,7 +51,7 @@ pub fn sub(max: u64, a: Range, b: Range) -> Range
     all(max)
 }
 
-/// Products, cut to the width. The ends are multiplied if the greatest product does not wrap.
+/// Products, wrapped to the width. The ends are multiplied if the greatest product does not wrap.
 #[tactic(auto, using(crate::proofs::RangeFacts::mul_between))]
 pub fn mul(max: u64, a: Range, b: Range) -> Range
     requires a_fits { a.hi ≤ max }
@@ -83,7 +83,7 @@ pub fn div(a: Range, b: Range) -> Range
     }
 }
 
-/// Remainders. A division by zero leaves the number.
+/// Remainders. The remainder of a division by zero is the number itself.
 #[tactic(auto, using(crate::proofs::RangeFacts::rem_below))]
 pub fn rem(a: Range, b: Range) -> Range
     ensures { Covers (λ x y. if y == 0 then x else x % y) a b result }
@@ -111,7 +111,7 @@ pub fn and(a: Range, b: Range) -> Range
     }
 }
 
-/// Bitwise or: at least either number, with no bit above the highest bit of both.
+/// Bitwise or: at least the greater number, with no bit above its highest bit.
 pub fn or(a: Range, b: Range) -> Range
     ensures { Covers bit_or a b result }
 {
@@ -121,7 +121,7 @@ pub fn or(a: Range, b: Range) -> Range
     }
 }
 
-/// Bitwise xor: no bit above the highest bit of both.
+/// Bitwise xor: no bit above the highest bit of the greater number.
 pub fn xor(a: Range, b: Range) -> Range
     ensures { Covers bit_xor a b result }
 {
@@ -131,7 +131,7 @@ pub fn xor(a: Range, b: Range) -> Range
     }
 }
 
-/// Negated numbers, cut to the width.
+/// Negated numbers, wrapped to the width.
 pub fn negate(max: u64, a: Range) -> Range
     requires { a.hi ≤ max }
     ensures { (x : ℕ) → In a x → In result ((max + 1 - x) % (max + 1)) }
@@ -145,7 +145,7 @@ pub fn negate(max: u64, a: Range) -> Range
     }
 }
 
-/// Numbers shifted to the left, cut to the width. The ends are shifted if no bit is lost.
+/// Numbers shifted to the left, truncated to the width. The ends are shifted if no bit is lost.
 pub fn shl(max: u64, a: Range, count: u32) -> Range
     requires max_fits { a.hi ≤ max }
     requires small { count < 64 }

@@ -18,7 +18,7 @@ pub fn any_bits() -> Bits
     }
 }
 
-/// The bits of numbers after clearing those outside a mask.
+/// The bits of numbers after clearing the bits outside a mask.
 #[tactic(auto, using(crate::proofs::BitSteps::masked, crate::proofs::BitSteps::masked_apart))]
 fn masked(a: Bits, mask: u64) -> Bits
     ensures { (x : ℕ) → HasBits a x → HasBits result (bit_and x mask) }
@@ -29,7 +29,7 @@ fn masked(a: Bits, mask: u64) -> Bits
     }
 }
 
-/// The bits of a number cut to the width. The bits above the width are 0.
+/// The bits of a number truncated to the width. The bits above the width are 0.
 pub fn low_bits(width: Width, a: Bits) -> Bits
     ensures { (x : ℕ) → HasBits a x → HasBits result (x % modulus width) }
 {

@@ -7,7 +7,7 @@ ghost use Rattle.bpf_range.specs.Sets.{In, Within};
 use crate::values::Range;
 use bpf_insn::{Test, Width};
 
-/// Narrows both ranges for the test that the number of `a` is greater than that of `b`.
+/// Narrows both ranges for the test that the number of `a` is greater than the number of `b`.
 fn above(a: Range, b: Range) -> Option<(Range, Range)>
     ensures keeps { (x y : ℕ) → In a x → In b y → y < x → IsSomeAnd result (λ p. In p.0 x × In p.1 y) }
     ensures within { IfSome result (λ p. Within p.0 a × Within p.1 b) }
@@ -27,7 +27,7 @@ fn above(a: Range, b: Range) -> Option<(Range, Range)>
     ))
 }
 
-/// Narrows both ranges for the test that the number of `a` is at least that of `b`.
+/// Narrows both ranges for the test that the number of `a` is at least the number of `b`.
 fn at_least(a: Range, b: Range) -> Option<(Range, Range)>
     ensures keeps { (x y : ℕ) → In a x → In b y → y ≤ x → IsSomeAnd result (λ p. In p.0 x × In p.1 y) }
     ensures within { IfSome result (λ p. Within p.0 a × Within p.1 b) }
@@ -47,7 +47,7 @@ fn at_least(a: Range, b: Range) -> Option<(Range, Range)>
     ))
 }
 
-/// Narrows both ranges for the test that the numbers are equal, to the numbers in both.
+/// Narrows both ranges for the test that the numbers are equal: both become the common range.
 fn same(a: Range, b: Range) -> Option<(Range, Range)>
     ensures keeps { (x y : ℕ) → In a x → In b y → x ≡ y → IsSomeAnd result (λ p. In p.0 x × In p.1 y) }
     ensures within { IfSome result (λ p. Within p.0 a × Within p.1 b) }
@@ -61,8 +61,8 @@ fn same(a: Range, b: Range) -> Option<(Range, Range)>
     Some((common, common))
 }
 
-/// Removes the number of `other` from the range, if `other` has only one number and it is an end of the
-/// range. The last number of the range is never removed.
+/// If `other` is a single number and an end of the range, removes that number from the range. A range
+/// of a single number is unchanged.
 fn without(a: Range, other: Range) -> Range
     ensures keeps { (x y : ℕ) → In a x → In other y → x ≢ y → In result x }
     ensures within { Within result a }
@@ -96,7 +96,8 @@ fn different(a: Range, b: Range) -> Option<(Range, Range)>
     Some((without(a, b), without(b, a)))
 }
 
-/// Narrows both ranges for the test of a common bit: `None` if either has only 0, otherwise unchanged.
+/// Narrows both ranges for the test of a common bit. Returns `None` if either range is only 0,
+/// otherwise the ranges unchanged.
 fn common(a: Range, b: Range) -> Option<(Range, Range)>
     ensures keeps { (x y : ℕ) → In a x → In b y → bit_and x y ≢ 0 → IsSomeAnd result (λ p. In p.0 x × In p.1 y) }
     ensures within { IfSome result (λ p. Within p.0 a × Within p.1 b) }
@@ -110,7 +111,7 @@ fn common(a: Range, b: Range) -> Option<(Range, Range)>
     Some((a, b))
 }
 
-/// Exchanges both ranges of a result.
+/// Swaps the two ranges of a result.
 fn turned(found: Option<(Range, Range)>) -> Option<(Range, Range)>
     ensures keeps { (x y : ℕ) → IsSomeAnd found (λ p. In p.0 x × In p.1 y) → IsSomeAnd result (λ p. In p.0 y × In p.1 x) }
     ensures within { (s t : Range) → IfSome found (λ p. Within p.0 s × Within p.1 t) → IfSome result (λ p. Within p.0 t × Within p.1 s) }
@@ -119,8 +120,8 @@ fn turned(found: Option<(Range, Range)>) -> Option<(Range, Range)>
     Some((b, a))
 }
 
-/// Narrows the ranges to the numbers for which an unsigned test has the result `taken`. `None` only
-/// if there are no such numbers. A signed test narrows nothing.
+/// Narrows the ranges to the numbers for which an unsigned test has the result `taken`. Returns
+/// `None` only if no numbers have this result. A signed test narrows nothing.
 pub fn compare(test: Test, a: Range, b: Range, taken: bool) -> Option<(Range, Range)>
     ensures keeps { (x y : ℕ) → In a x → In b y → comparison test Width.W64 x y ≡ taken → IsSomeAnd result (λ p. In p.0 x × In p.1 y) }
     ensures within { IfSome result (λ p. Within p.0 a × Within p.1 b) }

@@ -30,8 +30,9 @@ pub fn common_bits(a: Bits, b: Bits) -> Bits
     }
 }
 
-/// Contains the numbers of both operands, and often more. The range is the least that contains both
-/// ranges. A bit is known if it is known in both and equal. Then range and bits are settled.
+/// Facts that contain the numbers of both operands, and often more. The range is the least that
+/// contains both ranges. A bit is known if both operands know it and agree. Then range and bits are
+/// settled.
 pub fn join(a: Known, b: Known) -> Known
     ensures left { (x : ℕ) → Contains a x → Contains result x }
     ensures right { (x : ℕ) → Contains b x → Contains result x }

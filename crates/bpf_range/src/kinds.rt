@@ -2,8 +2,8 @@
 
 use crate::known::Known;
 
-/// The kind of a register's value. A pointer's offset is from `lo` to `hi`, both included. It counts
-/// from the beginning of the region, and on the stack from the end.
+/// The kind of a register's value. A pointer's offset is from `lo` to `hi`, both included. Offsets
+/// count from the beginning of the region, but from the end of the stack.
 #[derive(Clone, Copy, Debug, PartialEq, Eq)]
 pub enum Kind {
     /// Any value, including none.

@@ -7,12 +7,12 @@ use crate::values::{Bits, Range};
 pub use settling::settle;
 use settling::share_high_bits;
 
-/// Facts known about a number: its range, and some of its bits. It contains the numbers that are in
-/// the range and have the bits. The range is never empty, and no bit is both known to be 1 and
-/// unknown.
+/// Facts known about a number: its range, and some of its bits. A `Known` contains the numbers that
+/// are in the range and have the bits. The range is never empty, and no bit is both known to be 1
+/// and unknown.
 ///
-/// All functions of this crate except `from_parts` return settled values: the range is cut by the
-/// bits, and then the bits above the highest one in which its ends differ are known.
+/// All functions of this crate except `from_parts` return settled values: the range is narrowed by
+/// the bits, and then the high bits that the ends share are known.
 #[derive(Clone, Copy, Debug, PartialEq, Eq)]
 pub struct Known {
     range: Range,
@@ -23,8 +23,7 @@ impl Known {
     ghost use Rattle.std.specs.Prelude.{◌≡◌, ◌≤◌, ◌⊎◌, ◌<◌, ℕ, bit_and, MatchBool, MatchOption};
     ghost use Rattle.bpf_range.specs.Sets.{Contains, In, IsOnly, HasBits, IsOf, range_of, bits_of};
 
-    /// The numbers from `lo` to `hi`, settled: the bits above the highest one in which the ends
-    /// differ are known.
+    /// The numbers from `lo` to `hi`, settled: the high bits that the ends share are known.
     pub fn of(lo: u64, hi: u64) -> Known
         requires { lo ≤ hi }
         ensures contains { (x : ℕ) → lo ≤ x → x ≤ hi → Contains result x }
@@ -47,8 +46,8 @@ impl Known {
         }
     }
 
-    /// These parts unchanged, not settled. `None` if and only if `lo` is above `hi`, or a bit is in
-    /// both `value` and `unknown`.
+    /// Returns these parts unchanged, not settled, or `None` if and only if `lo` is above `hi` or a
+    /// bit is in both `value` and `unknown`.
     pub fn from_parts(lo: u64, hi: u64, value: u64, unknown: u64) -> Option<Known>
         ensures { MatchOption result ((hi < lo) ⊎ (bit_and value unknown ≡ 0 → ⊥)) (λ k. IsOf k lo hi value unknown) }
     {

@@ -12,7 +12,7 @@ use crate::values::{Bits, Range};
 use crate::widths::{greatest, greatest_positive};
 use bpf_insn::{Test, Width, holds};
 
-/// The unsigned test that equals this one on numbers whose sign bit is 0.
+/// The unsigned test with the same result as this test on numbers whose sign bit is 0.
 fn unsigned(test: Test) -> Test
     ensures { (w : Width) (x y : ℕ) → x < reach test w → y < reach test w → comparison test w x y ≡ comparison result Width.W64 x y }
 {
@@ -35,9 +35,9 @@ fn greatest_tested(test: Test, width: Width) -> u64
     }
 }
 
-/// Narrows two ranges to the numbers for which a test has the result `taken`. `None` only if there
-/// are no such numbers. Two single numbers are tested. If a number may be above 2^32 - 1 in a test
-/// of 32 bits, or may have its sign bit set in a signed test, the ranges are unchanged.
+/// Narrows two ranges to the numbers for which a test has the result `taken`. Returns `None` only if
+/// no numbers have this result. Two single numbers are tested directly. If a number may be above
+/// 2^32 - 1 in a 32-bit test, or may have its sign bit set in a signed test, the ranges are unchanged.
 pub fn refine_range(
     test: Test,
     width: Width,
@@ -65,8 +65,8 @@ pub fn refine_range(
     compare(unsigned(test), a, b, taken)
 }
 
-/// The first operand's bits after a test with the result `taken`. They change only if a 64-bit test
-/// found no bit in common with a single number: the bits of that number are then 0.
+/// The first operand's bits after a test with the result `taken`. The bits change only if a 64-bit
+/// `Set` finds no bit in common with a single number: the bits of that number are then 0.
 fn tested_bits(test: Test, width: Width, a: Bits, b: Range, taken: bool) -> Bits
     ensures { (x y : ℕ) → x < 2 ^ 64 → HasBits a x → In b y → holds_of test width x y ≡ taken → HasBits result x }
 {
@@ -79,9 +79,9 @@ fn tested_bits(test: Test, width: Width, a: Bits, b: Range, taken: bool) -> Bits
     }
 }
 
-/// Narrows a test's operands to the numbers for which the test has the result `taken`. `None` only if
-/// there are no such numbers, so that this edge of the conditional jump is never taken. The ranges are
-/// those of `refine_range`, cut by the bits, which stay known.
+/// Narrows a test's operands to the numbers for which the test has the result `taken`. Returns `None`
+/// only if no numbers have this result, so this edge of the conditional jump is never taken. The
+/// ranges are those of `refine_range`, narrowed by the bits.
 pub fn refine(test: Test, width: Width, a: Known, b: Known, taken: bool) -> Option<(Known, Known)>
     ensures keeps { (x y : ℕ) → Contains a x → Contains b y → holds_of test width x y ≡ taken → IsSomeAnd result (λ p. Contains p.0 x × Contains p.1 y) }
     ensures within { IfSome result (λ p. Within (range_of p.0) (range_of a) × Within (range_of p.1) (range_of b)) }

@@ -49,8 +49,8 @@ pub fn signed_shift(width: Width, a: Range, count: Range) -> Range
     shift_right(width, a, count)
 }
 
-/// The sign-extended low parts of numbers, cut to the width: the numbers themselves if each fits a
-/// part of this size with a sign bit of 0.
+/// The sign-extended low parts of numbers, truncated to the width: the numbers themselves if each
+/// fits a part of this size with a sign bit of 0.
 pub fn extended(width: Width, size: Size, b: Range) -> Range
     requires { b.hi < modulus width }
     ensures { (y : ℕ) → In b y → In result (sign_extension size y % modulus width) }

@@ -30,8 +30,8 @@ fn is_exact(op: Op, a: Range, b: Range) -> bool
     }
 }
 
-/// The results of an operation on operands that were cut to the width. Byte orders give the full
-/// range.
+/// The results of an operation on operands that were truncated to the width. For `Little`, `Big` and
+/// `Swap`, the full range.
 fn transfer_cut(op: Op, width: Width, a: Range, b: Range) -> Range
     requires a_fits { a.hi < modulus width }
     requires b_fits { b.hi < modulus width }
@@ -75,10 +75,11 @@ fn swapped(size: Size) -> Range
 }
 
 /// The range of the results of an operation on the destination `a` and the operand `b` (RFC 9669,
-/// section 4.1), from the ends alone. `Neg` and the byte orders read only `a`, `Mov` and `MovSx`
-/// only `b`. If each operand that is read is a single number, so is the result. Otherwise the
-/// operands are cut to the width, except for a byte order, and the result is computed from their
-/// ends. It is the full range if the ends give no better bound. Allocates no memory.
+/// section 4.1), from the ends alone. `Neg`, `Little`, `Big` and `Swap` read only `a`; `Mov` and
+/// `MovSx` read only `b`. If each operand that is read is a single number, the result is a single
+/// number. Otherwise the operands are truncated to the width, except for `Little`, `Big` and `Swap`,
+/// and the result is computed from their ends. The result is the full range if the ends give no
+/// better bound. Allocates no memory.
 pub fn transfer_range(op: Op, width: Width, a: Range, b: Range) -> Range
     ensures covers { Covers (result_of op width) a b result }
     ensures single { (x y : ℕ) → IsOnly a x → IsOnly b y → IsOnly result (result_of op width x y) }
@@ -95,7 +96,7 @@ pub fn transfer_range(op: Op, width: Width, a: Range, b: Range) -> Range
 }
 
 /// The bits of the results. `a` and `b` are the operands' bits at the width, and `count` is the
-/// second operand's range. No bit is known after operations that carry from bit to bit.
+/// second operand's range. `transfer` lists the operations that use known bits.
 fn transfer_bits(op: Op, width: Width, a: Bits, b: Bits, count: Range) -> Bits
     ensures { (x y : ℕ) → x < modulus width → y < modulus width → HasBits a x → HasBits b y → In count y → HasBits result (uncut_result op width x y % modulus width) }
 {
@@ -121,9 +122,9 @@ fn transfer_bits(op: Op, width: Width, a: Bits, b: Bits, count: Range) -> Bits
 }
 
 /// Facts known about the result of an operation on the destination `a` and the operand `b` (RFC
-/// 9669, section 4.1). Its range is that of `transfer_range`, cut by the bits. The operands' known
-/// bits decide its bits if the operation is `And`, `Or`, `Xor`, `Mov`, or a `Lsh` or `Rsh` by a
-/// single count; at 32 bits the upper half is 0. Allocates no memory.
+/// 9669, section 4.1). The range is that of `transfer_range`, narrowed by the bits. The operands'
+/// known bits are used for `And`, `Or`, `Xor`, `Mov`, and for `Lsh` and `Rsh` by a single count. At
+/// 32 bits the upper half is 0. Allocates no memory.
 pub fn transfer(op: Op, width: Width, a: Known, b: Known) -> Known
     ensures contains { (x y : ℕ) → Contains a x → Contains b y → Contains result (result_of op width x y) }
     ensures single { (x y : ℕ) → IsOnly (range_of a) x → IsOnly (range_of b) y → IsOnly (range_of result) (result_of op width x y) }

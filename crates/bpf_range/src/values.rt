@@ -1,8 +1,8 @@
-//! Sets of numbers of 64 bits: by their ends, and by bits.
+//! Sets of 64-bit numbers, given by their ends or by bits.
 
 ghost use Rattle.std.specs.Prelude.{◌≡◌, ◌≤◌, bit_and};
 
-/// The numbers from `lo` to `hi`, both included. The lower end is never above the upper one.
+/// The numbers from `lo` to `hi`, both included. `lo` is never above `hi`.
 #[derive(Clone, Copy, Debug, PartialEq, Eq)]
 pub struct Range {
     pub lo: u64,

@@ -60,8 +60,8 @@ pub fn all(max: u64) -> Range
     Range { lo: 0, hi: max }
 }
 
-/// The low 32 bits of the numbers of a range: both ends cut if they agree in the upper half,
-/// otherwise all numbers of 32 bits.
+/// The low 32 bits of the numbers of a range. If the ends agree in the upper half, they are
+/// truncated; otherwise the result is all 32-bit numbers.
 fn low_half(a: Range) -> Range
     ensures fits { result.hi < 2 ^ 32 }
     ensures covers { (x : ℕ) → In a x → In result (x % 2 ^ 32) }
@@ -75,7 +75,7 @@ fn low_half(a: Range) -> Range
     }
 }
 
-/// The numbers of a range, cut to the width.
+/// The numbers of a range, truncated to the width.
 pub fn at_width(width: Width, a: Range) -> Range
     ensures fits { result.hi < modulus width }
     ensures covers { (x : ℕ) → In a x → In result (x % modulus width) }

@@ -14,7 +14,7 @@ abbrev pub Tells : List Insn → List ℕ → List ℕ → Env → Checked → L
 Tells program bytes argument env (Ended e) left = Ends program bytes argument env (outcome_in e left)
 Tells program bytes argument env (Stuck at) left = Sticks program bytes argument env at left
 
--- A run stops at the instruction, after `steps` instructions: this one is EXIT with a number in R0, or the run is stuck at it.
+-- A run stops at the instruction after `steps` instructions: the instruction is EXIT with a number in R0, or the run is stuck there.
 abbrev pub Finishes : Insn → Config → ℕ → Checked → Type 0
 Finishes insn c steps (Ended e) = (exit_code insn c ≡ Some e.code) × (e.word ≡ c.word) × (e.steps ≡ steps)
 Finishes insn c steps (Stuck at) = (exit_code insn c ≡ None) × (at ≡ c.place)

@@ -1,4 +1,4 @@
-//! Whole runs with a test of each instruction.
+//! Whole runs with checks of each instruction.
 
 ghost use Rattle.std.specs.Prelude.{◌≡◌, ◌≤◌, List, ℕ, length};
 ghost use Rattle.bpf_helpers.specs.declared.values.Env.{Env as EnvOf};
@@ -60,8 +60,8 @@ fn run_with<A: Allocator>(code: &Code<A>, env: Env, bytes: &mut [u8], argument: 
     }
 }
 
-/// Runs a code on a record and an argument, with every test in the definition of a step. The answer says how the run ended, or at which
-/// unit it is stuck; no other answer is true of the run. The record, of at most 8,008 bytes, is changed in place; if the run is stuck, it
+/// Runs a code on a record and an argument, with every check in the definition of a step. Returns how the run ended, or the unit at which
+/// the run is stuck; no other result is possible. The record, of at most 8,008 bytes, is changed in place. If the run is stuck, the record
 /// has the bytes written so far. The argument has at most 1,024 bytes. Allocates no memory.
 pub fn run_checked<A: Allocator>(
     code: &Code<A>,

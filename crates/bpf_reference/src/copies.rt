@@ -14,7 +14,7 @@ use bpf_helpers::{COPY_LIMIT, Env, Helper, Region, Value};
 use bpf_insn::{Code, Insn};
 use std::alloc::Allocator;
 
-/// The index of `count` bytes at an offset in a region. `None` if not all of them are inside the region.
+/// The index of `count` bytes at an offset in a region, if all bytes are inside the region.
 fn place_at(region: Region, offset: i64, count: usize, len: usize) -> Option<usize>
     requires few { count ≤ copy_limit }
     requires short { len ≤ record_limit }
@@ -24,7 +24,7 @@ fn place_at(region: Region, offset: i64, count: usize, len: usize) -> Option<usi
     place_of(region, offset, 0, count, len)
 }
 
-/// Copies n bytes of a region into the record. The two parts may overlap.
+/// Copies n bytes of a region into the record. The two ranges may overlap.
 fn copy_to_record(
     bytes: &mut [u8],
     to: usize,
@@ -48,7 +48,7 @@ fn copy_to_record(
     }
 }
 
-/// Copies n bytes of a region onto the stack. The two parts may overlap.
+/// Copies n bytes of a region onto the stack. The two ranges may overlap.
 fn copy_to_stack(
     cpu: &mut Cpu,
     to: usize,

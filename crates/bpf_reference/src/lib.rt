@@ -1,7 +1,7 @@
 //! The machine that runs any code, accepted or not.
 //!
-//! `run_checked` tests each instruction before it has any effect, and stops if the definitions give the instruction no effect: for example,
-//! if it reads an unset register. Tests compare the machine for accepted programs with it.
+//! `run_checked` checks each instruction before the instruction has any effect, and stops if the definitions give no effect: for example,
+//! if an unset register is read. Tests compare the machine for accepted programs with this machine.
 #![tactic(auto)]
 
 mod arithmetic;

@@ -37,7 +37,6 @@ fn load(
     Some(read(memory, place, size))
 }
 
-/// Executes a load.
 pub fn step_load<A: Allocator>(
     code: &Code<A>,
     cpu: &mut Cpu,
@@ -59,7 +58,6 @@ pub fn step_load<A: Allocator>(
     cpu.set(code, 1, dst, Value::Number(x))
 }
 
-/// Executes a sign-extending load.
 pub fn step_load_signed<A: Allocator>(
     code: &Code<A>,
     cpu: &mut Cpu,

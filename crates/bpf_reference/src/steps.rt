@@ -1,4 +1,4 @@
-//! The execution of one instruction.
+//! Executes one instruction.
 
 ghost use Rattle.std.specs.Prelude.{◌≤◌, ℕ, List, length, IsTrue};
 ghost use Rattle.bpf_helpers.specs.declared.values.Env.{Env as EnvOf};

@@ -7,7 +7,6 @@ ghost use Rattle.bpf_helpers.specs.Machine.{on_number, on_numbers, written_value
 use bpf_helpers::{Region, Value};
 use bpf_insn::{Op, Test, Width, apply, holds};
 
-/// An operation on two numbers.
 fn apply_to_two(op: Op, width: Width, a: Value, b: Value) -> Option<Value>
     ensures { result ≡ on_numbers (result_of op width) a b }
 {
@@ -27,7 +26,7 @@ fn apply_to_one(op: Op, width: Width, b: Value) -> Option<Value>
     }
 }
 
-/// The value of a register that was set. `None` if it is unset.
+/// The value of a register, if the register is set.
 fn written(b: Value) -> Option<Value>
     ensures { result ≡ written_value b }
 {
@@ -95,7 +94,7 @@ fn difference(a: Value, b: Value) -> Option<Value>
     }
 }
 
-/// The result of an operation on the destination and the operand. `None` if the operation does not take such values.
+/// The result of an operation on the destination and the operand, if the operation accepts these values.
 pub fn outcome(op: Op, width: Width, a: Value, b: Value) -> Option<Value>
     ensures { result ≡ outcome_of op width a b }
 {
@@ -108,7 +107,7 @@ pub fn outcome(op: Op, width: Width, a: Value, b: Value) -> Option<Value>
     }
 }
 
-/// The result of a jump's test. `None` unless both values are numbers.
+/// The result of a jump's test, if both values are numbers.
 pub fn comparison(test: Test, width: Width, a: Value, b: Value) -> Option<bool>
     ensures { result ≡ comparison_of test width a b }
 {

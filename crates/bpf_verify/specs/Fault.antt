@@ -1,4 +1,4 @@
--- The faults of instructions that are reached, and the text of a fault (own).
+-- The faults of instructions that are reached, and the text of a fault.
 use Rattle.std.specs.Prelude.{ℕ, List, Option, Some, None, codes}
 use Rattle.bpf_insn.specs.Decoding.{with_place}
 use Rattle.bpf_flow.specs.declared.fault.FlowFault.{FlowFault}

@@ -10,11 +10,11 @@ use Rattle.bpf_verify.specs.States.{States, state_at}
 abbrev pub IsAt : List Kind → ℕ → Kind → Type 0
 IsAt pool place kind = slice_get pool place ≡ Some kind
 
--- The new pool has each kind of the old one at the same index.
+-- The new pool has each kind of the old pool at the same index.
 abbrev pub Extends : List Kind → List Kind → Type 0
 Extends old new = (place : ℕ) (kind : Kind) → IsAt old place kind → IsAt new place kind
 
--- The row has for each register the index of the register's kind in the state.
+-- The row has, for each register, the pool index of the register's kind in the state.
 abbrev pub IsRowOf : List Kind → List ℕ → State → Type 0
 IsRowOf pool row s = (r : ℕ) → r < 11 → IsAt pool (slice_index_or row r 0) (kind_in s r)
 
@@ -25,7 +25,7 @@ IsRow pool None (Some s) = ⊥
 IsRow pool (Some row) None = ⊥
 IsRow pool (Some row) (Some s) = IsRowOf pool row s
 
--- each row is that of its unit, and later units may have no row yet
+-- each row is the row of its unit; later units may have no row yet
 abbrev pub AreRowsOf : List Kind → List (Option (List ℕ)) → States → Type 0
 AreRowsOf pool rows states = (u : ℕ) → u < length rows → IsRow pool (option_flatten (slice_get rows u)) (state_at states u)
 

@@ -8,7 +8,6 @@ use Rattle.bpf_flow.specs.declared.state.State.{State}
 abbrev pub States : Type 0
 States = List (Option State)
 
--- the state at a unit
 abbrev pub state_at : States → ℕ → Option State
 state_at states at = option_flatten (slice_get states at)
 

@@ -1,4 +1,4 @@
--- The structural faults of instructions, reached or not, and the reasons to refuse a code (own).
+-- The structural faults of instructions, reached or not, and the reasons to refuse a code.
 use Rattle.std.specs.Prelude.{ℕ, ◌≡◌, ◌≢◌, ⊤, ◌+◌, ◌<◌, ◌⊎◌, ◌==◌, nat_le, if◌then◌else◌, ℤ, pos, negsuc, List, [], Option, Some, None, IsSome}
 use Rattle.std.specs.Option.{option_and_then, is_some}
 use Rattle.bpf_insn.specs.declared.insn.Insn.{Insn}
@@ -15,20 +15,20 @@ abbrev pub first_of : Option VerifyFault → Option VerifyFault → Option Verif
 first_of None b = b
 first_of (Some f) b = Some f
 
--- R10 is never written.
+-- R10 must not be written.
 abbrev pub frame_fault : ℕ → ℕ → Option VerifyFault
 frame_fault at d = if d == 10 then Some (FrameWritten at) else None
 
--- The called helper exists.
+-- The called helper must exist.
 abbrev pub helper_fault : ℕ → ℤ → Option VerifyFault
 helper_fault at id = if is_some (numbered id) then None else Some (NoHelper at)
 
--- A jump leads forward to a unit at which an instruction begins.
+-- A jump must lead forward to a unit at which an instruction begins.
 abbrev pub jump_fault : List Insn → ℕ → ℤ → Option VerifyFault
 jump_fault code at (pos k) = if nat_le (unit_count code) (at + 1 + k) then Some (JumpOut at) else (if is_some (fetch code (at + 1 + k)) then None else Some (JumpIntoWide at))
 jump_fault code at (negsuc k) = Some (Backward at)
 
--- An instruction of n units that continues to the next one is not the last one of the code.
+-- An instruction of n units that continues at the next unit must not be the last instruction of the code.
 abbrev pub end_fault : List Insn → ℕ → ℕ → Option VerifyFault
 end_fault code at n = if at + n == unit_count code then Some (FallsOff at) else None
 
@@ -55,19 +55,19 @@ pub record IsBuilt (code : List Insn) : Type 0 where
   pub some : code ≢ []
   pub each : (at : ℕ) → unit_fault code at ≡ None
 
--- The fault is that of the first instruction that has one.
+-- The fault is the fault of the first invalid instruction.
 pub record IsFirst (code : List Insn) (fault : VerifyFault) : Type 0 where
   pub at : ℕ
   pub is : unit_fault code at ≡ Some fault
   pub before : (u : ℕ) → u < at → unit_fault code u ≡ None
 
--- The structure is invalid: there is no instruction, or this is the fault of the first instruction that has one.
+-- The structure is invalid: there is no instruction, or the fault is that of the first invalid instruction.
 abbrev pub IsMisbuilt : List Insn → VerifyFault → Type 0
 IsMisbuilt code fault = ((code ≡ []) × (fault ≡ Empty)) ⊎ IsFirst code fault
 
 -- ---- refusals
 
--- A fault that the pass may report: an instruction begins at the unit that it names, or memory ran out.
+-- A fault that the pass may report: the fault names a unit at which an instruction begins, or memory ran out.
 abbrev pub IsMet : List Insn → VerifyFault → Type 0
 IsMet code NoMemory = ⊤
 IsMet code Empty = ⊥
@@ -89,6 +89,6 @@ IsMet code (OutOfRecord at) = IsSome (fetch code at)
 IsMet code (OutOfArgument at) = IsSome (fetch code at)
 IsMet code (OutOfStack at) = IsSome (fetch code at)
 
--- A code is refused because its structure is invalid; or its structure is valid, and the pass over its instructions met a fault.
+-- A code is refused because its structure is invalid, or because the pass over its instructions met a fault.
 abbrev pub IsRefused : List Insn → VerifyFault → Type 0
 IsRefused code fault = IsMisbuilt code fault ⊎ (IsBuilt code × IsMet code fault)

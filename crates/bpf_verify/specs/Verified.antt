@@ -11,7 +11,7 @@ use Rattle.bpf_flow.specs.declared.state.State.{State}
 use Rattle.bpf_flow.specs.States.{IsConfig, Fits, kind_in}
 use Rattle.bpf_verify.specs.States.{States, state_at}
 
--- The kind that the state at a unit gives a register, if there is a state.
+-- The kind of a register in the state at a unit, if there is a state.
 abbrev pub kind_at : States → ℕ → ℕ → Option Kind
 kind_at states at r = option_map (λ s. kind_in s r) (state_at states at)
 
@@ -22,14 +22,14 @@ pub record FitsAt (states : States) (c : Config) : Type 0 where
   pub fits : Fits state c
   pub config : IsConfig c
 
--- The run continues to a configuration at a later unit, which fits the state there.
+-- The run continues to a later unit, and the configuration there fits the state.
 pub record GoesOn (code : List Insn) (states : States) (c : Config) : Type 0 where
   pub next : Config
   pub steps : step code c ≡ Some next
   pub later : c.place < next.place
   pub fits : FitsAt states next
 
--- From a configuration that fits, the run ends or continues to one that fits.
+-- From a configuration that fits, the run ends or continues to a configuration that fits.
 abbrev pub Consistent : List Insn → States → Type 0
 Consistent code states = (c : Config) → FitsAt states c → IsSome (ended code c) ⊎ GoesOn code states c
 

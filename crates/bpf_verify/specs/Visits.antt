@@ -44,13 +44,13 @@ pub record VisitedAt (i : Insn) (s : State) (old new : States) (at : ℕ) : Type
   pub far : (k : ℕ) → distance_of i ≡ pos k → to ≡ at + 1 + k
   pub taken : Visited i s old new (at + units_of i) to
 
--- the stored state of the unit u is the known one
+-- the stored state of the unit u is the known state
 pub record Ready (known kept : States) (u : ℕ) : Type 0 where
   pub within : u < length kept
   pub noted : u < length known
   pub same : state_at kept u ≡ state_at known u
 
--- The states that a pass stores when it has come to the unit `at`: all that it knows, or those from `at` on.
+-- The states that a pass stores when it has reached the unit `at`: all known states, or those from `at` on.
 pub record Keeps (all : Bool) (at : ℕ) (known kept : States) : Type 0 where
   pub long : length kept ≡ length known
   pub whole : all ≡ true → kept ≡ known
@@ -67,7 +67,7 @@ pub record Adds (code : List Insn) (old new : States) (at : ℕ) : Type 0 where
   pub grows : Grows old new at
   pub are : AreStates code new
 
--- the configuration is at a unit after `at` at which an instruction begins, and fits the state there
+-- the configuration is at a unit after `at`, an instruction begins there, and the configuration fits the state there
 pub record Arrived (code : List Insn) (states : States) (at : ℕ) (c : Config) : Type 0 where
   pub later : at < c.place
   pub begins : IsSome (fetch code c.place)

@@ -1,4 +1,4 @@
-// States that only clauses read: they let proofs speak of all states of a pass without storing any at run time.
+// States that only contracts read: proofs can speak of all states of a pass although no state is stored at run time.
 ghost use Rattle.std.specs.Prelude.{◌≡◌, slice_set, replicate, Some, None};
 ghost use base.Fml.{ftrue};
 ghost use Rattle.bpf_verify.specs.States.{States as StateList};
@@ -6,7 +6,7 @@ ghost use Rattle.bpf_verify.specs.States.{States as StateList};
 use bpf_flow::State;
 use std::marker::Model;
 
-/// The states of a program, by unit, for clauses. It is empty at run time and owns nothing.
+/// The states of a program, by unit, for contracts. A `GhostStates` is empty at run time and owns nothing.
 pub struct GhostStates {
     pub ghost states: { StateList },
 }
@@ -24,7 +24,7 @@ impl GhostStates {
         GhostStates {}
     }
 
-    /// Returns the states with the one at a unit replaced.
+    /// Returns the states with the state at the unit `at` replaced.
     #[inline(always)]
     pub(crate) fn with(&self, at: usize, state: &State) -> GhostStates
         ensures { result.states ≡ slice_set self.now.states at (Some state.now) }

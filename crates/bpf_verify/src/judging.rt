@@ -45,9 +45,9 @@ pub fn examine<A: Allocator + Copy>(alloc: A, code: Code<A>) -> Result<Examined<
     }
 }
 
-/// Accepts a program, which is then safe, or refuses the program and returns it with the fault.
+/// Accepts a program, which is then safe, or returns the refused program with its fault.
 ///
-/// The structure is tested first: each instruction in order, reached or not. Then each reached instruction is visited once, in order,
+/// The structure is checked first: each instruction in order, reached or not. Then each reached instruction is visited once, in order,
 /// with the state before it. Only the first fault is reported. `NoMemory` implies that the structure has no fault.
 pub fn verify<A: Allocator + Copy>(
     alloc: A,

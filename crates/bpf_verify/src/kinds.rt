@@ -1,4 +1,4 @@
-//! The kinds of registers before each instruction of a program, in a table that takes little room.
+//! The kinds of registers before each instruction of a program, in a compact table.
 
 ghost use Rattle.std.specs.Prelude.{◌≡◌, ◌≤◌, ◌<◌, ◌+◌, [], true, length, Some, None, IfOk, OnOk, vec_len, vec_capacity};
 ghost use Rattle.bpf_verify.specs.Kinds.{AddsRow, AreRows, Extends, IsAt};
@@ -16,11 +16,10 @@ pub(crate) struct Kinds<A: Allocator> {
     pub(crate) pool: Vec<Kind, A>,
     // One row for each unit so far; `None` if the unit has no state.
     pub(crate) rows: Vec<Option<[u16; 11]>, A>,
-    // The last row. The kinds of the next row are looked up there first.
+    // The last row that is not `None`. The kinds of the next row are looked up there first.
     last: [u16; 11],
 }
 
-// Compares two kinds.
 fn is_same(one: &Kind, other: &Kind) -> bool
     ensures { result ≡ true → one.now ≡ other.now }
 {
@@ -37,7 +36,7 @@ fn is_same(one: &Kind, other: &Kind) -> bool
 }
 
 impl<A: Allocator> Kinds<A> {
-    /// Creates a table of no units, with memory for `units` rows and as many kinds.
+    /// Creates an empty table, with memory for `units` rows and at least `units` kinds.
     pub(crate) fn new(alloc: A, units: usize) -> Result<Kinds<A>, AllocError>
     where
         A: Copy,
@@ -82,7 +81,7 @@ impl<A: Allocator> Kinds<A> {
         Ok(())
     }
 
-    // The index of a kind in the pool: the likely one, 0 (which has `Unset`), or that of a new entry.
+    // The index of a kind in the pool: `likely` or 0 (the index of `Unset`) if the kind is there, otherwise a new index.
     fn place(&mut self, likely: u16, kind: &Kind) -> Result<u16, AllocError>
         requires few { length self.old.pool.items < 0x1_0000 }
         ensures at { IfOk result (λ place. IsAt self.new.pool.items place kind.now) }
@@ -119,7 +118,7 @@ impl<A: Allocator> Kinds<A> {
         self.pool.shrink_to_fit();
     }
 
-    /// The kind of a register at a unit. `None` if the unit has no state.
+    /// Returns the kind of a register at a unit, or `None` if the unit has no state.
     pub(crate) fn get(&self, at: usize, register: usize) -> Option<Kind>
         requires { register ≤ 10 }
         ensures { (states : States) → AreRows self.now.pool.items self.now.rows.items states → result ≡ kind_at states at register }

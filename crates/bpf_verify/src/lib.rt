@@ -1,7 +1,7 @@
 //! The verifier: accepts or refuses programs, and computes the state before each of their instructions.
 //!
-//! `verify` tests a program's structure and then visits its instructions once, in order, with the state of the registers before each. An
-//! accepted program is safe: it reads no register that was not set, touches nothing outside its record, argument and stack, stays in its
+//! `verify` checks a program's structure, and then visits its reached instructions once, in order, with the state before each. An
+//! accepted program is safe: it never reads an unset register, touches nothing outside its record, argument and stack, stays in its
 //! code, and takes at most as many steps as it has instructions.
 #![tactic(auto)]
 

@@ -12,14 +12,14 @@ use crate::table::States;
 use bpf_flow::{State, join_states};
 use std::alloc::{AllocError, Allocator};
 
-/// The states of a pass: all of them, for clauses only; and the stored ones, which are either all or those of the units ahead.
+/// The states of a pass. `noted` has all states, for contracts only. `kept` has the stored states: either all, or those of the units ahead.
 #[derive(Drop)]
 pub(crate) struct Pass<A: Allocator> {
     pub(crate) noted: GhostStates,
     pub(crate) kept: States<A>,
 }
 
-/// Joins the new state with the old one, if there is one.
+/// Joins the new state with the old state, if any.
 fn joined<A: Allocator>(old: Option<Box<State, A>>, state: Box<State, A>) -> Box<State, A>
     ensures new { (c : _) → Fits (box_value state) c → Fits (box_value result) c }
     ensures kept { (s : _) (c : _) → option_map box_value old ≡ Some s → Fits s c → Fits (box_value result) c }

@@ -1,4 +1,4 @@
-//! Faults of instructions, reached or not.
+//! Structural faults of instructions, reached or not.
 
 ghost use Rattle.std.specs.Prelude.{◌≡◌, ◌<◌, ◌≤◌, ◌≤ℤ◌, pos, OnOk, IfErr, IfNone, MatchOption};
 ghost use Rattle.bpf_insn.specs.Spelling.{HasSpelling};
@@ -96,8 +96,8 @@ fn unit_fault<A: Allocator>(code: &Code<A>, at: usize) -> Option<VerifyFault>
     insn_fault(code, at, insn)
 }
 
-/// Tests a code's structure: there is an instruction, and no instruction has a fault. The error is `Empty`, or the fault of the first
-/// instruction that has one.
+/// Checks a code's structure. Returns `Empty` if the code has no instruction, otherwise the structural fault of the first invalid
+/// instruction, if any.
 pub fn structure<A: Allocator>(code: &Code<A>) -> Result<(), VerifyFault>
     ensures ok { OnOk result (IsBuilt code.now) }
     ensures err { IfErr result (IsMisbuilt code.now) }

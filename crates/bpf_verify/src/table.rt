@@ -9,8 +9,8 @@ use bpf_flow::State;
 use std::alloc::{AllocError, Allocator, Global};
 use std::marker::Model;
 
-/// The state before the instruction at each unit. A unit has no state if no edge leads to it. A unit without a state takes the memory of a
-/// pointer.
+/// The state before the instruction at each unit. A unit has no state if no edge leads to the unit. A unit without a state takes the memory
+/// of a pointer.
 #[derive(Drop)]
 pub struct States<A: Allocator = Global> {
     boxes: Vec<Option<Box<State, A>>, A>,
@@ -25,7 +25,7 @@ impl<A: Allocator> Model for States<A> {
 }
 
 impl<A: Allocator> States<A> {
-    /// Creates the table of no units. Allocates no memory.
+    /// Creates an empty table. Allocates no memory.
     pub(crate) fn empty(alloc: A) -> States<A>
         ensures { result ≡ [] }
     {
@@ -34,7 +34,7 @@ impl<A: Allocator> States<A> {
         }
     }
 
-    /// Creates the table with no state at any of `units` units.
+    /// Creates a table of `units` units without states.
     pub(crate) fn none(alloc: A, units: usize) -> Result<States<A>, AllocError>
         ensures { IfOk result (λ s. s ≡ replicate units None) }
     {
@@ -46,7 +46,7 @@ impl<A: Allocator> States<A> {
         Ok(States { boxes })
     }
 
-    /// The state at a unit.
+    /// Returns the state at a unit, or `None` if the unit has no state.
     pub fn get(&self, at: usize) -> Option<&State>
         ensures { option_map (λ s. s.now) result ≡ state_at self.now at }
     {
@@ -56,7 +56,7 @@ impl<A: Allocator> States<A> {
         Some(&**boxed)
     }
 
-    /// Sets the state at a unit, and drops the old one.
+    /// Sets the state at a unit, and drops the old state.
     pub(crate) fn put(&mut self, at: usize, state: Box<State, A>)
         requires { at < length self.old }
         ensures { self.new ≡ slice_set self.old at (Some (box_value state)) }

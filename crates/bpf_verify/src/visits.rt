@@ -24,7 +24,6 @@ use bpf_flow::{FlowFault, State, Way, flow, flow_branch};
 use bpf_insn::{Code, Insn, Operand, Test, Width};
 use std::alloc::{AllocError, Allocator};
 
-/// The jump distance of an instruction.
 fn distance(insn: Insn) -> i64
     ensures value { result ≡ distance_of insn }
     ensures small { result ≤ℤ pos 0x8000_0000 }
@@ -37,7 +36,7 @@ fn distance(insn: Insn) -> i64
     }
 }
 
-/// Joins the state after an instruction into the unit at which the run continues, if there is one. The way is not `Both`.
+/// Joins the state after an instruction into the unit at which the run continues, if any. `way` must not be `Both`.
 fn settle<A: Allocator + Copy>(
     pass: &mut Pass<A>,
     way: Way,
@@ -155,8 +154,8 @@ fn visit_insn<A: Allocator + Copy>(
     }
 }
 
-/// Visits the instruction at a unit, unless the unit has no state: joins the states on the edges into their targets, and adds the kinds of
-/// registers before the instruction. Returns the unit's executable form.
+/// Visits the instruction at a unit if the unit has a state: joins the states on the edges into their targets. Adds the unit to `kinds`
+/// and returns the executable form of the unit.
 fn visit<A: Allocator + Copy>(
     alloc: A,
     code: &Code<A>,
@@ -194,7 +193,7 @@ fn visit<A: Allocator + Copy>(
     Ok(flat)
 }
 
-/// The result of a pass over a program: all its states, for clauses only; the stored states; and the executable form and the kinds of
+/// The result of a pass over a program: all its states, for contracts only; the stored states; and the executable form and the kinds of
 /// registers of each unit.
 #[derive(Drop)]
 pub(crate) struct PassResult<A: Allocator> {
@@ -204,7 +203,7 @@ pub(crate) struct PassResult<A: Allocator> {
     pub(crate) kinds: Kinds<A>,
 }
 
-/// Begins the pass with the state at the start.
+/// Begins the pass with the state at the start of a run.
 fn begin<A: Allocator + Copy>(alloc: A, code: &Code<A>) -> Result<Pass<A>, AllocError>
     requires { IsBuilt code.now }
     ensures are { IfOk result (λ p. AreStates code.now p.noted.states) }
@@ -217,8 +216,8 @@ fn begin<A: Allocator + Copy>(alloc: A, code: &Code<A>) -> Result<Pass<A>, Alloc
     Ok(pass)
 }
 
-/// Visits each reached instruction once, in order. The structure must have no fault. The error is the first fault, with the stored states
-/// at that time: all of them, or those of the units ahead.
+/// Visits each reached instruction once, in order. The structure must be valid. On error, returns the first fault and the states stored at
+/// that time: all states if `all` is true, otherwise those of the units ahead.
 pub(crate) fn pass_over<A: Allocator + Copy>(
     alloc: A,
     code: &Code<A>,

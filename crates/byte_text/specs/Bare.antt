@@ -8,7 +8,6 @@ use Rattle.byte_text.specs.declared.layouts.Number.TheVariants.{U8, U16, U32, U6
 use Rattle.byte_text.specs.declared.layouts.Kind.{Kind}
 use Rattle.byte_text.specs.declared.layouts.Kind.TheVariants as kinds
 
--- a number in decimal
 abbrev pub bare_number : Number → ℕ → List ℕ
 bare_number U8 n = decimal n
 bare_number U16 n = decimal n

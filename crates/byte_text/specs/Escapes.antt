@@ -36,7 +36,7 @@ bytes_left Escape (c ∷ cs) = cond (c == 120) (bytes_left High cs) (with_byte (
 bytes_left High (c ∷ cs) = option_and_then (λ high. bytes_left (Low high) cs) (hex_digit_value c)
 bytes_left (Low high) (c ∷ cs) = with_byte (option_map (λ low. 16 * high + low) (hex_digit_value c)) (bytes_left Plain cs)
 
--- the bytes that the text represents after one step of the reader
+-- the bytes of a text, given the step on its first byte and the remaining text
 abbrev pub after_step : Step → List ℕ → Option (List ℕ)
 after_step Refused cs = None
 after_step (Goes reading) cs = bytes_left reading cs

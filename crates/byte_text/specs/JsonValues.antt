@@ -1,4 +1,4 @@
--- Bytes as JSON: a string if they are UTF-8, otherwise hex. Values by a layout, as numbers, strings and hex.
+-- Bytes as JSON: a string if they are UTF-8, otherwise hex. Values by a layout: numbers, strings and hex.
 use Rattle.std.specs.Prelude.{ℕ, ◌++◌, cond, List, [], ◌∷◌, codes, decimal, length, take}
 use Rattle.std.specs.Str.{is_utf8}
 use Rattle.std.specs.Fmt.{signed_decimal}
@@ -20,7 +20,6 @@ hex_tokens bytes = begin_object ∷ key (codes "hex") ∷ string (encode_lower b
 abbrev pub text_tokens : List ℕ → List Token
 text_tokens bytes = cond (is_utf8 bytes) (string bytes ∷ []) (hex_tokens bytes)
 
--- a number that is a part of a value
 abbrev pub number_token : Number → ℕ → Token
 number_token U8 n = number (decimal n)
 number_token U16 n = number (decimal n)
@@ -39,12 +38,12 @@ abbrev pub parts_tokens : List Kind → List ℕ → List Token
 parts_tokens [] bytes = []
 parts_tokens (kind ∷ others) bytes = part_tokens kind bytes ++ parts_tokens others (left_by kind bytes)
 
--- a value by these kinds: one part alone, several as an array
+-- a value by these kinds: a single part as it is, several parts as an array
 abbrev pub laid_tokens : List Kind → List ℕ → List Token
 laid_tokens [] bytes = begin_array ∷ end_array ∷ []
 laid_tokens (kind ∷ []) bytes = parts_tokens (kind ∷ []) bytes
 laid_tokens (kind ∷ next ∷ others) bytes = begin_array ∷ (parts_tokens (kind ∷ next ∷ others) bytes ++ end_array ∷ [])
 
--- a value by a layout if the value fits it, otherwise like any bytes
+-- a value by a layout if the value fits it, otherwise by `text_tokens`
 abbrev pub value_tokens : List Kind → List ℕ → List Token
 value_tokens layout bytes = cond (fits layout (length bytes)) (laid_tokens layout bytes) (text_tokens bytes)

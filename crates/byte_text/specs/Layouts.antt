@@ -50,7 +50,7 @@ layout_of text = kinds_of (parts_of false text)
 
 -- ---- printing
 
--- true if a value with this number of bytes fits the kinds
+-- true if a value of `len` bytes fits the kinds
 abbrev pub fits : List Kind → ℕ → Bool
 fits [] len = len == 0
 fits (kinds.Number number ∷ others) len = nat_le (width_of number) len && fits others (len - width_of number)
@@ -91,7 +91,7 @@ left_by (kinds.Number number) bytes = drop (width_of number) bytes
 left_by kinds.Text bytes = []
 left_by kinds.Hex bytes = []
 
--- this number of bytes is enough for a part of this kind
+-- `len` bytes are enough for a part of this kind
 abbrev pub HasRoom : Kind → ℕ → Type 0
 HasRoom (kinds.Number number) len = width_of number ≤ len
 HasRoom kinds.Text len = ⊤
@@ -102,7 +102,7 @@ abbrev pub laid : Bool → List Kind → List ℕ → List ℕ
 laid behind [] bytes = []
 laid behind (kind ∷ others) bytes = part_by behind kind bytes ++ laid true others (left_by kind bytes)
 
--- a value by a layout if the value fits it, otherwise as text; an empty value is a dot
+-- a value by a layout if the value fits it, otherwise by `text_of_bytes`; an empty value is a dot
 abbrev pub text_by : List Kind → List ℕ → List ℕ
 text_by layout [] = text_of_bytes []
 text_by layout (b ∷ bs) = cond (fits layout (length (b ∷ bs))) (laid false layout (b ∷ bs)) (text_of_bytes (b ∷ bs))

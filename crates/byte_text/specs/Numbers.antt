@@ -7,7 +7,7 @@ use Rattle.std.specs.Str.Parse.{digits_value}
 abbrev pub written : ℕ → List ℕ → ℕ → Option ℕ
 written most text n = cond (bytes_eq text (decimal n)) (cond (nat_le n most) (Some n) None) None
 
--- the number that a text represents in decimal without leading zeros, if it does not exceed the bound
+-- the number that a text represents in decimal without leading zeros, if the number does not exceed the bound
 unfoldable pub number_of : ℕ → List ℕ → Option ℕ
 number_of most text = written most text (digits_value 10 text)
 
@@ -15,7 +15,7 @@ number_of most text = written most text (digits_value 10 text)
 abbrev pub negated : ℕ → ℕ
 negated n = cond (n == 0) 0 (18446744073709551616 - n)
 
--- the word of 64 bits that represents a signed number: a decimal, after a minus sign if the number is negative
+-- the 64-bit word of the signed number that a text represents: a decimal number, after a minus sign if it is negative
 abbrev pub signed_of : List ℕ → Option ℕ
 signed_of [] = None
 signed_of (c ∷ cs) =

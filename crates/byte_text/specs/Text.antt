@@ -11,7 +11,7 @@ use Rattle.byte_text.specs.declared.escapes.Reading.TheVariants.{Plain}
 
 -- ---- reading
 
--- puts a text before the first of the parts
+-- puts a text before the first part
 abbrev pub onto : List ℕ → List (List ℕ) → List (List ℕ)
 onto front [] = front ∷ []
 onto front (part ∷ parts) = (front ++ part) ∷ parts
@@ -50,7 +50,7 @@ part_bytes text =
     (cond (starts_with nat_eq text (codes "u32:")) (number_bytes 4 4294967295 (drop 4 text))
     (cond (starts_with nat_eq text (codes "u64:")) (number_bytes 8 18446744073709551615 (drop 4 text)) (other_bytes text))))
 
--- the concatenation of bytes, if both exist
+-- the concatenation of two byte lists, if both exist
 abbrev pub joined : Option (List ℕ) → Option (List ℕ) → Option (List ℕ)
 joined None later = None
 joined (Some front) None = None
@@ -75,8 +75,8 @@ is_typed text =
     starts_with nat_eq text (codes "u8:") || (starts_with nat_eq text (codes "u16:") || (starts_with nat_eq text (codes "u32:")
     || (starts_with nat_eq text (codes "u64:") || (starts_with nat_eq text (codes "i64:") || starts_with nat_eq text (codes "hex:")))))
 
--- the text of bytes, each literally or as an escape; if the bytes start like a type, the first byte is `\xHH`; a single dot is an escape
--- too
+-- the text of bytes: each byte is literal or an escape; if the bytes start with a type and a colon, the first byte is `\xHH`; a single dot
+-- is an escape
 abbrev pub text_of_bytes : List ℕ → List ℕ
 text_of_bytes [] = codes "."
 text_of_bytes (b ∷ bs) =
@@ -85,7 +85,7 @@ text_of_bytes (b ∷ bs) =
 
 -- ---- the result of a reader
 
--- If true, the bytes that the text represents were appended. If false, the text is invalid.
+-- `true` if the bytes that the text represents were appended, `false` if the text is invalid
 abbrev pub Puts : Option (List ℕ) → Bool → List ℕ → List ℕ → Type 0
 Puts None true old new = ⊥
 Puts None false old new = ⊤

@@ -2,7 +2,7 @@
 use Rattle.std.specs.Prelude.{ℕ, ◌<◌, List, length, take, Option}
 use Rattle.std.specs.Io.KnownBytes.{Appends}
 
--- the known contents grow by a prefix of the text, but not by all of it
+-- the known contents grow by a proper prefix of the text
 pub record WritesPart (old new : Option (List ℕ)) (text : List ℕ) : Type 0 where
   pub count : ℕ
   pub within : count < length text

@@ -7,8 +7,8 @@ use crate::layouts::{Kind, Layout, Number, show_comma, takes};
 use crate::numbers::{number_from, show_number, show_signed};
 use std::alloc::{AllocError, Allocator};
 
-/// Appends a value to `text`: by the layout if the value fits it, otherwise the bytes unchanged. By a layout, numbers are in decimal, a
-/// `text` is unchanged, a `hex` is in hex, and commas separate the parts. Different values may have the same text.
+/// Appends a value to `text`. If the value does not fit the layout, its bytes are appended unchanged. Otherwise its parts are separated by
+/// commas: a number in decimal, a `text` unchanged, a `hex` in hex. Different values may have the same text.
 ///
 /// # Errors
 /// `AllocError` if allocation fails. On error, discard `text`.
@@ -27,7 +27,7 @@ pub fn show_bare<A: Allocator + Copy>(
     text.extend_from_slice(bytes)
 }
 
-// Appends the parts of a value, which must fit the kinds. If `behind` is true, a comma precedes the first part too.
+// Appends the parts of a value that fits the kinds. If `behind` is true, a comma precedes the first part too.
 fn show_parts<A: Allocator + Copy>(
     alloc: A,
     behind: bool,
@@ -48,7 +48,7 @@ fn show_parts<A: Allocator + Copy>(
     }
 }
 
-// Appends the first part, which has this kind, and returns the remaining bytes.
+// Appends the first part of `left`, which has this kind, and returns the remaining bytes.
 fn show_one<'a, A: Allocator + Copy>(
     alloc: A,
     kind: Kind,
@@ -77,7 +77,6 @@ fn show_one<'a, A: Allocator + Copy>(
     }
 }
 
-// Appends a number in decimal.
 fn show_bare_number<A: Allocator>(
     number: Number,
     value: u64,

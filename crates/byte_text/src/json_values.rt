@@ -11,7 +11,7 @@ use std::alloc::{AllocError, Allocator};
 /// Writes bytes as a string if they are UTF-8, and otherwise as an object with the member `hex`.
 ///
 /// # Errors
-/// `AllocError` if allocation fails. Some of the tokens may have been written.
+/// `AllocError` if allocation fails. Some tokens may have been written.
 pub fn write_text<A: Allocator + Copy>(
     alloc: A,
     writer: &mut Writer<A>,
@@ -42,11 +42,11 @@ fn write_hex<A: Allocator + Copy>(
     writer.end_object()
 }
 
-/// Writes a value: by the layout if the value fits it, otherwise as `write_text` does. By a layout, a number becomes a JSON number, and a
-/// `hex` an object with the member `hex`; a `text` is written as `write_text` does. Several parts become an array.
+/// Writes a value. If the value does not fit the layout, `write_text` writes it. Otherwise a number becomes a JSON number, a `hex` becomes
+/// an object with the member `hex`, and `write_text` writes a `text`. Several parts become an array.
 ///
 /// # Errors
-/// `AllocError` if allocation fails. Some of the tokens may have been written.
+/// `AllocError` if allocation fails. Some tokens may have been written.
 pub fn write_value<A: Allocator + Copy>(
     alloc: A,
     writer: &mut Writer<A>,
@@ -63,7 +63,7 @@ pub fn write_value<A: Allocator + Copy>(
     write_laid(alloc, writer, kinds, bytes)
 }
 
-// Writes a value by the kinds, which it must fit: one part alone, several as an array.
+// Writes a value that fits the kinds: a single part as it is, several parts as an array.
 fn write_laid<A: Allocator + Copy>(
     alloc: A,
     writer: &mut Writer<A>,
@@ -102,7 +102,7 @@ fn write_parts<A: Allocator + Copy>(
     }
 }
 
-// Writes the first part, which has this kind, and returns the remaining bytes.
+// Writes the first part of `left`, which has this kind, and returns the remaining bytes.
 fn write_part<'a, A: Allocator + Copy>(
     alloc: A,
     writer: &mut Writer<A>,
@@ -131,7 +131,6 @@ fn write_part<'a, A: Allocator + Copy>(
     }
 }
 
-// Writes a number that is a part of a value.
 fn write_number<A: Allocator>(
     writer: &mut Writer<A>,
     number: Number,

@@ -1,4 +1,4 @@
-//! Layouts: the types of the parts of a value. Prints values by a layout.
+//! Parses layouts, the types of the parts of a value. Prints values by a layout.
 ghost use Rattle.std.specs.Prelude.{◌≡◌, ◌++◌, ◌≤◌, IfOk, OnOk, Some, cond, false, true, length, option_map};
 ghost use Rattle.byte_text.specs.Text.{bytes_of_text};
 ghost use Rattle.byte_text.specs.Layouts.{HasRoom, comma, fits, hex_part, kind_named, laid, layout_of, left_by, part_by, number_named, number_text, text_by, text_part, width_of};
@@ -9,7 +9,7 @@ use crate::text::print_text;
 use std::alloc::{AllocError, Allocator};
 use std::marker::Model;
 
-/// A little-endian number in a value.
+/// The type of a little-endian number in a value.
 #[derive(Clone, Copy, Debug, PartialEq, Eq)]
 pub enum Number {
     U8,
@@ -46,7 +46,7 @@ impl<A: Allocator> Model for Layout<A> {
 }
 
 impl<A: Allocator> Layout<A> {
-    // Makes a layout of these kinds, without allocation.
+    // Makes a layout of these kinds without allocating.
     fn of(kinds: Vec<Kind, A>) -> Self
         ensures { result ≡ kinds.items }
     {
@@ -97,7 +97,7 @@ pub fn read_layout<A: Allocator>(alloc: A, text: &[u8]) -> Result<Option<Layout<
     Ok(Some(Layout::of(kinds)))
 }
 
-// Finds the kind with this name. Each kind except the last must be a number.
+// Returns the kind with this name. Each kind except the last must be a number.
 fn kind_at(name: &[u8], is_last: bool) -> Option<Kind>
     ensures { result ≡ cond is_last (kind_named name.now) (option_map Kind.Number (number_named name.now)) }
 {
@@ -146,8 +146,8 @@ fn named_number(name: &[u8]) -> Option<Number>
     None
 }
 
-/// Appends a value to `text`: by the layout if the value fits it, otherwise as text. An empty value is a dot. A final `text` or `hex`
-/// covers the remaining bytes, and is left out if none remain. Reading the text returns the bytes of the value.
+/// Appends a value to `text`: by the layout if the value fits it, otherwise like `show_text`. An empty value becomes a dot. A final `text`
+/// or `hex` has the remaining bytes, and is left out if no bytes remain. Reading the text returns the bytes of the value.
 ///
 /// # Errors
 /// `AllocError` if allocation fails. On error, discard `text`.
@@ -197,7 +197,7 @@ pub(crate) fn takes(kinds: &[Kind], len: usize) -> bool
     left == 0
 }
 
-// Appends the parts of a value, which must fit the kinds.
+// Appends the parts of a value that fits the kinds.
 fn show_laid<A: Allocator + Copy>(
     alloc: A,
     kinds: &[Kind],
@@ -216,7 +216,7 @@ fn show_laid<A: Allocator + Copy>(
     Ok(())
 }
 
-// Appends the first part, which has this kind, and returns the remaining bytes.
+// Appends the first part of `left`, which has this kind, and returns the remaining bytes.
 fn show_part<'a, A: Allocator + Copy>(
     alloc: A,
     kind: Kind,

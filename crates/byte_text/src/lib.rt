@@ -1,5 +1,5 @@
-//! Bytes as a text of one word: literal characters, escapes, numbers with their types, and bytes in hex. Reading a printed text returns the
-//! same bytes. The crate also prints values as JSON and as plain text, and `write_all` writes a text to a writer.
+//! Prints bytes as a text of one word (without spaces): literal characters, escapes, typed numbers, and hex. Reading a printed text returns
+//! the same bytes. The crate also prints values as JSON and as plain text, and `write_all` writes a text to a writer.
 #![tactic(auto)]
 
 mod bare;

@@ -6,7 +6,7 @@ ghost use Rattle.byte_text.specs.Numbers.{number_of, signed_of, signed_text, low
 use itoa::Buffer;
 use std::alloc::{AllocError, Allocator};
 
-/// A word of at least this value is negative as a signed number.
+/// The least 64-bit word that is negative as a signed number.
 const SIGN: u64 = 9_223_372_036_854_775_808;
 
 /// Parses a decimal number without leading zeros. Returns `None` if the text has another form or the number exceeds `most`. Does not
@@ -69,7 +69,7 @@ fn parsed(text: &[u8]) -> Option<u64>
     digits.parse().ok()
 }
 
-/// Parses a signed number of 64 bits and returns its two's complement. Returns `None` if the text is not a number of 64 bits.
+/// Parses a signed 64-bit number and returns it in two's complement. Returns `None` if the text is not a signed 64-bit number.
 pub fn read_signed(text: &[u8]) -> Option<u64>
     ensures { result ≡ signed_of text.now }
 {

@@ -1,4 +1,4 @@
-//! The parts of a text: each is a number with its type, bytes in hex, or text.
+//! Parses the parts of a text. A part is a number with its type, bytes in hex, or literal text.
 ghost use Rattle.std.specs.Prelude.{◌≡◌, ◌∷◌, ◌++◌, [], List, ℕ, Option, Some, None, false, IfOk, option_map};
 ghost use Rattle.std.specs.Borrow.{Bor};
 ghost use Rattle.std.specs.Result.{result_ok};

@@ -38,9 +38,9 @@ pub fn read_text<A: Allocator + Copy>(
     Ok(Some(bytes))
 }
 
-/// Appends bytes to `text` as one word. Printable ASCII is literal, except a space, a backslash and a comma; all other bytes are escapes.
-/// If the bytes begin like a typed number or hex, the first byte is an escape too. No bytes are a dot, and a single dot is `\.`. Reading
-/// the text returns these bytes.
+/// Appends bytes to `text` as one word. Printable ASCII is literal, except spaces, backslashes and commas. All other bytes are escapes.
+/// If the bytes begin with a type and a colon, the first byte is an escape too. An empty slice becomes a dot, and a single dot becomes
+/// `\.`. Reading the text returns these bytes.
 ///
 /// # Errors
 /// `AllocError` if allocation fails. On error, discard `text`.

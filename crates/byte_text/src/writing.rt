@@ -1,4 +1,4 @@
-//! Writes a whole text to a writer, in a loop over `write`.
+//! Writes a whole text to a writer by calling `write` in a loop.
 ghost use Rattle.std.specs.Prelude.{OnOk, OnErr, Some, codes};
 ghost use Rattle.std.specs.Io.KnownBytes.{Appends};
 ghost use Rattle.byte_text.specs.Writing.{WritesPart};

@@ -29,21 +29,21 @@ subcommand name rules = record (new_shape name) { rules = rules }
 abbrev pub with_alias : Text → Shape → Shape
 with_alias alias shape = record shape { aliases = shape.aliases ++ (alias ∷ []) }
 
--- the options of access: how long to wait for the lock, and whether to report the wait; for a command that writes also `--must-exist`
+-- the options for waiting for the lock; a command that writes also has `--must-exist`
 abbrev pub reading_access : List Rule
 reading_access = valued_option (codes "timeout") ∷ flag (codes "verbose") ∷ []
 
 abbrev pub writing_access : List Rule
 writing_access = flag (codes "must-exist") ∷ reading_access
 
--- the options for the format of the files, and those of access
+-- the options for the format of the files and for access to them
 abbrev pub reading_options : List Rule
 reading_options = flag (codes "unsigned") ∷ flag (codes "wide") ∷ flag (codes "insist") ∷ reading_access
 
 abbrev pub writing_options : List Rule
 writing_options = flag (codes "unsigned") ∷ flag (codes "wide") ∷ flag (codes "insist") ∷ writing_access
 
--- the options for the notation of bytes in arguments and lines, together with the format and access
+-- the options for the notation of bytes, the format of the files and access to them
 abbrev pub reading_in : List Rule
 reading_in = flag (codes "text") ∷ valued_option (codes "as") ∷ reading_options
 

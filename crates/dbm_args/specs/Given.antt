@@ -17,7 +17,7 @@ is_given id rows = option_map_or (λ text. bytes_eq text (codes "true")) (first_
 abbrev pub IsWord : Text → List Row → Bor Text → Type 0
 IsWord id rows text = first_of id rows ≡ Some text.now
 
--- the text is the value of the option; it is `None` if the option was not given
+-- the value of the option, or `None` if the option was not given
 abbrev pub IsOptionGiven : Text → List Row → Option (Bor Text) → Type 0
 IsOptionGiven id rows value = option_map (λ text. text.now) value ≡ first_of id rows
 

@@ -1,5 +1,5 @@
-//! The command line that subcommands share: their arguments for `clap`, the values that `clap` matched, the arguments that messages may
-//! show, and how those are printed.
+//! The parts of the command line that subcommands share: arguments declared for `clap`, the values that `clap` matched, and arguments as
+//! messages print them.
 #![tactic(auto)]
 
 pub mod arguments;

@@ -6,7 +6,7 @@ ghost use Rattle.dbm_args.specs.Given.{IsAccessOf, IsForm, IsNotation, is_given}
 use crate::options::{Access, Form, NotationOptions};
 use clap::ArgMatches;
 
-/// Returns the value of an argument or option, if it was given.
+/// Returns the value of `id`, or `None` if it was not given.
 pub fn word<'a>(matches: &ArgMatches<'a>, id: &str) -> Option<&'a str>
     ensures { option_map (λ text. text.now) result ≡ first_of id.now (rows_of (found_of matches.now)) }
 {

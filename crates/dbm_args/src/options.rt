@@ -25,7 +25,7 @@ pub struct NotationOptions<'a> {
 pub struct Head<'a> {
     /// The database whose files are read.
     pub base: Option<&'a str>,
-    /// The program's file, which is read as well.
+    /// The program's file.
     pub file: Option<&'a str>,
     /// The program's file is a program image, not a text.
     pub image: bool,
@@ -55,9 +55,9 @@ impl<'a> Head<'a> {
 /// The options for opening a database's files: `--timeout`, `--must-exist`, `--quick`, `--verbose` and `--insist`.
 #[derive(Clone, Copy)]
 pub struct Access<'a> {
-    /// The longest wait for the lock, in seconds. Without it the wait has no limit.
+    /// The longest wait for the lock, in seconds. `None` waits without limit.
     pub timeout: Option<&'a str>,
-    /// A missing database is an error; it is not created.
+    /// A missing database is an error instead of being created.
     pub must_exist: bool,
     /// Reads only the directory and the page of the key, if that is enough.
     pub quick: bool,
@@ -67,7 +67,7 @@ pub struct Access<'a> {
     pub insist: bool,
 }
 
-/// The unit of a time of day, which counts from the beginning of 1970 in UTC.
+/// The unit of the time of day, counted since the beginning of 1970 in UTC.
 #[derive(Clone, Copy)]
 pub enum TimeUnit {
     Seconds,

@@ -8,7 +8,7 @@ ghost use Rattle.dbm_args.specs.CommandLine as spec;
 use clap::{Arg, Command};
 use std::alloc::{AllocError, Global};
 
-/// Declares a subcommand. `about` describes it; `notes`, which end its help, describe its output and have an example.
+/// Declares a subcommand. `about` describes it. `notes`, at the end of its help, describe its output and give an example.
 ///
 /// # Errors
 /// `AllocError` if allocation fails.

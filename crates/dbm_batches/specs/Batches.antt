@@ -1,4 +1,4 @@
--- The result of a batch: workers do tasks on a database. Each task is a run of the same program.
+-- The result of a batch: workers do tasks on a database. Each task runs the same program.
 use Rattle.std.specs.Prelude.{◌≡◌, ◌⊎◌, ℕ, ◌≤◌, ◌++◌, Bool, List, [], ◌∷◌, length, map, Option, Some, None, IfSome, IsSome, ⊤}
 use Rattle.std.specs.List.{All, flat_map}
 use Rattle.std.specs.Borrow.{Bor}
@@ -37,7 +37,7 @@ use Rattle.dbm_reports.specs.Reports.{IsFileImage}
 
 -- ---- before standard input is read
 
--- the number of workers that a text gives
+-- the number of workers in a text
 abbrev pub workers_of : List ℕ → Option ℕ
 workers_of text = number_of 4294967295 text
 
@@ -48,7 +48,7 @@ pub record IsSubmitted (image : List ℕ) (programs : List Accepted) (id : ProgI
   pub alone : programs ≡ program ∷ []
   pub first : id.0 ≡ 0
 
--- A batch is ready: its number of workers is valid, the files spell its database, and the program of the file is registered.
+-- A batch is ready: its number of workers is valid, the files hold its database, and the program of the file is registered.
 pub record IsBatchReady (form : Form) (given : Given) (workers : Bor (List ℕ)) (is_image : Bool) (batch : Batch) : Type 0 where
   pub number : workers_of workers.now ≡ Some batch.workers
   pub opened : IsOpened form given batch.database
@@ -58,7 +58,7 @@ pub record IsBatchReady (form : Form) (given : Given) (workers : Bor (List ℕ))
 
 -- ---- the tasks
 
--- the run of a program with these words
+-- the task that runs a program with these words
 abbrev pub task_for : ProgId → RunWords Global → Task Global
 task_for program words = record { key = words.key; prog = program; arg = words.arg; blank = words.blank; now = words.now }
 
@@ -77,8 +77,8 @@ abbrev pub OnTasks : Notation Global → Option TimeOfDay → Batch → Option (
 OnTasks notation time batch input P =
     (words : List (RunWords Global)) × (IfSome input (λ bytes. AreShortTasks notation time bytes words) × P (map (task_for batch.program) words))
 
--- The calls of sessions lead from `before` to `after`: a legal history between the two consists of these calls. It has the calls of each
--- session in their order.
+-- The calls of sessions lead from `before` to `after`: a legal history between the two has exactly these calls, those of each session in
+-- order.
 pub record IsClosedAfter (before : Database) (calls : List (CallsState Global)) (after : Database) : Type 0 where
   pub entries : List (Entry Global)
   pub legal : History before.size before.kind (map_of before) entries (map_of after)
@@ -151,7 +151,7 @@ doing_causes batch tasks = record no_wish_causes {
   closing = λ fault. (calls : List (CallsState Global)) × (AreLeft batch tasks calls × IsRefusedClose (opened_by batch.database) calls fault);
 }
 
--- the causes of faults once the input was read: the lines are checked first, then the tasks are done
+-- the causes of faults after the input is read: the lines are checked first, then the tasks are done
 abbrev pub task_causes : Notation Global → Option TimeOfDay → Batch → Option (List ℕ) → WishCauses
 task_causes notation time batch input = record no_wish_causes {
   bad_line = λ number. IfSome input (λ bytes. HasBadLine notation time bytes number);

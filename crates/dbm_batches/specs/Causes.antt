@@ -23,7 +23,7 @@ pub record WishCauses : Type 1 where
   pub pool : PoolFault → Type 0
   pub closing : CloseFault → Type 0
 
--- the causes for a request that is not a batch
+-- the causes for a request that is neither a dump nor a batch
 abbrev pub only_report : Causes → WishCauses
 only_report causes = record {
   report = causes;
@@ -42,7 +42,7 @@ abbrev pub HasReportCause : Causes → ReportFault → Type 0
 HasReportCause causes reports.NoMemory = ⊥
 HasReportCause causes fault = IsCaused causes fault
 
--- A fault occurs only for its cause. `NoMemory` may come at any time. The faults without a cause here belong to other steps.
+-- A fault occurs only for its cause. `NoMemory` is possible at any time. The faults that are `⊥` belong to other steps.
 abbrev pub HasWishCause : WishCauses → ServeFault → Type 0
 HasWishCause causes NotText = ⊥
 HasWishCause causes ReadFile = ⊥

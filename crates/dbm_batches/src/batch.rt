@@ -32,7 +32,7 @@ use store_cmd::Reply;
 use store_shared::{Calls, CloseFault, NoGate, Store};
 use worker_pool::{Answers, PoolFault, Task, run_jobs};
 
-/// The largest number that is accepted as a number of workers. The pool refuses more than 4,096 workers.
+/// The largest number of workers that an argument may give. The pool itself refuses more than 4,096.
 const WORKERS_MOST: u64 = 4_294_967_295;
 
 /// A batch that is ready for its tasks. The program is the only one of the registry.
@@ -54,7 +54,7 @@ struct Done {
 /// Runs the subcommand `batch`: does the tasks, and then writes a line for each reply.
 ///
 /// # Errors
-/// The errors of `serve` of `dbm_reports`, with the faults of `report_batch`.
+/// The errors of `serve` of `dbm_reports`; the fault in `Unreported` is one of `report_batch`.
 pub fn serve_batch<T: Threads + Wait + Sync, R: Read, W: Write>(
     rt: &T,
     alloc: Global,
@@ -74,17 +74,18 @@ pub fn serve_batch<T: Threads + Wait + Sync, R: Read, W: Write>(
     }
 }
 
-/// Does the tasks on standard input. Each task runs the file's program on the database of the files. Reports the replies, and the database
+/// Does the tasks on standard input. Each task runs the program of the program file on the database. Reports the replies, and the database
 /// to write.
 ///
 /// # Errors
 /// The first of these faults:
 /// - `BadNumber` if the number of workers is invalid.
 /// - The faults of the files of the database, then those of the program's file, then `Submit` if the program is refused.
-/// - `Read` and `TooLong` of standard input, and `BadLine` with the number of the first line that is not a task.
+/// - `Read` if standard input cannot be read, `TooLong` if it is too long, and `BadLine` with the number of the first line that is not a
+///   task.
 /// - `Pool` if not all tasks were done, and `Close` if the workers' calls differ from those of the store.
 ///
-/// `NoMemory` may come at any time.
+/// `NoMemory` is possible at any time.
 pub fn report_batch<T: Threads + Wait + Sync, R: Read>(
     rt: &T,
     alloc: Global,
@@ -173,7 +174,7 @@ fn words_of_lines(
     read_tasks(alloc, notation, lines.as_slice())
 }
 
-// Returns a run of the program for each element of `words`.
+// Returns a task that runs the program for each element of `words`.
 fn tasks_for(
     alloc: Global,
     program: ProgId,
@@ -188,7 +189,7 @@ fn tasks_for(
     Ok(tasks)
 }
 
-// Returns the run of a program with these words.
+// Returns the task that runs a program with these words.
 fn task_for(program: ProgId, words: RunWords<Global>) -> Task<Global>
     ensures { result ≡ task_for program words }
 {
@@ -201,7 +202,7 @@ fn task_for(program: ProgId, words: RunWords<Global>) -> Task<Global>
     }
 }
 
-// Opens a store on the database of a batch, lets its workers do the tasks there, and closes the store.
+// Opens a store on the database of a batch, does the tasks with its workers, and closes the store.
 fn do_tasks<T: Threads + Wait + Sync>(
     rt: &T,
     alloc: Global,

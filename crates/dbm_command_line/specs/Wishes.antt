@@ -142,7 +142,7 @@ WishAsks name rows (wish.Asm asm) = (name ≡ codes "asm") × AsmAsks rows asm
 WishAsks name rows (wish.Disasm disasm) = (name ≡ codes "disasm") × DisasmAsks rows disasm
 WishAsks name rows (wish.Verify verify) = (name ≡ codes "verify") × VerifyAsks rows verify
 
--- the same for all subcommands, including `session`, `backup` and `programs`
+-- `WishAsks` for all subcommands, including `session`, `backup` and `programs`
 abbrev pub SubcommandAsks : Text → List Row → Ask → Type 0
 SubcommandAsks name rows (ask.Wish wish) = WishAsks name rows wish
 SubcommandAsks name rows (ask.Session session) = (name ≡ codes "session") × SessionAsks rows session

@@ -13,7 +13,7 @@ use thiserror::Error;
 /// The reason why a command line is refused. It prints as the text for the user.
 #[derive(Debug, Drop, Error)]
 pub enum ToolFault {
-    /// `clap` refuses the arguments; or they request help or the version, which is then the text of the error.
+    /// `clap` refuses the arguments, or they request help or the version. The error has the text for the user.
     #[error("{0}")]
     Refused(clap::Error),
     /// Out of memory.
@@ -36,8 +36,8 @@ impl ToolFault {
         }
     }
 
-    /// Prints the text for the user: help and the version to standard output, everything else to standard error. `clap`'s own text begins
-    /// with `error: `, and the name of a fault of this program with `dbm: `. Control characters in refused arguments print as escapes.
+    /// Prints the text for the user: help and the version to standard output, everything else to standard error. Messages of `clap` begin
+    /// with `error: `, and those of this program with `dbm: `. Control characters in refused arguments print as escapes.
     ///
     /// # Errors
     /// The error of the stream, or `OutOfMemory`.

@@ -51,7 +51,7 @@ pub fn tool_command<'a>(alloc: Global) -> Result<Command<'a>, AllocError>
     with_subcommand(command, batch_command(alloc))
 }
 
-// Adds a subcommand to a command. Fails if either could not be declared, or if allocation fails.
+// Adds a subcommand to a command. Fails if either declaration failed, or if allocation fails.
 fn with_subcommand<'a>(
     command: Result<Command<'a>, AllocError>,
     more: Result<Command<'a>, AllocError>,
@@ -72,9 +72,9 @@ fn titled_command<'a>(alloc: Global) -> Command<'a>
             "Keys and values are in hex, two digits a byte; with --text, or DBM_TEXT=1, they are text. . is no bytes.\n\
              Exit status:\n\
              0  success, and every other answer\n\
-             1  one command answered missing, exists, crowded or refused, run --expect got another code, or incr is at a bound\n\
+             1  one command answered missing, exists, crowded or refused, run --expect got another code, or incr met a bound or a short value\n\
              2  a fault, which is printed on standard error\n\
-             3  run --expect does not run the program\n\n\
+             3  run --expect answered missing, crowded or refused, or incr answered crowded or refused\n\n\
              Example: dbm store users ab xyz --text\n\
              stores the value xyz of the key ab in users.dir and users.pag.",
         )

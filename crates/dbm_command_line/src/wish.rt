@@ -10,8 +10,8 @@ use dbm_records::{Batch, Delete, EACH_CORE, Each, Fetch, Incr, Rename, Run, Stor
 use dbm_script::TimeOfDay;
 use dbm_session::Session;
 
-/// A request: one subcommand with its arguments and options as given. They are still text: none was read as bytes or as a number. A `base`
-/// names the files of a database, `BASE.dir` and `BASE.pag`.
+/// A request: one subcommand with its arguments and options as given. They are still text, not yet read as bytes or numbers. A `base` names
+/// the files of a database, `BASE.dir` and `BASE.pag`.
 #[derive(Clone, Copy)]
 pub enum Wish<'a> {
     Fetch(Fetch<'a>),
@@ -69,7 +69,7 @@ pub struct Request<'a> {
 }
 
 impl<'a> Wish<'a> {
-    /// Returns the files of the subcommand, whether the database is saved afterwards, and the notation of bytes.
+    /// Returns the head of the subcommand: its files, whether its database is saved afterwards, and its notation.
     pub fn head(&self) -> Head<'a>
         ensures { result ≡ head_of self.now }
     {
@@ -98,7 +98,7 @@ impl<'a> Wish<'a> {
         }
     }
 
-    /// Returns the unit of the time of day, if a `run` or an `each` has the time `now` or `now-ms`.
+    /// Returns the unit of the time of day if a `run` or an `each` has the time `now` or `now-ms`, otherwise `None`.
     pub fn time_asked(&self) -> Option<TimeUnit>
         ensures { result ≡ time_asked self.now }
     {
@@ -168,7 +168,7 @@ impl<'a> Wish<'a> {
         }
     }
 
-    /// The arguments that messages may show.
+    /// Returns the arguments that messages may show.
     pub fn words(&self) -> Words<'a> {
         match self {
             Wish::Fetch(fetch) => fetch.words(),

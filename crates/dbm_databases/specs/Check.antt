@@ -25,6 +25,6 @@ check_in check given = record {
   causes = opening_causes check.form given;
 }
 
--- the files of the subcommand, and the notation of its bytes
+-- the head of the subcommand: its files and its notation
 abbrev pub check_head : Check → Head
 check_head check = head_on (Some check.base)

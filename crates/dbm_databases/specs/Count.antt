@@ -39,6 +39,6 @@ count_in n count given = record {
   causes = listing_causes n count.form given count.prefix;
 }
 
--- the files of the subcommand, and the notation of its bytes
+-- the head of the subcommand: its files and its notation
 abbrev pub count_head : Count → Head
 count_head count = record (head_on (Some count.base)) { notation = count.notation }

@@ -28,6 +28,6 @@ keys_in n keys given = record {
   causes = listing_causes n keys.form given keys.prefix;
 }
 
--- the files of the subcommand, and the notation of its bytes
+-- the head of the subcommand: its files and its notation
 abbrev pub keys_head : Keys → Head
 keys_head keys = record (head_on (Some keys.base)) { notation = keys.notation }

@@ -28,6 +28,6 @@ list_in n list given = record {
   causes = listing_causes n list.form given list.prefix;
 }
 
--- the files of the subcommand, and the notation of its bytes
+-- the head of the subcommand: its files and its notation
 abbrev pub list_head : Listed → Head
 list_head list = record (head_on (Some list.base)) { notation = list.notation }

@@ -18,7 +18,7 @@ use Rattle.dbm_reports.specs.Databases.{IsOpened, key_bytes_of, page_size_of, Is
 use Rattle.dbm_script.specs.Numbers.{number_of}
 use Rattle.dbm_reports.specs.Causes.{Causes, no_causes, IsLongScript, input_causes}
 
--- the script on standard input with its shorthand expanded, if its bytes are known
+-- the script on standard input with its shorthand expanded, or `None` if its bytes are unknown
 abbrev pub spelled_input : Option TimeOfDay → Option (List ℕ) → Option (List ℕ)
 spelled_input time input = option_map (spelled_text OfScript time) input
 
@@ -30,7 +30,7 @@ pub record PlaysScript (notation : Notation Global) (before : Database) (input :
   pub size : after.size ≡ before.size
   pub status_is : report.status ≡ 0
 
--- a bad line is neither empty nor a request
+-- the line is bad: it is neither empty nor a request
 abbrev pub is_bad_line : Notation Global → List ℕ → Bool
 is_bad_line notation [] = false
 is_bad_line notation (c ∷ cs) = is_none (ask_of notation (pieces_of 32 (c ∷ cs)))
@@ -45,7 +45,7 @@ pub record IsBarred (before after : Database) (report : Report) : Type 0 where
   pub same : after ≡ before
   pub status_is : report.status ≡ 1
 
--- a script runs, except a strict script (`true`) with a bad line
+-- a script runs, unless it is strict (`true`) and has a bad line
 abbrev pub PlaysAs : Bool → Notation Global → Database → Option (List ℕ) → ℕ → Database → Report → Type 0
 PlaysAs false notation before input most after report = PlaysScript notation before input most after report
 PlaysAs true notation before input most after report =
@@ -61,7 +61,7 @@ PlaysAlone strict notation form input most report =
 abbrev pub PlaysOn : Bool → Notation Global → Option (List ℕ) → ℕ → Report → Database → Type 0
 PlaysOn strict notation input most report before = (after : Database) × (PlaysAs strict notation before input most after report × (report.database ≡ Some after))
 
--- the limit of the answers in bytes; without the option, the largest number
+-- the limit of the answers in bytes; by default the largest number of 64 bits
 abbrev pub output_limit : Option (Bor (List ℕ)) → Option ℕ
 output_limit None = Some 18446744073709551615
 output_limit (Some text) = number_of 18446744073709551615 text.now
@@ -70,7 +70,7 @@ output_limit (Some text) = number_of 18446744073709551615 text.now
 abbrev pub IsOverlong : Notation Global → Database → Option (List ℕ) → ℕ → Type 0
 IsOverlong notation db input most = IfSome input (λ bytes. AnswersExceed Global notation db bytes most)
 
--- the faults of a script on an open database, once the script was read
+-- the faults of a script on an open database, after the script is read
 abbrev pub play_causes : Notation Global → Database → Option (List ℕ) → ℕ → Causes
 play_causes notation db input most = record no_causes { overlong = IsOverlong notation db input most }
 
@@ -80,7 +80,7 @@ alone_causes notation form time input most = record (input_causes input) {
   overlong = IsOverlong notation (empty_database (key_bytes_of form.unsigned) (page_size_of form.wide)) (spelled_input time input) most;
 }
 
--- the faults of a script on the database of the files, which are opened before the script is read
+-- the faults of a script on the database in the files, which are opened before the script is read
 abbrev pub script_causes : Notation Global → Form → Given → Option TimeOfDay → Option (List ℕ) → ℕ → Causes
 script_causes notation form given time input most = record no_causes {
   opening = IsShut form given;
@@ -89,7 +89,7 @@ script_causes notation form given time input most = record no_causes {
   overlong = (db : Database) × (IsOpened form given db × IsOverlong notation db (spelled_input time input) most);
 }
 
--- a number is checked first; if it is valid, the faults that depend on it
+-- the fault of an invalid number; for a valid number, the faults that depend on it
 abbrev pub numbered_causes : Option ℕ → (ℕ → Causes) → Causes
 numbered_causes None causes = record no_causes { numbers = ⊤ }
 numbered_causes (Some n) causes = causes n

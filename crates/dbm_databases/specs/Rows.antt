@@ -26,16 +26,16 @@ key_line notation key = shown notation key ++ 10 ∷ []
 abbrev pub raw : List ℕ → List ℕ
 raw bytes = bytes ++ 0 ∷ []
 
--- a line with an object whose members are these strings
+-- a line with a JSON object of these two strings
 abbrev pub object_line : List ℕ → List ℕ → List ℕ
 object_line key value =
     123 ∷ 34 ∷ (codes "key" ++ (34 ∷ 58 ∷ (quoted key ++ (44 ∷ 34 ∷ (codes "value" ++ (34 ∷ 58 ∷ (quoted value ++ (125 ∷ 10 ∷ []))))))))
 
--- a line with a pair as a JSON object of two strings, key and value in the notation
+-- a line with a JSON object of two strings: key and value in the notation
 abbrev pub words_object : {A : Type 0} → Notation A → Pair → List ℕ
 words_object notation e = object_line (shown notation e.0) (value_shown notation e.1)
 
--- the tokens of a JSON object with the key as text, and the value in a layout
+-- the tokens of a JSON object: the key is text, and the value has the numbers and texts of a layout
 abbrev pub pair_tokens : List Kind → Pair → List Token
 pair_tokens layout e =
     begin_object ∷ member (codes "key") ∷ (text_tokens e.0 ++ (member (codes "value") ∷ (value_tokens layout e.1 ++ end_object ∷ [])))

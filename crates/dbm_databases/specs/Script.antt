@@ -32,6 +32,6 @@ script_in n (Some base) script given input = record {
   causes = numbered_causes (output_limit script.max_output) (script_causes n script.form given script.time input);
 }
 
--- the files of the subcommand, and the notation of its bytes
+-- the head of the subcommand: its files and its notation
 abbrev pub script_head : Script → Head
 script_head script = record (head_on script.base) { writes = is_some script.base; notation = script.notation }

@@ -25,6 +25,6 @@ stats_in stats given = record {
   causes = opening_causes stats.form given;
 }
 
--- the files of the subcommand, and the notation of its bytes
+-- the head of the subcommand: its files and its notation
 abbrev pub stats_head : Stats → Head
 stats_head stats = head_on (Some stats.base)

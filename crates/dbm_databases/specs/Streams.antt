@@ -1,4 +1,4 @@
--- How rows are written in parts.
+-- Rows that are written in parts.
 use Rattle.std.specs.Prelude.{◌≡◌, ℕ, ◌++◌, List, Option}
 use Rattle.std.specs.Io.KnownBytes.{Appends}
 

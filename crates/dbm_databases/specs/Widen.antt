@@ -39,6 +39,6 @@ widen_in widen given = record {
   causes = opening_causes (small_form widen.unsigned) given;
 }
 
--- the files of the subcommand, and the notation of its bytes
+-- the head of the subcommand: its files and its notation
 abbrev pub widen_head : Widen → Head
 widen_head widen = record (head_on (Some widen.base)) { writes = true }

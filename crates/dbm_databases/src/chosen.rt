@@ -12,7 +12,7 @@ use sdbm_addr::Bytes;
 use sdbm_files::Image;
 use std::alloc::Global;
 
-/// Reads the prefix, and then opens the database of the files.
+/// Reads the prefix, and then opens the database in the files.
 ///
 /// # Errors
 /// `BadHex`, or `BadText` in a text notation, if the prefix is invalid. The errors of `open`.

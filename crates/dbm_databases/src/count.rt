@@ -43,7 +43,7 @@ impl<'a> Count<'a> {
         })
     }
 
-    /// Returns the files of the subcommand and the notation of its bytes.
+    /// Returns the head of the subcommand: its files and its notation.
     pub fn head(&self) -> Head<'a>
         ensures { result ≡ count_head self.now }
     {
@@ -53,7 +53,7 @@ impl<'a> Count<'a> {
         }
     }
 
-    /// The arguments that messages may show.
+    /// Returns the arguments that messages may show.
     pub fn words(&self) -> Words<'a> {
         Words {
             first: match self.prefix {
@@ -119,7 +119,7 @@ impl Subcommand for Count<'_> {
     }
 }
 
-// The number of pairs whose keys begin with a prefix.
+// Counts the pairs whose keys begin with a prefix.
 fn count_pairs(image: &Image<Global>, prefix: &[u8]) -> Result<usize, AllocError>
     ensures { IfOk result (λ count. count ≡ length (chosen prefix.now (map.entries (map_of image.now)))) }
 {

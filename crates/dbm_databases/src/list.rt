@@ -50,7 +50,7 @@ impl<'a> List<'a> {
         })
     }
 
-    /// Returns the files of the subcommand and the notation of its bytes.
+    /// Returns the head of the subcommand: its files and its notation.
     pub fn head(&self) -> Head<'a>
         ensures { result ≡ list_head self.now }
     {
@@ -60,7 +60,7 @@ impl<'a> List<'a> {
         }
     }
 
-    /// The arguments that messages may show.
+    /// Returns the arguments that messages may show.
     pub fn words(&self) -> Words<'a> {
         Words {
             first: match self.prefix {
@@ -75,7 +75,7 @@ impl<'a> List<'a> {
         }
     }
 
-    /// Runs the subcommand. Writes the rows to `writer` as it makes them.
+    /// Runs the subcommand: writes the rows to `writer` in pieces.
     ///
     /// # Errors
     /// The errors of `serve_rows`.

@@ -21,7 +21,7 @@ use std::io::Read;
 /// The status of a strict script that did not run.
 const BARRED: u8 = 1;
 
-/// Returns the limit of the answers in bytes, `u64::MAX` without the option. Returns `None` if its value is not a number.
+/// Returns the limit of the answers in bytes, by default `u64::MAX`. Returns `None` if the option is not a number.
 pub fn output_limit(max_output: Option<&str>) -> Option<u64>
     ensures { result ≡ output_limit max_output.entry }
 {
@@ -71,7 +71,7 @@ pub fn report_alone<R: Read>(
     })
 }
 
-/// Runs a script on the database of the files.
+/// Runs a script on the database in the files.
 ///
 /// # Errors
 /// The errors of `open`, of `read_input` and of `play_as`.
@@ -101,7 +101,7 @@ pub fn report_played<R: Read>(
     )
 }
 
-// Runs a script, unless `strict` is set and a line is bad.
+// Runs a script. A strict script with a bad line does not run.
 fn play_as(
     alloc: Global,
     notation: &Notation<Global>,
@@ -120,7 +120,7 @@ fn play_as(
     play(alloc, notation, image, time, script, most)
 }
 
-// Runs a strict script.
+// Runs a script if it has no bad line, and otherwise reports the bad lines.
 fn play_strictly(
     alloc: Global,
     notation: &Notation<Global>,

@@ -27,7 +27,7 @@ pub enum Listing {
     RawKeys,
 }
 
-/// The form of the rows of `list`. `json` takes precedence over `null`.
+/// Returns the form of the rows of `list`. `json` takes precedence over `null`.
 pub fn pairs_listing(null: bool, json: bool) -> Listing
     ensures { result ≡ pairs_listing null json }
 {
@@ -40,7 +40,7 @@ pub fn pairs_listing(null: bool, json: bool) -> Listing
     Listing::Pairs
 }
 
-/// The form of the rows of `keys`.
+/// Returns the form of the rows of `keys`.
 pub fn keys_listing(null: bool) -> Listing
     ensures { result ≡ keys_listing null }
 {
@@ -176,7 +176,7 @@ fn show_object<A: Allocator + Copy>(
     }
 }
 
-// Appends a line with a pair as a JSON object, the value in a layout.
+// Appends a line with a pair as a JSON object. The value has the numbers and texts of a layout.
 fn show_typed<A: Allocator + Copy>(
     alloc: A,
     layout: &Layout<A>,
@@ -192,7 +192,7 @@ fn show_typed<A: Allocator + Copy>(
     Ok(text.push(b'\n')?)
 }
 
-// Writes a pair as a JSON object, the value in a layout.
+// Writes a pair as a JSON object. The value has the numbers and texts of a layout.
 fn write_pair<A: Allocator + Copy>(
     alloc: A,
     writer: &mut Writer<A>,
@@ -211,7 +211,7 @@ fn write_pair<A: Allocator + Copy>(
     writer.end_object()
 }
 
-// Appends a line with a pair as a JSON object of two strings, key and value in the notation.
+// Appends a line with a JSON object of two strings: key and value in the notation.
 fn show_words<A: Allocator + Copy>(
     alloc: A,
     notation: &Notation<A>,

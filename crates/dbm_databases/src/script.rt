@@ -19,7 +19,7 @@ use dbm_script::{Notation, TimeOfDay};
 use std::alloc::{AllocError, Global};
 use std::io::Read;
 
-/// The subcommand `script`. Runs the script on standard input. Without a base it runs on an empty database, which is then dropped.
+/// The subcommand `script`. Runs the script on standard input. Without a base, the script runs on an empty database, which is then dropped.
 /// `max_output` limits the bytes of the answers.
 #[derive(Clone, Copy, Debug)]
 pub struct Script<'a> {
@@ -31,7 +31,7 @@ pub struct Script<'a> {
     pub strict: bool,
     /// The lines may say `now` or `now-ms` for the time of day.
     pub clock: bool,
-    /// The time of day for the lines, once the clock was read.
+    /// The time of day for the lines. `None` until the clock is read.
     pub time: Option<TimeOfDay>,
 }
 
@@ -52,7 +52,7 @@ impl<'a> Script<'a> {
         })
     }
 
-    /// Returns the files of the subcommand and the notation of its bytes.
+    /// Returns the head of the subcommand: its files and its notation.
     pub fn head(&self) -> Head<'a>
         ensures { result ≡ script_head self.now }
     {
@@ -63,7 +63,7 @@ impl<'a> Script<'a> {
         }
     }
 
-    /// The arguments that messages may show.
+    /// Returns the arguments that messages may show.
     pub fn words(&self) -> Words<'a> {
         Words {
             layout: self.notation.layout,
@@ -106,8 +106,9 @@ pub fn script_command<'a>(alloc: Global) -> Result<Command<'a>, AllocError>
     let notes =
         "The lines are fetch KEY, insert KEY VALUE, replace KEY VALUE, delete KEY, incr KEY [AMOUNT], count,\n\
          program IMAGE and run KEY PROG ARG BLANK NOW; get, put and del are short for fetch, replace and delete.\n\
-         insert answers exists if the key exists, and replace replaces its value. IMAGE is the output of asm,\n\
-         and PROG the number that program answered, from 0 on. Empty lines and lines that begin with # are skipped. Prints\n\
+         insert answers exists if the key exists, and replace replaces its value. incr adds AMOUNT, by default 1,\n\
+         to a number, and answers ran 1 and the new number. IMAGE is the output of asm, and PROG the number that\n\
+         program answered, from 0 on. Empty lines and lines that begin with # are skipped. Prints\n\
          an answer for each other line, bad line if it is not a command; with --strict nothing is run then.\n\
          Lines end in LF: one that ends in CR LF is a bad line. All lines together have at most 16 MiB. Their\n\
          answers may have thousands of times as much; if they have more than BYTES, the fault is OutputTooLong.\n\n\

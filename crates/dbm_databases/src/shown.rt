@@ -6,7 +6,7 @@ use dbm_stats::{figures_text, stats_of};
 use sdbm_files::Image;
 use std::alloc::{AllocError, Global};
 
-/// A listing that a line of a session requests. Its prefix is written in the notation of the session.
+/// A listing that a line of a session requests. Prefixes are in the notation of the session.
 #[derive(Clone, Copy)]
 pub enum ListingRequest<'a> {
     /// The output of `list`, for the keys with this prefix.

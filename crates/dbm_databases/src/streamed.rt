@@ -1,4 +1,4 @@
-//! Writes rows as they are made, through a buffer of limited size.
+//! Writes the rows of a listing through a buffer of limited size.
 ghost use Rattle.std.specs.Prelude.{◌≡◌, ◌+◌, ◌<◌, ◌^◌, [], None, cond, false, length, IfOk, IfErr, IsSomeAnd, OnOk, OnErr};
 ghost use Rattle.std.specs.Io.KnownBytes.{Appends, Keeps};
 ghost use Rattle.sdbm_files.specs.Lent.{pairs_lent};
@@ -27,7 +27,7 @@ const ROOM: usize = 131_072;
 // The buffer is written once it has at least this many bytes.
 const FULL: usize = 65_536;
 
-// A text has fewer bytes than this.
+// The length of a text in bytes is below this limit.
 const TEXT_LIMIT: usize = 0x8000_0000_0000_0000;
 
 /// Serves a listing: reads the prefix, opens the database, and writes a row for each pair whose key begins with the prefix. The rows are
@@ -88,8 +88,7 @@ fn print_rows<W: Write>(
     }
 }
 
-// Makes all rows once to check that they have fewer than 2^63 bytes. Returns the empty buffer, which has grown to the capacity that writing
-// the rows needs.
+// Makes all rows once to check that they have fewer than 2^63 bytes. Returns an empty buffer with enough capacity to write the rows.
 fn measured_room(
     alloc: Global,
     notation: &Notation<Global>,
@@ -111,7 +110,7 @@ fn measured_room(
     Ok(room)
 }
 
-// If the buffer is full, adds its length to `count` and clears it. Returns the count.
+// If the buffer is full, adds its length to `count` and clears the buffer. Returns the count.
 fn count_full(count: usize, room: &mut Vec<u8>) -> Result<usize, AllocError>
     ensures { IfOk result (λ sum. sum + length room.new.items ≡ count + length room.old.items) }
 {
@@ -123,7 +122,7 @@ fn count_full(count: usize, room: &mut Vec<u8>) -> Result<usize, AllocError>
     Ok(sum)
 }
 
-// Returns the sum of two lengths. Fails if it is not below `TEXT_LIMIT`.
+// Returns the sum of two lengths. Fails if the sum is not below `TEXT_LIMIT`.
 fn sum_of(count: usize, more: usize) -> Result<usize, AllocError>
     ensures sum { IfOk result (λ sum. sum ≡ count + more) }
     ensures small { IfOk result (λ sum. sum < 2 ^ 63) }
@@ -168,7 +167,7 @@ fn write_rows<W: Write>(
     Ok(())
 }
 
-// Returns the fault of a row for which allocation fails.
+// Returns the fault if allocation fails for a row.
 fn want_of_memory(is_written: bool) -> Unserved<ReportFault>
     ensures { result ≡ cond is_written Unserved.Write (Unserved.Unreported ReportFault.NoMemory) }
 {

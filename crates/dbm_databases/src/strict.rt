@@ -28,7 +28,7 @@ pub fn has_bad_line(
     Ok(false)
 }
 
-/// Finds the bad lines of a script, for a note. The result is not proved.
+/// Finds the bad lines of a script, for a note. No clause describes the result.
 ///
 /// # Errors
 /// `AllocError` if allocation fails.

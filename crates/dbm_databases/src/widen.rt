@@ -35,7 +35,7 @@ impl<'a> Widen<'a> {
         })
     }
 
-    /// Returns the files of the subcommand and the notation of its bytes.
+    /// Returns the head of the subcommand: its files and its notation.
     pub fn head(&self) -> Head<'a>
         ensures { result ≡ widen_head self.now }
     {
@@ -45,7 +45,7 @@ impl<'a> Widen<'a> {
         }
     }
 
-    /// The arguments that messages may show.
+    /// Returns the arguments that messages may show.
     pub fn words(&self) -> Words<'a> {
         Words {
             base: Some(self.base),

@@ -27,7 +27,7 @@ compact = subcommand (codes "compact") (required_word (codes "BASE") ∷ writing
 abbrev pub CompactAsks : List Row → Compact → Type 0
 CompactAsks rows compact = IsWord (codes "BASE") rows compact.base × IsForm rows compact.form
 
--- the files of the subcommand, and the notation of its bytes
+-- the head of the subcommand: its files and its notation
 abbrev pub compact_head : Compact → Head
 compact_head compact = record (head_on (Some compact.base)) { writes = true }
 
@@ -35,7 +35,7 @@ compact_head compact = record (head_on (Some compact.base)) { writes = true }
 abbrev pub IsUnfit : Database → Pair → Type 0
 IsUnfit db e = (fault : DumpFault) × ((fault ≢ NoMemory) × IsStoreFault Insert db e 0 fault)
 
--- the pairs were stored in an empty database, in order, up to one that does not fit
+-- the pairs were stored in an empty database, in order, up to the first that does not fit
 pub record UnfitAmong (kind : KeyBytes) (size : PageSize) (pairs : List Pair) : Type 0 where
   pub done : List Pair
   pub pair : Pair

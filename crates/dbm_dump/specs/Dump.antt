@@ -41,6 +41,6 @@ dump_in n dump given = record {
   causes = dump_causes (format_of dump.format) dump.form given;
 }
 
--- the files of the subcommand, and the notation of its bytes
+-- the head of the subcommand: its files and its notation
 abbrev pub dump_head : Dump → Head
 dump_head dump = record (head_on (Some dump.base)) { notation = dump.notation }

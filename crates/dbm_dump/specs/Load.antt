@@ -68,6 +68,6 @@ load_in load given input = record {
   causes = load_causes (start_of load.format) (mode_of load.keep) load.form given input;
 }
 
--- the files of the subcommand, and the notation of its bytes
+-- the head of the subcommand: its files and its notation
 abbrev pub load_head : Load → Head
 load_head load = record (head_on (Some load.base)) { writes = true }

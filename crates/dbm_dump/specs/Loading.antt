@@ -1,4 +1,4 @@
--- How a dump is loaded into a database.
+-- Loading a dump into a database.
 use Rattle.std.specs.Prelude.{◌≡◌, ◌⊎◌, ℕ, ◌+◌, ◌<◌, ◌++◌, Bool, true, false, List, [], ◌∷◌, length, Option, Some, None, IsSomeAnd, ⊤}
 use Rattle.std.specs.declared.alloc.Global.{Global}
 use Rattle.sdbm_addr.specs.declared.PageSize.{PageSize}
@@ -59,12 +59,12 @@ pub record IsLoaded (start : Stage) (mode : Mode) (before : Database) (input : L
 
 -- ---- faults
 
--- the length of the datum that has begun
+-- the length of the unfinished datum
 abbrev pub open_len : Stage → ℕ
 open_len (Within seen role len text) = len
 open_len _ = 0
 
--- the key of the value that has begun
+-- the key of the unfinished value
 abbrev pub key_in : Role → Option (List ℕ)
 key_in Key = None
 key_in (Value key) = Some key
@@ -81,8 +81,7 @@ IsLargePair size key e = (pair_limit size < length e.0 + length e.1) × IsReport
 abbrev pub IsLarge : PageSize → Option KeyHead → Next → Type 0
 IsLarge size key s = ((pair_limit size < open_len s.stage) × IsReported (open_key s.stage) key) ⊎ IsSomeAnd s.pair (IsLargePair size key)
 
--- P holds at the line with this number, which counts from 1. Its arguments are the stage and the database after all earlier lines, and the
--- line.
+-- P holds for the line with this number, and for the stage and the database after all earlier lines. Line numbers count from 1.
 pub record AtLine (start : Stage) (mode : Mode) (db : Database) (input : List ℕ) (number : ℕ) (P : Stage → Database → List ℕ → Type 0) : Type 0 where
   pub before : List (List ℕ)
   pub line : List ℕ

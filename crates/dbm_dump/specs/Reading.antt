@@ -53,7 +53,7 @@ abbrev pub without_empty_end : List (List ℕ) → List (List ℕ)
 without_empty_end [] = []
 without_empty_end (line ∷ lines) = kept_lines lines line (without_empty_end lines)
 
--- The lines, except an empty last one that is not the first.
+-- The lines, except an empty last line. The first line always stays.
 abbrev pub dump_lines : List (List ℕ) → List (List ℕ)
 dump_lines [] = []
 dump_lines (first ∷ others) = first ∷ without_empty_end others

@@ -76,7 +76,7 @@ abbrev pub decoded : ℕ → Role → ℕ → Result (List ℕ) DecodeError → 
 decoded seen role len (Ok bytes) = cond (length bytes == len) (datum_closed seen role bytes) None
 decoded seen role len (Err error) = None
 
--- `text` was read of a datum of `len` bytes; the datum is decoded if its base64 is complete
+-- the step after `text`, the base64 so far of a datum of `len` bytes; the datum is decoded if its base64 is complete
 abbrev pub grown : ℕ → Role → ℕ → List ℕ → Option Next
 grown seen role len text = cond (is_full len text) (decoded seen role len (decode_of standard text)) (Some (goes (Within seen role len text)))
 

@@ -42,7 +42,7 @@ pair_words e = hex_shown e.0 ++ (32 ∷ hex_shown e.1)
 abbrev pub dump_pair_line : Pair → List ℕ
 dump_pair_line e = pair_words e ⏎ []
 
--- the header: the hash of keys, the page size and the number of pairs
+-- the header: the hash function, the page size and the number of pairs
 abbrev pub plain_header : KeyBytes → PageSize → ℕ → List ℕ
 plain_header kind size count = title ⏎ keys_line kind ⏎ pages_line size ⏎ (codes "count " ++ decimal count) ⏎ [] ⏎ []
 

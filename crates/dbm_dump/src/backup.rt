@@ -32,12 +32,12 @@ impl<'a> Backup<'a> {
         })
     }
 
-    /// The arguments that messages about the database may show.
+    /// Returns the arguments that messages about the database may show.
     pub fn words(&self) -> Words<'a> {
         Words::on(Some(self.base), self.form)
     }
 
-    /// The arguments that messages about the copy may show.
+    /// Returns the arguments that messages about the copy may show.
     pub fn words_of_copy(&self) -> Words<'a> {
         Words::on(Some(self.to), self.form)
     }

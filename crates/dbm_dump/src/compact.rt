@@ -42,7 +42,7 @@ impl<'a> Compact<'a> {
         })
     }
 
-    /// Returns the files of the subcommand and the notation of its bytes.
+    /// Returns the head of the subcommand: its files and its notation.
     pub fn head(&self) -> Head<'a>
         ensures { result ≡ compact_head self.now }
     {
@@ -52,7 +52,7 @@ impl<'a> Compact<'a> {
         }
     }
 
-    /// The arguments that messages may show.
+    /// Returns the arguments that messages may show.
     pub fn words(&self) -> Words<'a> {
         Words::on(Some(self.base), self.form)
     }
@@ -131,7 +131,7 @@ fn compacted(alloc: Global, image: Image<Global>) -> Result<Report, AllocError>
     }
 }
 
-// Stores all pairs of a database in an empty one of the same form, in the order of their keys. Returns `None` if a pair does not fit.
+// Stores all pairs of a database in a new database of the same form, in the order of their keys. Returns `None` if a pair does not fit.
 fn stored_anew(alloc: Global, image: &Image<Global>) -> Result<Option<Image<Global>>, AllocError>
     ensures some { IfOk result (λ made. IfSome made (λ new. StoresAll Insert (empty_database image.now.kind image.now.size) (map.entries (map_of image.now)) new)) }
     ensures none { IfOk result (λ made. IfNone made (UnfitAmong image.now.kind image.now.size (map.entries (map_of image.now)))) }
@@ -165,7 +165,7 @@ fn stored_in_order(
     Ok(Some(image))
 }
 
-// Stores one pair. Returns `None` if it does not fit.
+// Stores one pair. Returns `None` if the pair does not fit.
 fn stored(
     alloc: Global,
     image: Image<Global>,

@@ -45,7 +45,7 @@ impl<'a> Dump<'a> {
         })
     }
 
-    /// Returns the files of the subcommand and the notation of its bytes.
+    /// Returns the head of the subcommand: its files and its notation.
     pub fn head(&self) -> Head<'a>
         ensures { result ≡ dump_head self.now }
     {
@@ -55,7 +55,7 @@ impl<'a> Dump<'a> {
         }
     }
 
-    /// The arguments that messages may show.
+    /// Returns the arguments that messages may show.
     pub fn words(&self) -> Words<'a> {
         Words {
             first: named_format(self.format),
@@ -65,7 +65,7 @@ impl<'a> Dump<'a> {
     }
 }
 
-/// The value of `--format`, for messages.
+/// Returns the value of `--format` for messages.
 pub(crate) fn named_format<'a>(format: Option<&'a str>) -> Option<Named<'a>> {
     match format {
         Some(word) => Some(Named {
@@ -98,7 +98,8 @@ pub fn dump_command<'a>(alloc: Global) -> Result<Command<'a>, AllocError>
     let notes =
         "Prints a header with the number of pairs, a line for each pair in hex, sorted by the bytes of the\n\
          keys, and the line end, so that load refuses a truncated text. With --as u64, a number is dumped as\n\
-         its decimal, for programs such as Redis; load would store that text.\n\n\
+         its decimal, for programs such as Redis. A dump with --as is for other programs, and is no backup:\n\
+         load would store its texts instead of the values.\n\n\
          Example: dbm dump users > users.dump";
     subcommand(alloc, "dump", about, notes, args)
 }

@@ -15,7 +15,7 @@ pub enum Format {
     Redis,
 }
 
-/// Returns the format to write, by name; without a name, our own. Returns `None` if the name is unknown.
+/// Returns the format to write, by default our own. Returns `None` if the name is unknown.
 pub fn format_of(name: Option<&str>) -> Option<Format>
     ensures { result ≡ format_of name.entry }
 {
@@ -36,7 +36,7 @@ pub fn start_of(name: Option<&str>) -> Option<Stage>
     }
 }
 
-// The first stage of reading a format.
+// Returns the first stage of reading a format, or `None` if the format cannot be read.
 fn start_in(format: Option<Format>) -> Option<Stage>
     ensures { result ≡ start_in format }
 {

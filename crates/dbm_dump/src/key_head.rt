@@ -3,7 +3,7 @@ ghost use Rattle.dbm_dump.specs.Heads.{IsHead};
 
 use std::fmt;
 
-/// The longest stored part of a key, in bytes.
+/// The maximum number of stored bytes.
 const HEAD_LEN: usize = 32;
 
 /// The first 32 bytes of a key, and its length. It prints as text in quotes if these bytes are UTF-8 without control characters, and
@@ -15,7 +15,7 @@ pub struct KeyHead {
 }
 
 impl KeyHead {
-    /// The first bytes of a key.
+    /// Returns the head of a key.
     pub fn of(key: &[u8]) -> KeyHead
         ensures { IsHead key.now result }
     {
@@ -31,7 +31,7 @@ impl KeyHead {
         }
     }
 
-    // The stored bytes.
+    // Returns the stored bytes.
     fn kept(&self) -> &[u8] {
         if self.len < HEAD_LEN {
             return &self.bytes[..self.len];

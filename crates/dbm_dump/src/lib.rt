@@ -1,5 +1,5 @@
 //! Dumps: texts with all pairs of a database, in our own format, in gdbm's or as commands for Redis. The first two formats can be loaded.
-//! Also the subcommands `backup`, `compact`, `dump` and `load`.
+//! The crate has the subcommands `backup`, `compact`, `dump` and `load`.
 #![tactic(auto)]
 
 mod backup;

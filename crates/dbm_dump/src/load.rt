@@ -21,7 +21,7 @@ use sdbm_addr::Mode;
 use std::alloc::{AllocError, Global};
 use std::io::Read;
 
-/// The subcommand `load`. Stores the pairs of a dump on standard input. If `keep` is set, existing keys keep their values.
+/// The subcommand `load`. Stores the pairs of a dump on standard input. With `keep`, existing keys keep their values.
 #[derive(Clone, Copy, Debug)]
 pub struct Load<'a> {
     pub base: &'a str,
@@ -44,7 +44,7 @@ impl<'a> Load<'a> {
         })
     }
 
-    /// Returns the files of the subcommand and the notation of its bytes.
+    /// Returns the head of the subcommand: its files and its notation.
     pub fn head(&self) -> Head<'a>
         ensures { result ≡ load_head self.now }
     {
@@ -54,7 +54,7 @@ impl<'a> Load<'a> {
         }
     }
 
-    /// The arguments that messages may show.
+    /// Returns the arguments that messages may show.
     pub fn words(&self) -> Words<'a> {
         Words {
             first: named_format(self.format),
@@ -124,7 +124,7 @@ impl Subcommand for Load<'_> {
     }
 }
 
-// The mode in which pairs are stored.
+// Returns the mode for storing pairs.
 fn mode_of(keep: bool) -> Mode
     ensures { result ≡ mode_of keep }
 {
@@ -147,7 +147,7 @@ fn loaded_report(alloc: Global, loaded: Loaded) -> Result<Report, AllocError>
     })
 }
 
-// The line `loaded N`.
+// Returns the line `loaded N`.
 fn show_loaded(alloc: Global, count: u64) -> Result<Vec<u8>, AllocError>
     ensures { IfOk result (λ text. text.items ≡ loaded_line count) }
 {

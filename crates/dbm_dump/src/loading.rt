@@ -32,11 +32,11 @@ struct Loading {
     count: u64,
 }
 
-/// Stores the pairs of a dump in a database, in order. `mode` says whether a pair replaces an existing one with the same key. A dump may
+/// Stores the pairs of a dump in a database, in order. `mode` says whether a pair replaces an existing pair with the same key. A dump may
 /// have any length, because it is read line by line.
 ///
 /// # Errors
-/// The first of these faults. The database is then dropped. The LF at the end of a text does not begin another line.
+/// The first of these faults. The database is then dropped. An LF at the end of the dump does not begin another line.
 /// - `Read` if the reader fails, and `NoMemory` if allocation fails.
 /// - `BadDump` with the number of the first invalid line.
 /// - `TooLarge` with the number of a line that has more than 16,384 bytes, or whose pair, key or value is over the size limit.
@@ -134,7 +134,7 @@ fn finish(loading: Loading) -> Result<Loaded, DumpFault>
     Ok(Loaded { image, count })
 }
 
-// Reads the line with this number, and stores the pair that it completes, if there is one.
+// Reads the line with this number. If the line completes a pair, stores the pair.
 fn take_line(
     alloc: Global,
     mode: Mode,

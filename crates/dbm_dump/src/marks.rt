@@ -10,7 +10,7 @@ use std::alloc::{AllocError, Global};
 /// The kind of a line in gdbm's format.
 #[derive(Clone, Copy, Debug, PartialEq, Eq)]
 pub enum Mark {
-    /// Any other line that begins with '#', or an empty line.
+    /// An empty line, or a line that begins with '#' and has no length or count.
     Note,
     /// The beginning of a key or a value of this length.
     Len(u64),
@@ -22,7 +22,7 @@ pub enum Mark {
     Bad,
 }
 
-/// The kind of a line in gdbm's format.
+/// Returns the kind of a line in gdbm's format.
 pub fn mark_of(line: &[u8]) -> Mark
     ensures { result ≡ line_mark line.now }
 {
@@ -35,7 +35,7 @@ pub fn mark_of(line: &[u8]) -> Mark
     Mark::Text
 }
 
-// The kind of a line that begins with '#'.
+// Returns the kind of a line that begins with '#'.
 fn sign_of(line: &[u8]) -> Mark
     ensures { result ≡ sign_mark line.now }
 {

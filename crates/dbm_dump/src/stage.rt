@@ -46,7 +46,7 @@ pub enum Stage {
     Title,
     /// After the title.
     Keys,
-    /// After the line with the hash of keys.
+    /// After the line with the hash function.
     Pages,
     /// After the line with the page size.
     Count,
@@ -74,7 +74,7 @@ pub enum Stage {
     Over,
 }
 
-/// The effect of a line: the next stage, and the pair of the line if it has one.
+/// The effect of a line: the next stage, and the pair that the line completes, if any.
 #[derive(Drop)]
 pub struct Next {
     pub stage: Stage,
@@ -89,7 +89,7 @@ impl Stage {
         matches!(self, Stage::Over)
     }
 
-    /// The length of the datum that has begun, or 0 if no datum has begun.
+    /// Returns the length of the unfinished datum, or 0 if there is no unfinished datum.
     pub fn open_len(&self) -> u64
         ensures { result ≡ open_len self.now }
     {
@@ -99,7 +99,7 @@ impl Stage {
         }
     }
 
-    /// The head of the key whose value has begun, if a value has begun.
+    /// Returns the head of the key of the unfinished value, or `None` if there is no unfinished value.
     pub fn open_key(&self) -> Option<KeyHead>
         ensures { IsReported (open_key self.now) result }
     {
@@ -113,7 +113,7 @@ impl Stage {
     }
 }
 
-/// Reads a line. Returns `None` if it is invalid at this stage.
+/// Reads a line. Returns `None` if the line is invalid at this stage.
 ///
 /// # Errors
 /// `AllocError` if allocation fails. The stage is then dropped.
@@ -210,7 +210,7 @@ fn gap_step(left: u64, line: &[u8]) -> Option<Next>
     None
 }
 
-// Reads a line of our own format while `left` pairs are left.
+// Reads a line of our own format, with `left` pairs to go.
 fn pairs_step(alloc: Global, left: u64, line: &[u8]) -> Result<Option<Next>, AllocError>
     ensures { IfOk result (λ s. s ≡ spec.pairs_step left line.now) }
 {
@@ -315,8 +315,8 @@ fn within_step(
     }
 }
 
-// Returns `true` if a line may follow `text`, the base64 so far of a datum of `len` bytes. The line must complete the datum, or more base64
-// may follow it.
+// Returns `true` if `line` may follow `text`, the base64 so far of a datum of `len` bytes: `line` completes the datum, or more base64 may
+// follow it.
 fn may_follow(len: u64, text: &Part, line: &[u8]) -> bool
     ensures { result ≡ spec.may_follow len text.now line.now }
 {
@@ -345,7 +345,7 @@ fn is_full(len: u64, text: &Part) -> bool
     holds(len, text.text.len())
 }
 
-// Returns the step after `text` was read of a datum of `len` bytes. Decodes the datum if its base64 is complete.
+// Returns the step after `text`, the base64 so far of a datum of `len` bytes. Decodes the datum if its base64 is complete.
 fn grown(
     alloc: Global,
     seen: u64,

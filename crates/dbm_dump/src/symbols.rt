@@ -3,8 +3,8 @@ ghost use Rattle.std.specs.Prelude.{◌≡◌};
 ghost use Rattle.std.specs.List.{list_all};
 ghost use Rattle.dbm_dump.specs.Symbols.{is_open, is_symbol, without_pad};
 
-/// Returns `true` if `line` may follow `text`, and more base64 may follow both. `text` must not end with `=`, and `line` must have only
-/// symbols. As an exception, `line` may end with one `=` that is the third character of its group of four.
+/// Returns `true` if `line` may follow `text`, and more base64 may follow both: `text` does not end with `=`, and `line` has only symbols.
+/// As an exception, `line` may end with one `=` that is the third character of its group of four.
 pub fn is_open(text: &[u8], line: &[u8]) -> bool
     ensures { result ≡ is_open text.now line.now }
 {

@@ -26,7 +26,8 @@ pub enum CopyOutcome {
 /// kill both files, neither, or BASE.pag alone may exist, and files with temporary names may be left.
 ///
 /// # Errors
-/// `WriteFile`, `FileTooLong` and `NoMemory`, and the errors of `take_files` for the temporary names.
+/// `WriteFile` if the disk fails, `FileTooLong` if a file would be too long, `NoMemory` if allocation fails, and the errors of `take_files`
+/// for the temporary names.
 pub fn save_copy<R: Files<File = File> + Clock + AllocGlobal>(
     rt: &R,
     base: &str,
@@ -48,8 +49,8 @@ pub fn save_copy<R: Files<File = File> + Clock + AllocGlobal>(
     copied
 }
 
-// The base of the temporary names of a copy. It contains the number of this process, if /proc reports it, so that no other process uses the
-// same names.
+// Returns the base of the temporary names of a copy. It contains the ID of this process, if /proc reports it, so that no other process uses
+// the same names.
 fn early_base_of<R: Files + AllocGlobal>(rt: &R, base: &str) -> Result<String, AllocError> {
     let Ok(process) = fs::read_link(rt, "/proc/self") else {
         return format!(in rt.alloc(); "{base}.new");
@@ -101,7 +102,7 @@ fn save_early<R: Files<File = File> + Clock + AllocGlobal>(
     }
 }
 
-// Syncs both files after the save of an empty database, which has written neither.
+// Syncs both files after the save of an empty database, which writes nothing.
 fn sync_both<R: Files<File = File>>(rt: &R, early: &Names) -> io::Result<()> {
     fs::open(rt, early.pages.as_str())?.sync_all()?;
     fs::open(rt, early.directory.as_str())?.sync_all()
@@ -137,7 +138,7 @@ fn publish<R: Files<File = File>>(
     outcome.map(|_| CopyOutcome::Done)
 }
 
-// Gives a file another name, by a hard link or, if the file system has none, by renaming it. Returns `false` if that name exists.
+// Gives a file the name `to`, by a hard link or, if that fails, by a rename. Returns `false` if `to` exists.
 fn give_name<R: Files<File = File>>(rt: &R, from: &str, to: &str) -> Result<bool, FilesFault> {
     match fs::hard_link(rt, from, to) {
         Ok(()) => return Ok(true),

@@ -25,7 +25,7 @@ use std::time::{Clock, Duration};
 use std::{fs, thread};
 
 /// Maximum size of a redo file, in bytes. The plan of the largest save begins with 29 bytes, and has the new and the old bytes of both
-/// files at their limits, in blocks of 1,024 bytes with nine bytes before each. A log has a header before the plan, and up to 1 MiB of
+/// files at their limits, in blocks of 1,024 bytes with nine bytes before each. A log has 4,104 bytes before the plan, and up to 1 MiB of
 /// zeros after it.
 const REDO_LIMIT: u64 = 2_697_203_749;
 
@@ -40,7 +40,7 @@ const PIECE: usize = 262_144;
 pub struct RunFiles {
     pub bytes: FileBytes,
     pub held: Option<LockedFiles>,
-    /// A `.pag` that was not read yet, for a run that needs one page of it.
+    /// The unread `.pag`, for a run that needs one page of it.
     pub unread: Option<UnreadPages>,
 }
 
@@ -57,20 +57,20 @@ pub struct LockedFiles {
 
 /// Takes the lock, then reads the files of a run. A reading run waits only while another run uses the files.
 ///
-/// A writing run first recovers an interrupted save. It keeps its locks, so that no other run changes the files before this run has saved.
-/// A reading run applies the redo file to the bytes that it read. The locks and the redo file are next to the data files, even if the names
-/// of the data files are links. All files are in the folder to which the base led at first. A peeking run does not read `.pag`, unless a
-/// save must be recovered or a file has a problem.
+/// A writing run first recovers an interrupted save. It holds its locks, so that no other run changes the files before this run has saved.
+/// A reading run applies the redo file to the bytes that it read. If the names of the data files are links, the locks and the redo file are
+/// next to their targets. All files are in the folder to which the base led at first. With `peeks`, `.pag` is not read, unless a save must
+/// be recovered or a file has a problem.
 ///
 /// # Errors
 /// - The errors of `resolve`.
 /// - `Unsafe` if another user could have planted a lock or the redo file.
 /// - `Locked` if another run holds the lock for longer than `patience`.
-/// - `Moved` if the data files became links to another base during the wait, or if the name of the lock refers to a different file each
-///   time.
+/// - `Moved` if the data files became links to another base during the wait, or if the name of the lock refers to a different file at each
+///   attempt.
 /// - `WriteFile` if a writing run cannot take its locks or recover a save.
-/// - `ReadFile` if a reading run cannot take an existing lock.
-/// - The errors of `read_files`.
+/// - `ReadFile` if a file cannot be read, or if a reading run cannot take an existing lock.
+/// - `FileTooLong` if a file is longer than its limit, or a recovery would make it so; `NoMemory` if allocation fails.
 /// - `BadRedo` if the commit byte of the redo file is 1, but the redo file belongs to other data files or was not written by a save.
 ///
 /// On an error no data file was written, except by the recovery of a save.
@@ -103,7 +103,7 @@ fn read_whole(bytes: FileBytes, held: Option<LockedFiles>) -> RunFiles {
     }
 }
 
-// Returns the place of a run with the base of `files`, whose names lead into the folder that is held open.
+// Returns the place of a run with the base of `files`. Its names lead into the folder that is held open.
 fn inside<'a>(place: RunPlace<'a>, files: &'a Place) -> RunPlace<'a> {
     RunPlace {
         base: Some(files.base()),
@@ -111,7 +111,7 @@ fn inside<'a>(place: RunPlace<'a>, files: &'a Place) -> RunPlace<'a> {
     }
 }
 
-// Reads the files of a run that may change its database, and keeps their locks.
+// Takes the locks, then reads the files of a run that may change its database.
 fn take_to_write<R: Files<File = File> + Clock + AllocGlobal>(
     rt: &R,
     place: RunPlace<'_>,
@@ -152,7 +152,7 @@ fn take_to_write<R: Files<File = File> + Clock + AllocGlobal>(
     Ok(read_whole(bytes, Some(held)))
 }
 
-// Reads the files of a reading run except `.pag`, and keeps the lock if its file exists. If `.pag` must be read, reads all files.
+// Takes the lock if its file exists, then reads the files of a reading run except `.pag`. If `.pag` must be read, reads all files.
 fn peek_to_read<R: Files<File = File> + Clock + AllocGlobal>(
     rt: &R,
     place: RunPlace<'_>,
@@ -196,8 +196,8 @@ fn peek<R: Files<File = File> + AllocGlobal>(
     Some((FileBytes { seen, ..read }, unread))
 }
 
-/// Reads the files that a peeking run has left unread, under its lock. If a reading run found no lock file, but the file exists now, the
-/// run waits for that lock.
+/// Reads both data files of a run that has peeked, under its lock. If a reading run found no lock file, but the file exists now, the run
+/// waits for that lock.
 ///
 /// # Errors
 /// The errors of `take_files`.
@@ -253,7 +253,7 @@ fn read_guarded<R: Files<File = File> + Clock + AllocGlobal>(
     }
 }
 
-/// Reads the files of a database again. Its locks must be held, and `seen` must have the data files of the last read.
+/// Reads the files of a database again. Its locks must be held, and `seen` must have the IDs of the data files of the last read.
 ///
 /// # Errors
 /// `Moved` if the name of a lock or of a data file now refers to another file. The errors of `take_files` that are not about the locks.
@@ -336,7 +336,7 @@ fn read_held<R: Files<File = File> + AllocGlobal>(
     read_database(rt, place, files, lock.is_some(), None)
 }
 
-// Reads the database of a run. If `known` is given, the data files must be the same as those.
+// Reads the database of a run. If `known` is given, the data files must be the same files.
 fn read_database<R: Files<File = File> + AllocGlobal>(
     rt: &R,
     place: RunPlace<'_>,
@@ -645,8 +645,7 @@ fn read_pieces(
     Err(FilesFault::FileTooLong)
 }
 
-// Reads the next bytes of a file into `room` and returns the number of bytes read. It is less than the size of `room` only at the end of
-// the file.
+// Reads the next bytes of a file into `room` and returns their number, which is less than the size of `room` only at the end of the file.
 fn read_piece<F: Read>(file: &mut F, room: &mut [u8]) -> Result<usize, FilesFault>
     ensures count { IfOk result (λ count. count ≤ length room.old) }
     ensures room { length room.new ≡ length room.old }

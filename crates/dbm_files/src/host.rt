@@ -42,8 +42,8 @@ impl SaveFile {
 }
 
 // The files of a database. Each file is opened when it is first written or synced, and stays open. A missing file is created. The files are
-// written in place, so they keep their owner, permissions and links. A data file must be the one that was read: another file that now has
-// its name is not used, nor is a file that has appeared where none existed.
+// written in place, so they keep their owner, permissions and links. A data file must be the file that was read: another file with its name
+// is an error, even if the data file was missing then.
 #[derive(Drop)]
 struct OpenFiles<'a, R: Files<File = File>> {
     rt: &'a R,
@@ -56,7 +56,7 @@ struct OpenFiles<'a, R: Files<File = File>> {
     redo: SaveFile,
     // This run has synced the folder, and has created no file since then. The names that an earlier run created may not be durable.
     is_folder_kept: bool,
-    // The redo file counts as missing, and is removed before it is used.
+    // The redo file counts as missing, and is removed before a new one is created.
     is_redo_stale: bool,
     // This run has removed the redo file. It does not open a redo file that appears later.
     is_redo_gone: bool,
@@ -154,7 +154,8 @@ impl<'a, R: Files<File = File>> OpenFiles<'a, R> {
     }
 
     // Syncs a file, and the folder with its name. A file that this run has not written is synced too, because an earlier run may have been
-    // killed after a write. A missing file needs no sync. If this user may not write the file, the call fails, before the commit begins.
+    // killed after a write. A missing file needs no sync. The call also opens the file for writing, so a missing permission is found before
+    // the commit.
     fn keep(&mut self, part: DiskFile) -> io::Result<()> {
         if self.slot(part).file.is_none() {
             match self.open_there(part) {
@@ -200,7 +201,7 @@ fn open_seen<R: Files<File = File>>(rt: &R, name: &str, seen: Option<FileId>) ->
     Err(moved())
 }
 
-// The error for a file whose name now refers to another file or to none.
+// Returns the error for a name that now refers to another file or to no file.
 fn moved() -> io::Error {
     io::Error::from(ErrorKind::StaleNetworkFileHandle)
 }
@@ -215,8 +216,8 @@ pub struct RealFiles<'a, R: Files<File = File>> {
 impl<'a, R: Files<File = File>> RealFiles<'a, R> {
     ghost use Rattle.sdbm_saves.specs.CallLog.{acts};
 
-    /// The files with these names; no file is opened yet. `seen` has the IDs of the data files that were read. A stale redo file counts as
-    /// missing, and is removed before a new one is created.
+    /// Returns the files with these names, without opening any. `seen` has the IDs of the data files that were read. A stale redo file
+    /// counts as missing, and is removed before a new one is created.
     pub fn new(
         rt: &'a R,
         names: &'a Names,
@@ -254,7 +255,7 @@ fn told(outcome: io::Result<()>) -> Result<(), DiskError>
     }
 }
 
-// Each call is logged before it is made, except a sync, which is logged after it succeeded.
+// A call is logged before it is made, but a sync only after it succeeded.
 impl<'a, R: Files<File = File>> Host for RealFiles<'a, R> {
     ghost use Rattle.sdbm_saves.specs.CallLog.{acts};
 

@@ -31,8 +31,8 @@ pub enum Guard {
 }
 
 impl UnreadPages {
-    /// Opens a `.pag` of at most `limit` bytes, under the lock of a writing run. Returns `None` if it is longer or cannot be opened. Then
-    /// the run reads all files, and reports the reason.
+    /// Opens a `.pag` of at most `limit` bytes, under the lock of a writing run. Returns `None` if the file is longer or cannot be opened.
+    /// The run then reads all files, and reports the reason.
     pub fn open<R: Files<File = File>>(rt: &R, name: &str, limit: u64) -> Option<UnreadPages> {
         if is_special(rt, name) {
             return None;

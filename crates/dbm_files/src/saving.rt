@@ -37,17 +37,17 @@ pub struct Change<'a> {
 }
 
 /// Saves a change, releases the lock, and then prints `lines`, which report the change. So a reader of the lines can take the lock, and the
-/// change is durable. After a crash at any time, the files can be recovered to those before the change or to those of the database after
-/// it. Once this function has returned `Ok`, only the second is possible. If the files already are those of the database, the disk is not
-/// used. Allocates the plan, the steps of the save, and the memory of the disk's calls.
+/// change is durable. After a crash at any time, the files can be recovered to the old files or to the files of the new database. After
+/// `Ok`, only the latter is possible. If the files already are those of the database, the disk is not used. Allocates the plan, the steps
+/// of the save, and the memory of the disk's calls.
 ///
-/// Before the commit, the save checks that the disk has the room that the files may need. A failure after the commit is not an error: the
-/// save is `Pending`, and the next writing run finishes it.
+/// Before the commit, the save checks that the disk has room for the files. A failure after the commit is not an error: the save is
+/// `Pending`, and the next writing run finishes it.
 ///
 /// # Errors
 /// - `FileTooLong` if a file has, or would have, 2^32 bytes or more; `NoMemory` if allocation fails; `WriteFile` if the disk failed.
 ///   Nothing is printed, and the lock is still held. If the disk failed during the commit, the change may or may not be committed.
-/// - `Write` if none or only the first bytes of the lines could be printed. The change is committed, and the lock is released.
+/// - `Write` if the lines could not be printed completely. The change is committed, and the lock is released.
 pub fn save_change<D: Disk, W: Write, L: Drop>(
     alloc: Global,
     disk: &mut D,
@@ -108,7 +108,7 @@ fn print<W: Write, L>(writer: &mut W, lines: &[u8], _lock: &Option<L>) -> Result
     }
 }
 
-/// The bytes of a redo file whose commit byte is not 1, and a plan that knows the data files.
+/// The bytes of a redo file whose commit byte is not 1, and a plan that was made for the data files (`Knows`).
 #[derive(Clone, Copy)]
 pub struct Planned<'a> {
     pub redo: &'a [u8],

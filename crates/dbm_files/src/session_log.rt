@@ -28,7 +28,7 @@ use std::rt::Files;
 // If `.pag` has at most this many bytes, the session keeps the bytes of both files in memory, and its log takes one save after another.
 const MOST_KEPT: usize = 16_777_216;
 
-// The size of a session's log in bytes, enough for some hundred small saves.
+// The size of a session's log in bytes, enough for about a hundred small saves.
 const ROOM: usize = 258_048;
 
 // The disk of a session, which holds the files open.
@@ -60,8 +60,8 @@ pub struct SessionSaves<'a, R: Files<File = File>> {
 }
 
 impl<'a, R: Files<File = File> + AllocGlobal> SessionSaves<'a, R> {
-    /// Begins the saves of a session that has read its files. Opens a log with its mark, so that older versions of this program do not
-    /// write the files during the session. If that fails, or a data file is missing, the session continues without a mark until its first
+    /// Begins the saves of a session that has read its files. Opens a log with a mark that keeps older versions of this program from
+    /// writing the files during the session. If that fails, or a data file is missing, the session continues without a mark until its first
     /// save. Releases BASE.lock.
     pub fn begin(rt: &'a R, place: RunPlace<'_>, held: &'a LockedFiles) -> Self {
         let mut log = SessionLog::Closed;
@@ -76,7 +76,7 @@ impl<'a, R: Files<File = File> + AllocGlobal> SessionSaves<'a, R> {
     }
 }
 
-// Opens a log with its mark, unless a data file is missing or another program has written one.
+// Opens a log with its mark, unless a data file is missing. Fails with `Changed` if another program has written a data file.
 fn mark_log<'a, R: Files<File = File> + AllocGlobal>(
     rt: &'a R,
     place: RunPlace<'_>,
@@ -93,8 +93,8 @@ fn mark_log<'a, R: Files<File = File> + AllocGlobal>(
 
 /// Saves a database in a session: takes BASE.lock, and releases it once the save is committed. The first save opens a log. A later save
 /// needs one sync, as long as this log stays open. If the log is full, or the data files may need new blocks of the disk, the log is
-/// closed; then the files are read again and saved in a new log. If the database is large, each save opens a new log. If the disk has no
-/// room for a log that stays open, the save uses a log for this save alone.
+/// closed; then the files are read again, and the database is saved in a new log. If the database is large, each save opens a new log. If
+/// the disk has no room for a log that stays open, the save uses a log for this save alone.
 ///
 /// # Errors
 /// `Changed` if another program has written a data file since the session read or saved it; nothing is saved then. The errors of
@@ -247,8 +247,7 @@ fn save_planned<'a, R: Files<File = File>>(
     }
 }
 
-// Saves in a new log, which stays open. Without a database to save, only gives the log its mark. If nothing was committed, removes the redo
-// file.
+// Saves in a new log, which stays open. Without an `image`, only gives the log its mark. If nothing was committed, removes the redo file.
 fn save_opening<'a, R: Files<File = File> + AllocGlobal>(
     rt: &'a R,
     held: &'a LockedFiles,

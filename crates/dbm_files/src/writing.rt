@@ -18,7 +18,7 @@ use std::fs::File;
 use std::io::{self, Write};
 use std::rt::Files;
 
-// A save does not reuse a redo file with more bytes than this, but removes it.
+// A save removes a redo file with more bytes than this instead of reusing it.
 const MOST_REDO: u64 = 262_144;
 
 // The redo file before a save.
@@ -67,7 +67,7 @@ pub fn save_files<R: Files<File = File> + AllocGlobal, W: Write>(
     saved
 }
 
-/// Like `save_files`, but keeps the locks and prints nothing. `seen` must have the data files of the last read.
+/// Like `save_files`, but keeps the locks and prints nothing. `seen` must have the IDs of the data files of the last read.
 ///
 /// # Errors
 /// The errors of `save_files`, except `Changed` and `Write`.
@@ -103,12 +103,11 @@ pub fn save_held<R: Files<File = File> + AllocGlobal>(
 #[derive(Clone, Copy)]
 pub struct PlannedPart<'a> {
     pub part: Part<'a>,
-    /// The page size.
     pub size: PageSize,
     pub plan: &'a [u8],
 }
 
-/// Like `save_files`, if only one page of the database was read. The plan must know the files.
+/// Like `save_files`, for a run that has read only one page of the database. The plan must have been made for the files (`Knows`).
 ///
 /// # Errors
 /// The errors of `save_plan`, and `BadRedo`, `Unsafe`, `ReadFile`, `Moved` and `Changed` as in `save_files`.
@@ -149,7 +148,7 @@ pub fn save_part<R: Files<File = File> + AllocGlobal, W: Write>(
     saved
 }
 
-// Returns `Changed` if another program has written a data file since it was read.
+// Fails with `Changed` if another program has written a data file since it was read.
 pub(crate) fn must_be_unwritten<R: Files<File = File>>(
     rt: &R,
     names: &Names,
@@ -161,7 +160,7 @@ pub(crate) fn must_be_unwritten<R: Files<File = File>>(
     Ok(())
 }
 
-// The change that a save makes.
+// Returns the change of a save.
 fn change_of<'a>(
     old: ReadFiles<'a, Global>,
     redo: &'a OldRedo,
@@ -177,7 +176,7 @@ fn change_of<'a>(
     }
 }
 
-// The files as read, for `Recorded`.
+// Returns the files as read, for `Recorded`.
 fn found_of<'a>(old: ReadFiles<'a, Global>, redo: &'a OldRedo) -> FoundRead<'a>
     ensures files { result.files ≡ old.entry }
     ensures redo { result.redo.now ≡ redo.now.bytes.items }

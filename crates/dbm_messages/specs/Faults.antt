@@ -1,4 +1,4 @@
--- How the fault of a step becomes the fault of a run.
+-- The fault of a run for each fault of a step.
 use Rattle.dbm_places.specs.declared.fault.FilesFault.{FilesFault}
 use Rattle.dbm_places.specs.declared.fault.FilesFault.TheVariants as files
 use Rattle.dbm_script.specs.declared.tasks.TasksFault.{TasksFault}

@@ -49,8 +49,8 @@ pub fn look_for(fault: ServeFault) -> Look {
     }
 }
 
-/// Returns the sentence after a fault: the cause, and what to do. If the file of `look_for` was found, print `finding_sentence` instead.
-/// Returns `None` if the arguments do not show the cause.
+/// Returns the sentence that explains a fault: the cause, and what to do. If the file of `look_for` was found, print `finding_sentence`
+/// instead. Returns `None` if the arguments do not show the cause.
 pub fn sentence_of<'a>(
     alloc: Global,
     words: &Words<'a>,
@@ -83,7 +83,7 @@ fn or_memory<'a>(sentence: Option<Sentence<'a>>) -> Sentence<'a> {
     sentence.unwrap_or(memory_sentence())
 }
 
-// The sentence for a fault of the files, the clock, the streams or the lines of a batch.
+// The sentence for any other fault, for example of the files, the clock or standard output.
 fn rest_sentence<'a>(words: &Words<'a>, fault: ServeFault) -> Sentence<'a> {
     match fault {
         ServeFault::ReadFile => unread_sentence(words.base),

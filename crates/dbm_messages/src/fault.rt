@@ -28,7 +28,7 @@ pub enum ServeFault {
     BadRedo,
     /// Another user could have planted the redo file or the lock.
     Unsafe,
-    /// The request says that pages are wide, but the files look as if they were small.
+    /// The request says that pages are wide, but the pages of the files look small.
     OtherSize,
     /// The system does not report the time of day.
     ReadClock,
@@ -42,27 +42,27 @@ pub enum ServeFault {
     NoStock,
     /// Another run held the lock for the whole timeout.
     Locked,
-    /// The name of a lock that the run holds, or of a data file that it has read, now belongs to another file. Nothing was saved.
+    /// The name of a lock that the run holds, or of a data file that it has read, no longer refers to that file. Nothing was saved.
     Moved(MovedFile),
     /// Another program has written a data file since this run read or saved it. Nothing was saved.
     Changed,
-    /// The arguments, the files or standard input are invalid. The fault within is never `NoMemory`.
+    /// The arguments, the files or standard input are invalid. The inner fault is never `NoMemory`.
     Report(ReportFault),
-    /// A dump could not be written or loaded. The fault within is never `Read` or `NoMemory`.
+    /// A dump could not be written or loaded. The inner fault is never `Read` or `NoMemory`.
     Dump(DumpFault),
-    /// The program of a batch is refused. The fault within is never `NoMemory`.
+    /// The program of a batch is refused. The inner fault is never `NoMemory`.
     Submit(RegFault),
     /// The line of a batch with this number, counted from 1, is not a task.
     BadLine(usize),
     /// The input of a session ends within the line with this number, counted from 1, which was not run. The changes before it are saved.
     CutLine(u64),
-    /// Not all tasks of a batch were done. The fault within is never `NoMemory`, but may say that a task was refused for lack of memory.
+    /// Not all tasks of a batch were done. The inner fault is never `NoMemory`, but may say that a task was refused for lack of memory.
     Pool(PoolFault),
     /// The calls of a batch's workers differ from those of its store.
     Close(CloseFault),
     /// Standard output could not be written, and nothing was changed.
     Write,
-    /// Standard output could not be written, after the change was saved. It prints as `Write`.
+    /// Standard output could not be written, after the change was saved. Prints as `Write`.
     Saved,
     /// Out of memory.
     NoMemory,

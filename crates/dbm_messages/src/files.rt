@@ -6,7 +6,7 @@ use dbm_args::Words;
 use dbm_places::{MovedFile, folder_of};
 use sdbm_files::OpenFault;
 
-/// The base, for a sentence.
+/// The base as a part of a sentence.
 pub fn base_part<'a>(base: Option<&'a str>) -> Part<'a> {
     Part::Name(base.unwrap_or("BASE"))
 }
@@ -151,7 +151,7 @@ pub fn lock_sentence<'a>(base: Option<&'a str>, timeout: Option<&str>) -> Senten
     }
 }
 
-/// The sentence for files that look as if their pages were small.
+/// The sentence for files whose pages look small.
 pub fn small_sentence(base: Option<&str>) -> Sentence<'_> {
     let base = base_part(base);
     with_two(
@@ -161,7 +161,7 @@ pub fn small_sentence(base: Option<&str>) -> Sentence<'_> {
     )
 }
 
-/// The sentence for a file whose name now refers to another file or to none.
+/// The sentence for a file whose name now refers to another file or to no file.
 pub fn moved_sentence<'a>(base: Option<&'a str>, file: MovedFile) -> Sentence<'a> {
     let base = base_part(base);
     match file {

@@ -16,7 +16,7 @@ impl fmt::Display for Reason {
     }
 }
 
-// Returns a reason in plain words. Returns `None` for any other reason, which prints in the system's words.
+// Returns a reason in plain words, or `None` for a reason that prints in the system's words.
 fn reason_text(kind: ErrorKind) -> Option<&'static str> {
     match kind {
         ErrorKind::NotFound => Some("it does not exist"),

@@ -1,5 +1,5 @@
-//! The reasons why a run of the program fails, and the sentences on standard error: one after a fault, and notes about an answer. They are
-//! values, which other crates print.
+//! The reasons why a run of the program fails, and the sentences on standard error: one after a fault, and notes about an answer. Other
+//! crates print them.
 #![tactic(auto)]
 
 mod advice;

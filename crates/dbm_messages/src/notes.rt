@@ -1,4 +1,4 @@
-//! Notes that explain an answer, for example one that the user may not expect.
+//! Notes that explain an answer that the user may not expect.
 
 use crate::sentence::{Part, Sentence, plain, with_one, with_three, with_two};
 
@@ -86,7 +86,7 @@ pub fn holder_note<'a>(base: &'a str, process: u64, name: Option<&'a String>) ->
     )
 }
 
-/// The note with the number of the first bad line of a script, counted from 1, and the number of further bad lines.
+/// The note about the bad lines of a script: the number of the first one, counted from 1, and how many more there are.
 pub fn bad_lines_note(first: u64, more: u64) -> Sentence<'static> {
     let first = Part::Number(first);
     if more == 0 {

@@ -9,7 +9,7 @@ use stock_names::NAMES;
 use store_cmd::Refusal;
 use worker_pool::PoolFault;
 
-/// A program's file, for a sentence.
+/// A program's file as a part of a sentence.
 pub fn file_part<'a>(file: Option<&'a str>) -> Part<'a> {
     Part::Name(file.unwrap_or("FILE"))
 }

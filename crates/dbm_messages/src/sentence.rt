@@ -50,7 +50,7 @@ fn show_name<W: fmt::Write>(name: &str, f: &mut fmt::Formatter<W>) -> fmt::Resul
     f.write_str(name)
 }
 
-/// A sentence. It prints as its pattern, in which the parts replace the placeholders `{}` in order.
+/// A sentence. It prints as its pattern, with each placeholder `{}` replaced by the next part.
 #[derive(Clone, Copy)]
 pub struct Sentence<'a> {
     pub pattern: &'static str,

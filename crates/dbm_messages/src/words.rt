@@ -35,13 +35,13 @@ pub fn layout_sentence(layout: Option<&str>) -> Sentence<'_> {
     word_sentence(Named { name: "--as", word }, NO_LAYOUT)
 }
 
-/// The sentence for the first argument that should be hex and is not.
+/// The sentence for the first argument that is not valid hex.
 pub fn hex_sentence<'a>(alloc: Global, words: &Words<'a>) -> Option<Sentence<'a>> {
     let wrong = first_wrong(alloc, &Notation::Hex, words)?;
     Some(word_sentence(wrong, NO_HEX))
 }
 
-/// The sentence for the first argument that should be text and is not.
+/// The sentence for the first argument that is not valid text.
 pub fn text_sentence<'a>(alloc: Global, words: &Words<'a>) -> Option<Sentence<'a>> {
     let wrong = first_wrong(alloc, &Notation::Text, words)?;
     Some(word_sentence(wrong, NO_TEXT))
@@ -66,7 +66,7 @@ fn is_bytes(alloc: Global, notation: &Notation<Global>, word: &str) -> bool {
     matches!(read_bytes(alloc, notation, word.as_bytes()), Ok(Some(_)))
 }
 
-/// The sentence for the first argument that should be a number and is not.
+/// The sentence for the first numeric argument that is not a number.
 pub fn number_sentence<'a>(numbers: Numbers<'a>) -> Option<Sentence<'a>> {
     if let Some(wrong) = wrong_number("--timeout", numbers.timeout) {
         return Some(word_sentence(wrong, NO_NUMBER));
@@ -118,7 +118,7 @@ fn wrong_number<'a>(name: &'static str, word: Option<&'a str>) -> Option<Named<'
     Some(Named { name, word })
 }
 
-// The sentence for an invalid argument. It shows the argument if that has at most 64 bytes.
+// The sentence for an invalid argument. Shows an argument of at most 64 bytes.
 fn word_sentence<'a>(named: Named<'a>, wrong: &'static str) -> Sentence<'a> {
     let (name, wrong) = (Part::Text(named.name), Part::Text(wrong));
     if named.word.is_empty() {

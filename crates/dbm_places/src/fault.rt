@@ -5,7 +5,7 @@ ghost use Rattle.dbm_places.specs.declared.fault.FilesFault.TheVariants.{NoMemor
 use sdbm_saves::{DiskError, SavePlanFault};
 use std::alloc::{AllocError, AllocFailed};
 
-/// A file of a database whose name now refers to a different file.
+/// A file of a database whose name no longer refers to it.
 #[derive(Clone, Copy, Debug, PartialEq, Eq)]
 pub enum MovedFile {
     /// BASE.lock, which this run holds.
@@ -18,8 +18,7 @@ pub enum MovedFile {
     Directory,
 }
 
-/// The reason why files could not be read, locked or written. It does not name the file; `find_unread` and similar functions find that
-/// file.
+/// The reason why files could not be read, locked or written. It does not name the file; `find_unread` and similar functions do.
 #[derive(Clone, Copy, Debug, PartialEq, Eq)]
 pub enum FilesFault {
     /// A file could not be read.

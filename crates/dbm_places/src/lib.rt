@@ -1,5 +1,5 @@
-//! The files of a database: their names, symbolic links that lead to them, the files next to them, the locks that keep runs apart, and the
-//! reasons why files cannot be read, locked or written (`FilesFault`).
+//! The files of a database: their names, symbolic links to them, the files next to them, the locks that keep runs apart, and the reasons
+//! why files cannot be read, locked or written (`FilesFault`).
 #![tactic(auto)]
 
 mod absent;

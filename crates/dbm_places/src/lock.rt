@@ -13,7 +13,7 @@ use std::time::{Clock, Duration, Instant};
 /// Longest pause between two attempts to take a lock, in milliseconds.
 const LONGEST_REST: u64 = 5;
 
-/// Maximum number of attempts to take a lock, if its name refers to a different file each time.
+/// Maximum number of attempts to take a lock whose name refers to a different file after each attempt.
 const MOST_LOCKS: usize = 100;
 
 /// Maximum number of times that a reading run yields to a waiting save. The limit exists because the saving process may be suspended.
@@ -22,16 +22,16 @@ const MOST_YIELDS: usize = 8;
 /// The locks of a run that may change a database. Other runs wait until these locks are dropped.
 #[derive(Drop)]
 pub struct WriteLocks {
-    /// BASE.writer, locked exclusively while this run does not use the files, and shared while it does. So if the run is killed while it
-    /// uses the files, readers never take the data files for complete, even if the system releases BASE.lock first.
+    /// BASE.writer, locked exclusively while this run does not use the files, and shared while it does. If the run is killed while it uses
+    /// the files, readers therefore use the redo file, even if the system releases BASE.lock first.
     pub writer: File,
     /// BASE.lock, locked while the run uses the files.
     pub files: File,
 }
 
 impl WriteLocks {
-    /// Releases BASE.lock. The data files must contain all saves. First takes BASE.writer exclusively, if that is possible at once. It is
-    /// impossible if a process was suspended while it checked BASE.writer. Then BASE.writer stays shared, and readers use the redo file.
+    /// Releases BASE.lock. The data files must contain all saves. First locks BASE.writer exclusively, if that needs no wait. If a process
+    /// was suspended while it checked BASE.writer, the lock stays shared, and readers use the redo file.
     pub fn leave_files(&self) {
         if self.writer.try_lock().is_err() {
             let _ = self.writer.lock_shared();
@@ -70,7 +70,7 @@ fn share(writer: &File) -> Result<(), FilesFault> {
     }
 }
 
-/// How a run takes a lock: shared or exclusive, and how long it waits.
+/// The mode of a lock, and the longest wait for it.
 #[derive(Clone, Copy)]
 struct Take {
     shared: bool,
@@ -83,7 +83,8 @@ struct Take {
 ///
 /// # Errors
 /// `Unsafe` if another user could have planted a lock, `WriteFile` if a lock cannot be created or taken, `Locked` if another run held a
-/// lock for the whole wait, and `Moved` if the name of BASE.lock refers to a different file each time. Interrupted calls are repeated.
+/// lock for the whole wait, and `Moved` if the name of BASE.lock refers to a different file at each attempt. Interrupted calls are
+/// repeated.
 pub fn lock_to_write<R: Files<File = File> + Clock>(
     rt: &R,
     names: &Names,
@@ -91,8 +92,8 @@ pub fn lock_to_write<R: Files<File = File> + Clock>(
 ) -> Result<WriteLocks, FilesFault> {
     let mut patience = patience;
     for _ in 0..u64::MAX {
-        // While another run has the database open, this run tries no lock, so that it does not disturb readers. With a patience of 0 it
-        // tries the locks once, without this check.
+        // While another run has the database open, this run tries no lock, so that it does not disturb readers. With a patience of 0, it
+        // tries the locks once without this check.
         if patience != Some(Duration::ZERO) && has_writer(rt, names) {
             patience = rest_within(rt, patience)?;
             continue;
@@ -179,7 +180,7 @@ fn open_to_lock<R: Files<File = File>>(
 ///
 /// # Errors
 /// `Unsafe` if another user could have planted the lock, `ReadFile` if it cannot be opened or locked, `Locked` if a writing run held it for
-/// the whole wait, and `Moved` if the name refers to a different file each time.
+/// the whole wait, and `Moved` if the name refers to a different file at each attempt.
 pub fn lock_to_read<R: Files<File = File> + Clock + AllocGlobal>(
     rt: &R,
     names: &Names,
@@ -237,13 +238,14 @@ fn share_files<R: Files<File = File> + Clock>(
 }
 
 // Returns `true` if a save waits for BASE.lock, which this run shares. A save waits if a process holds BASE.writer, but not exclusively. A
-// reader holds it in the same way for a moment while it checks BASE.writer, and then counts as a save.
+// reader that checks BASE.writer holds it shared for a moment, and then counts as a save.
 fn is_waited_for<R: Files<File = File> + AllocGlobal>(rt: &R, names: &Names) -> bool {
     !has_writer(rt, names) && locker_of(rt, names.writer.as_str()).is_some()
 }
 
-/// Returns `true` if another run has the database open for changes. If the caller holds BASE.lock, the data files then contain all saves,
-/// even if the redo file is not empty. Returns `false` if it cannot be determined whether there is such a run.
+/// Returns `true` if another run holds BASE.writer exclusively: it has the database open for changes, but does not use the files now. If
+/// the caller holds BASE.lock, the data files then contain all saves, even if the redo file is not empty. Returns `false` if the lock
+/// cannot be checked.
 pub fn has_writer<R: Files<File = File>>(rt: &R, names: &Names) -> bool {
     let (name, pages) = (names.writer.as_str(), names.pages.as_str());
     let Ok(file) = open_beside(rt, Side::Lock, name, pages, false) else {
@@ -289,7 +291,7 @@ fn take_lock<C: Clock>(
     Ok(Some(left))
 }
 
-// Tries to take the lock, with growing pauses, until the time is over. Returns the remaining time.
+// Tries to take the lock, with growing pauses, until `patience` is over. Returns the remaining time.
 fn take_within<C: Clock>(
     clock: &C,
     file: &File,
@@ -322,8 +324,8 @@ fn take_within<C: Clock>(
     Err(TryLockError::WouldBlock)
 }
 
-// Opens a lock file, or creates it if it is missing. If another run has created it meanwhile, opens that one. It is enough if the file can
-// be opened for reading.
+// Opens a lock file, or creates it if it is missing. If another run creates the file first, opens that file. If the file cannot be opened
+// for writing, opens it for reading.
 fn open_lock<R: Files<File = File>>(rt: &R, name: &str, pages: &str) -> Result<File, SideFault> {
     match open_there(rt, name, pages) {
         Err(SideFault::Absent) => match make_lock(rt, name, pages) {

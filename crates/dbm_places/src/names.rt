@@ -76,8 +76,8 @@ pub struct Names {
     pub writer: String,
 }
 
-/// The files to be read for a run, in this order: BASE.dir and BASE.pag, which may be missing, and the program's file. The error is
-/// `AllocError`.
+/// Returns the files to be read for a run, in this order: BASE.dir and BASE.pag, which may be missing, and the program's file. Fails only
+/// if allocation fails.
 pub fn sources(alloc: Global, place: RunPlace<'_>) -> Result<Vec<Source>, AllocError>
     ensures { IfOk result (λ sources. map shown_source sources.items ≡ files_read place.entry) }
 {
@@ -129,7 +129,7 @@ fn program_source(alloc: Global, file: &str) -> Result<Source, AllocError>
     })
 }
 
-/// The names of the files of a base: BASE.pag, BASE.dir, BASE.redo, BASE.lock and BASE.writer. The error is `AllocError`.
+/// Returns the names of the files of a base: BASE.pag, BASE.dir, BASE.redo, BASE.lock and BASE.writer. Fails only if allocation fails.
 pub fn names_of(alloc: Global, base: &str) -> Result<Names, AllocError>
     ensures { IfOk result (AreNames base.now) }
 {
@@ -142,7 +142,7 @@ pub fn names_of(alloc: Global, base: &str) -> Result<Names, AllocError>
     })
 }
 
-/// The folder that contains a file.
+/// Returns the folder that contains a file.
 pub fn folder_of(name: &str) -> &str {
     match name.rsplit_once('/') {
         Some(("", _)) => "/",

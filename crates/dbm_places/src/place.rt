@@ -21,7 +21,7 @@ pub struct FileId {
 }
 
 impl FileId {
-    /// The ID of the file with this metadata.
+    /// Returns the ID of the file with this metadata.
     pub fn of(found: &Metadata) -> FileId {
         FileId {
             device: found.dev(),
@@ -38,7 +38,7 @@ pub struct SeenFiles {
 }
 
 impl SeenFiles {
-    /// Both data files are missing.
+    /// The IDs if both data files are missing.
     pub fn none() -> SeenFiles {
         SeenFiles {
             pages: None,
@@ -65,7 +65,7 @@ impl SeenFiles {
         self.pages.is_none() || self.directory.is_none()
     }
 
-    /// Returns these IDs, with that of the created file for each file that was missing. A file that existed keeps its ID, even if its name
+    /// Returns these IDs, and for each file that was missing the ID of the created file. A file that existed keeps its ID, even if its name
     /// now refers to a different file.
     pub fn with_made(&self, made: &DataFiles) -> SeenFiles {
         let made = made.seen();
@@ -90,7 +90,7 @@ impl SeenFiles {
     }
 }
 
-/// The data files of a database, which are held open, so that no other file gets the ID of one of them.
+/// The data files of a database, held open so that no other file gets one of their IDs.
 #[derive(Drop)]
 pub struct DataFiles {
     pages: Option<File>,
@@ -117,7 +117,7 @@ impl DataFiles {
         }
     }
 
-    /// The IDs of these files.
+    /// Returns the IDs of these files.
     pub fn seen(&self) -> SeenFiles {
         SeenFiles {
             pages: id_of_opened(&self.pages),
@@ -134,7 +134,7 @@ fn open_plain<R: Files<File = File>>(rt: &R, name: &str) -> Option<File> {
     fs::open(rt, name).ok()
 }
 
-// The ID of an open file.
+// Returns the ID of an open file, or `None` if no file is open.
 fn id_of_opened(file: &Option<File>) -> Option<FileId> {
     let Some(file) = file else {
         return None;
@@ -182,12 +182,12 @@ impl Place {
         })
     }
 
-    /// Opens the data files that are not open yet. `must_be_open` checks later that the files that were read are the open ones.
+    /// Opens the data files that are not open yet. `must_be_open` checks later that these files were read.
     pub fn hold_data<R: Files<File = File>>(&mut self, rt: &R) {
         self.data.open_more(rt, &self.names);
     }
 
-    /// Compares the data files that were read with those that are held open.
+    /// Checks that the data files that were read are the open ones.
     ///
     /// # Errors
     /// `Moved` with the first file that differs.
@@ -195,7 +195,7 @@ impl Place {
         read.must_be(&self.data.seen())
     }
 
-    /// The base of the names: the text before `.pag`.
+    /// Returns the base of the names: the text before `.pag`.
     pub fn base(&self) -> &str {
         base_of(&self.names)
     }

@@ -1,4 +1,4 @@
-//! The redo file and the locks next to a database: when they are accepted, and how they are opened and created. Links are not followed.
+//! Checks, opens and creates the redo file and the locks next to a database. Links are not followed.
 ghost use Rattle.std.specs.Prelude.{◌≡◌, ◌↔◌, IsTrue};
 ghost use Rattle.dbm_places.specs.Sides.{TakesRedo, TakesLock, IsOwned, IsNoWider, others_write, group_writes};
 
@@ -24,7 +24,7 @@ pub enum Side {
 /// The owner, the group and the permissions of a file.
 #[derive(Clone, Copy)]
 pub struct Standing {
-    /// It is a regular file with at most one name. An open file may have lost its name.
+    /// A regular file with at most one name. An open file may have lost its name.
     pub is_plain: bool,
     pub owner: u32,
     pub group: u32,
@@ -127,7 +127,7 @@ pub fn takes_lock(side: Standing, pages: Option<Standing>, user: Option<u32>) ->
     side.is_plain && is_of_writers && is_no_wider(side, pages)
 }
 
-/// The standing of a file with this metadata.
+/// Returns the standing of a file with this metadata.
 pub fn standing_of(found: &Metadata) -> Standing {
     Standing {
         is_plain: found.is_file() && found.nlink() <= 1,
@@ -137,7 +137,7 @@ pub fn standing_of(found: &Metadata) -> Standing {
     }
 }
 
-// The standing of the pages, if they exist. Links are followed.
+// Returns the standing of the pages, if they exist. Links are followed.
 fn pages_standing<R: Files>(rt: &R, pages: &str) -> io::Result<Option<Standing>> {
     match fs::metadata(rt, pages) {
         Ok(found) => Ok(Some(standing_of(&found))),
@@ -146,7 +146,7 @@ fn pages_standing<R: Files>(rt: &R, pages: &str) -> io::Result<Option<Standing>>
     }
 }
 
-// The ID of the user for whom this run opens files, if the system reports it.
+// Returns the ID of the user for whom this run opens files, if the system reports it.
 fn own_user<R: Files>(rt: &R) -> Option<u32> {
     match fs::metadata(rt, "/proc/self") {
         Ok(found) => Some(found.uid()),
@@ -176,7 +176,7 @@ pub fn doubt_of<R: Files>(rt: &R, side: Side, name: &str, pages: &str) -> Option
 
 /// Opens an existing file next to a database for reading, and also for writing if `writes` is true. The file is checked before it is
 /// opened, so that no link is followed and no call waits for the other end of a pipe. The open file is checked again, since the name may
-/// refer to a different file by then. In that case the call tries again.
+/// refer to a different file by then; the call then tries again. Fails with `Unsafe` if the file is not accepted.
 pub fn open_beside<R: Files<File = File>>(
     rt: &R,
     side: Side,
@@ -262,8 +262,8 @@ fn mode_like(given: Standing, like: Standing) -> u32 {
 }
 
 /// Creates an empty lock file, which must not exist. All users who may use the pages can take the lock: if the file cannot get the owner
-/// and the group of the pages, all users may read it. Before it is like the pages, only this user may write it. The call fails if this user
-/// may not write the pages.
+/// and the group of the pages, all users may read it. Until its permissions are set, only this user may write it. The call fails if this
+/// user may not write the pages.
 pub fn make_lock<R: Files<File = File>>(rt: &R, name: &str, pages: &str) -> io::Result<File> {
     match OpenOptions::new().read(true).write(true).open(rt, pages) {
         Err(error) if error.kind() != ErrorKind::NotFound => return Err(error),

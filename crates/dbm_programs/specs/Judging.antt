@@ -41,7 +41,7 @@ IsExplained image report =
 abbrev pub Explains : Bool → List ℕ → Report → Type 0
 Explains is_image file report = (image : List ℕ) × (IsFileImage is_image file image × IsExplained image report)
 
--- the report of the verdict on the program in a file; the first flag says whether it is explained
+-- the report of the verdict on the program in a file; it is explained if the first flag is true
 abbrev pub VerifyReports : Bool → Bool → List ℕ → Report → Type 0
 VerifyReports false is_image file report = Verifies is_image file report
 VerifyReports true is_image file report = Explains is_image file report

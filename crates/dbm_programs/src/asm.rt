@@ -41,7 +41,7 @@ impl<'a> Asm<'a> {
         }
     }
 
-    /// The arguments that messages may show.
+    /// Returns the arguments that messages may show.
     pub fn words(&self) -> Words<'a> {
         Words {
             subject: Subject::Asm,

@@ -44,7 +44,7 @@ impl<'a> Disasm<'a> {
         }
     }
 
-    /// The arguments that messages may show.
+    /// Returns the arguments that messages may show.
     pub fn words(&self) -> Words<'a> {
         Words {
             subject: Subject::Disasm,

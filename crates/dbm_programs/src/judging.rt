@@ -1,4 +1,4 @@
-//! Finds the verdict on the program in a file.
+//! The verdict on the program in a file.
 ghost use Rattle.std.specs.Prelude.{◌≡◌, IfOk, IfErr};
 ghost use Rattle.dbm_reports.specs.Causes.{IsCaused, file_causes};
 ghost use Rattle.dbm_programs.specs.Judging.{Judges, Verifies, accepted_line};
@@ -12,7 +12,7 @@ use std::alloc::{AllocError, Allocator, Global};
 /// script line that submits the image.
 ///
 /// # Errors
-/// The errors of `file_image`, and `NoMemory`.
+/// The errors of `file_image`, and `NoMemory` if allocation fails.
 pub fn verify_file(alloc: Global, file: &[u8], is_image: bool) -> Result<Report, ReportFault>
     ensures ok { IfOk result (Verifies is_image file.now) }
     ensures fault { IfErr result (IsCaused (file_causes is_image file.now)) }
@@ -35,7 +35,7 @@ pub fn judge_image(alloc: Global, image: &[u8]) -> Result<Report, AllocError>
     }
 }
 
-/// The line `accepted UNITS`.
+/// Returns the line `accepted UNITS`.
 ///
 /// # Errors
 /// `AllocError` if allocation fails.

@@ -11,7 +11,7 @@ use dbm_args::{Words, subcommand, word};
 use std::alloc::{AllocError, Global};
 use stock_names::{ProgramWord, Stock, read_word};
 
-/// The arguments of `programs`, which lists the stock programs or describes the named one.
+/// The arguments of `programs`. Without a name, it lists the stock programs; with a name, it describes that program.
 #[derive(Clone, Copy, Debug)]
 pub struct Programs<'a> {
     pub name: Option<&'a str>,
@@ -27,7 +27,7 @@ impl<'a> Programs<'a> {
         }
     }
 
-    /// The arguments that messages may show.
+    /// Returns the arguments that messages may show.
     pub fn words(&self) -> Words<'a> {
         Words {
             file: self.name,

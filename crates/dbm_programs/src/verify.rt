@@ -55,7 +55,7 @@ impl<'a> Verify<'a> {
         }
     }
 
-    /// The arguments that messages may show.
+    /// Returns the arguments that messages may show.
     pub fn words(&self) -> Words<'a> {
         Words {
             image: self.image,

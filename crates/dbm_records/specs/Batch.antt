@@ -23,6 +23,6 @@ abbrev pub BatchAsks : List Row → Batch → Type 0
 BatchAsks rows batch =
     IsWord (codes "BASE") rows batch.base × (IsForm rows batch.form × (IsNotation rows batch.notation × (IsWord (codes "FILE") rows batch.file × ((batch.workers.now ≡ workers_in rows) × ((batch.image ≡ is_given (codes "image") rows) × ((batch.clock ≡ is_given (codes "clock") rows) × (batch.time ≡ None)))))))
 
--- the files of the subcommand and the notation of its arguments
+-- the head of the subcommand: its files and its notation
 abbrev pub batch_head : Batch → Head
 batch_head batch = record (head_on (Some batch.base)) { file = Some batch.file; image = batch.image; writes = true; notation = batch.notation }

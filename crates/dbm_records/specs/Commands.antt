@@ -1,4 +1,4 @@
--- A command on the database of the files, read from words as in a script line.
+-- A command on the database in the files, read from words as in a script line.
 use Rattle.std.specs.Prelude.{◌≡◌, ℕ, Bool, true, false, cond, List, [], ◌∷◌, codes, Option, Some, None, ◌≢◌}
 use Rattle.std.specs.declared.alloc.Global.{Global}
 use Rattle.sdbm_addr.specs.Database.{Database}
@@ -15,7 +15,7 @@ use Rattle.dbm_reports.specs.Databases.{IsOpened, IsShut}
 use Rattle.dbm_script.specs.Notation.{reads_hex}
 use Rattle.dbm_reports.specs.Causes.{Causes, no_causes}
 
--- the words are a command, and P holds of the database of the files and this command
+-- the words are a command, and P holds for the database in the files and this command
 pub record OnCommand (notation : Notation Global) (form : Form) (given : Given) (words : List (List ℕ)) (P : Database → Command Global → Type 0) : Type 0 where
   pub before : Database
   pub opened : IsOpened form given before
@@ -23,7 +23,7 @@ pub record OnCommand (notation : Notation Global) (form : Form) (given : Given) 
   pub is : command_of_words notation words ≡ Some command
   pub holds : P before command
 
--- the words of the script lines that mean the same as the subcommands
+-- the words of the script lines that are equivalent to the subcommands
 abbrev pub fetch_words : List ℕ → List (List ℕ)
 fetch_words key = codes "fetch" ∷ (key ∷ [])
 
@@ -36,7 +36,7 @@ store_words key value insert = store_command_name insert ∷ (key ∷ (value ∷
 abbrev pub delete_words : List ℕ → List (List ℕ)
 delete_words key = codes "delete" ∷ (key ∷ [])
 
--- the faults of a command; those of its words come before those of the files
+-- the faults of a command; faults of its words come before faults of the files
 abbrev pub command_causes : Notation Global → Form → Given → List (List ℕ) → Causes
 command_causes notation form given words = record no_causes {
   words = (reads_hex notation ≡ true) × (command_of_words notation words ≡ None);

@@ -27,6 +27,6 @@ delete_in n delete given = record {
   causes = command_causes n delete.form given (delete_words (word_asked delete.raw_key n delete.key.now));
 }
 
--- the files of the subcommand and the notation of its arguments
+-- the head of the subcommand: its files and its notation
 abbrev pub delete_head : Delete → Head
 delete_head delete = record (head_on (Some delete.base)) { writes = true; notation = delete.notation }

@@ -29,7 +29,7 @@ abbrev pub EachAsks : List Row → Each → Type 0
 EachAsks rows each =
     IsWord (codes "BASE") rows each.base × (IsForm rows each.form × (IsNotation rows each.notation × (IsWord (codes "FILE") rows each.file × (IsWord (codes "ARG") rows each.arg × (IsWord (codes "NOW") rows each.now × (IsOptionGiven (codes "prefix") rows each.prefix × ((each.image ≡ is_given (codes "image") rows) × (each.dry_run ≡ is_given (codes "dry-run") rows))))))))
 
--- the files of the subcommand and the notation of its arguments
+-- the head of the subcommand: its files and its notation
 abbrev pub each_head : Each → Head
 each_head each = record (head_on (Some each.base)) { file = Some each.file; image = each.image; writes = not each.dry_run; notation = each.notation }
 
@@ -66,7 +66,7 @@ each_causes n each given = record no_causes {
   assembling = λ fault. MeansEach n each × (program_causes each.form given each.image).assembling fault;
 }
 
--- the report of the runs on the database of the files, with the program of the program's file
+-- the report of the runs of the program in the program's file, on the database in the files
 pub record OnEach (n : Notation Global) (each : Each) (given : Given) (report : Report) : Type 0 where
   pub before : Database
   pub opened : IsOpened each.form given before

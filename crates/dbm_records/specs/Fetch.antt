@@ -51,6 +51,6 @@ fetch_in n fetch given = record {
   causes = command_causes n fetch.form given (fetch_words (word_asked fetch.raw_key n fetch.key.now));
 }
 
--- the files of the subcommand and the notation of its arguments
+-- the head of the subcommand: its files and its notation
 abbrev pub fetch_head : Fetch → Head
 fetch_head fetch = record (head_on (Some fetch.base)) { notation = fetch.notation }

@@ -34,7 +34,7 @@ abbrev pub IncrAsks : List Row → Incr → Type 0
 IncrAsks rows incr =
     IsWord (codes "BASE") rows incr.base × (IsForm rows incr.form × (IsNotation rows incr.notation × (IsWord (codes "KEY") rows incr.key × (IsOptionGiven (codes "AMOUNT") rows incr.amount × (IsOptionGiven (codes "min") rows incr.min × (IsOptionGiven (codes "max") rows incr.max × (incr.raw_key ≡ is_given (codes "raw-key") rows)))))))
 
--- the files of the subcommand and the notation of its arguments
+-- the head of the subcommand: its files and its notation
 abbrev pub incr_head : Incr → Head
 incr_head incr = record (head_on (Some incr.base)) { writes = true; notation = incr.notation }
 
@@ -62,11 +62,11 @@ numbers_of amount min max = all_numbers (amount_in amount) (bound_in 0 min) (bou
 abbrev pub incr_words : List ℕ → IncrNumbers → RunWords Global
 incr_words key numbers = record { key = key; arg = counter_argument numbers.amount numbers.min numbers.max; blank = Some 8; now = 0 }
 
--- the text without `ran CODE ` at its start, where CODE is one digit
+-- the text without `ran CODE ` at its start; CODE is one digit
 abbrev pub after_code : List ℕ → List ℕ
 after_code text = cond (starts_with nat_eq text (codes "ran ")) (drop (min (length text) 6) text) text
 
--- the same, but code 4 says that the value is too short
+-- `after_code`, except that the text for code 4 is `too short`
 abbrev pub number_alone : List ℕ → List ℕ
 number_alone text = cond (starts_with nat_eq text (codes "ran 4 ")) (codes "too short" ++ 10 ∷ []) (after_code text)
 

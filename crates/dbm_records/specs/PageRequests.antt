@@ -39,8 +39,8 @@ AnswersRequest n (asked.Fetch command raw) db report = FetchShows raw n db comma
 AnswersRequest n (asked.Change command) db report = ChangesFiles n db command None report
 AnswersRequest n (asked.Run words program expect) db report = RunsImage n db words expect program.items report
 
--- The request means the same as the arguments of a subcommand. It is about a key, and its result on the database of the files is a result
--- that the subcommand allows (`comes`).
+-- The request means the same as the arguments of a subcommand. It is about a key. `comes` says which reports the subcommand allows on the
+-- files; it allows each report of the request on the database of the files.
 pub record IsMeant (form : Form) (file : List ℕ) (n : Notation Global) (comes : Given → Report → Type 0) (asked : PageRequest) : Type 0 where
   pub keyed : IsKeyed asked
   pub same : (given : Given) (db : Database) (report : Report) → given.file.items ≡ file → IsOpened form given db → AnswersRequest n asked db report → comes given report

@@ -17,14 +17,14 @@ use Rattle.dbm_records.specs.PageRequests.{AnswersRequest}
 abbrev pub report_with : PageResult → Option Database → Report
 report_with quick after = record { text = quick.text; status = quick.status; database = after; notes = quick.notes }
 
--- The text and the status are also those of the request on the whole database. If the files are as a save leaves them, the plan makes them
--- the files of the database after the request.
+-- The request on the whole database has the same text and the same status. If the files are as a save leaves them, the plan makes them the
+-- files of the database after the request.
 pub record PageComesTo (n : Notation Global) (asked : PageRequest) (quick : PageResult) (db : Database) (pag dir : List ℕ) : Type 0 where
   pub after : Option Database
   pub answers : AnswersRequest n asked db (report_with quick after)
   pub saves : AreFilesFor db pag dir → SavesAs after quick.plan pag dir
 
--- this holds for all whole files that contain the part that was read
+-- `PageComesTo` holds for all whole files that contain the part that was read
 abbrev pub IsPageResult : Notation Global → PageRequest → Part → KeyBytes → PageSize → PageResult → Type 0
 IsPageResult n asked part kind size quick =
     (db : Database) (pag : List ℕ) → db.kind ≡ kind → db.size ≡ size → AreWhole part quick.numbers.items db pag → PageComesTo n asked quick db pag part.directory.now

@@ -83,6 +83,6 @@ rename_in n rename given = record {
   causes = command_causes n rename.form given (store_words (word_asked rename.raw_key n rename.key.now) (word_asked rename.raw_key n rename.new_key.now) (not rename.replace));
 }
 
--- the files of the subcommand and the notation of its arguments
+-- the head of the subcommand: its files and its notation
 abbrev pub rename_head : Rename → Head
 rename_head rename = record (head_on (Some rename.base)) { writes = true; notation = rename.notation }

@@ -33,6 +33,6 @@ run_in n run given = record {
   causes = run_causes n run.form given (texts_of n run) run.image;
 }
 
--- the files of the subcommand and the notation of its arguments
+-- the head of the subcommand: its files and its notation
 abbrev pub run_head : Run → Head
 run_head run = record (head_on (Some run.base)) { file = Some run.file; image = run.image; writes = true; notation = run.notation }

@@ -55,7 +55,7 @@ word_causes notation texts = record no_causes {
   numbers = HasBadNumber notation texts.key texts.arg texts.blank texts.now ⊎ HasBadCode notation texts;
 }
 
--- the faults of the files; those of the database come before that of the program
+-- the faults of the files; faults of the database come before faults of the program
 abbrev pub program_causes : Form → Given → Bool → Causes
 program_causes form given is_image = record no_causes {
   opening = IsShut form given;
@@ -63,7 +63,7 @@ program_causes form given is_image = record no_causes {
   assembling = λ fault. CanBeOpened form given × (file_causes is_image given.file.items).assembling fault;
 }
 
--- the faults of a run; those of the words come before those of the files
+-- the faults of a run; faults of the words come before faults of the files
 abbrev pub run_causes : Notation Global → Form → Given → RunTexts → Bool → Causes
 run_causes notation form given texts is_image = record no_causes {
   words = (word_causes notation texts).words;
@@ -79,14 +79,14 @@ abbrev pub refusal_status : Option ℕ → ℕ
 refusal_status None = 1
 refusal_status (Some code) = 3
 
--- Either the image is that of an accepted program, and the report is that of its run. Or a registry without programs refuses the image, and
--- the report gives the reason and the unchanged database.
+-- The program of the image is accepted, and the report is that of its run; or a registry without programs refuses the image, and the report
+-- gives the reason and the unchanged database.
 abbrev pub RunsImage : Notation Global → Database → RunWords Global → Option ℕ → List ℕ → Report → Type 0
 RunsImage notation before words expect image report =
     ((p : Accepted) × (IsProgramOf image p × ChangesFiles notation before (Run words.key p.code words.arg words.blank words.now) expect report))
     ⊎ ((fault : RegFault) × (Denies [] image fault × ReportsRefusal fault (refusal_status expect) (Some before) report))
 
--- the report of a run on the database of the files, with the program of the program's file
+-- the report of a run of the program in the program's file, on the database in the files
 pub record OnRun (notation : Notation Global) (form : Form) (given : Given) (texts : RunTexts) (is_image : Bool) (report : Report) : Type 0 where
   pub before : Database
   pub opened : IsOpened form given before

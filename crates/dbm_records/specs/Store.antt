@@ -65,6 +65,6 @@ store_by true n store given input = record {
 abbrev pub store_in : Notation Global → Store → Given → Option (List ℕ) → Known
 store_in n store given input = store_by (takes_input store) n store given input
 
--- the files of the subcommand and the notation of its arguments
+-- the head of the subcommand: its files and its notation
 abbrev pub store_head : Store → Head
 store_head store = record (head_on (Some store.base)) { writes = true; notation = store.notation }

@@ -1,4 +1,4 @@
-//! The arguments of `batch`, in which workers run a program on the records of many keys in parallel.
+//! The arguments of `batch`, which runs a program on the records of many keys in parallel.
 ghost use Rattle.std.specs.Prelude.{◌≡◌, IfOk, IfSome, IsNone, codes, false};
 ghost use Rattle.clap.specs.Words.{found_of, new_rule, rows_of, rule_of};
 ghost use Rattle.dbm_args.specs.CommandLine.{IsSubcommand};
@@ -31,7 +31,7 @@ pub struct Batch<'a> {
     pub image: bool,
     /// Lines may use the time of day.
     pub clock: bool,
-    /// The time of day for the lines, after the clock was read.
+    /// The time of day for the lines. `None` until the clock is read.
     pub time: Option<TimeOfDay>,
 }
 
@@ -53,7 +53,7 @@ impl<'a> Batch<'a> {
         })
     }
 
-    /// Returns the files of the subcommand and the notation of its arguments.
+    /// Returns the head of the subcommand: its files and its notation.
     pub fn head(&self) -> Head<'a>
         ensures { result ≡ batch_head self.now }
     {
@@ -66,7 +66,7 @@ impl<'a> Batch<'a> {
         }
     }
 
-    /// The arguments that messages may show.
+    /// Returns the arguments that messages may show.
     pub fn words(&self) -> Words<'a> {
         Words {
             file: Some(self.file),
@@ -80,7 +80,7 @@ impl<'a> Batch<'a> {
     }
 }
 
-// The argument for the number of workers. The default is one for each core.
+// Returns the argument for the number of workers, by default `EACH_CORE`.
 fn workers_in<'a>(matches: &ArgMatches<'a>) -> &'a str
     ensures { result.now ≡ spec.workers_in (rows_of (found_of matches.now)) }
 {
@@ -100,7 +100,7 @@ fn workers_word<'a>(alloc: Global) -> Arg<'a>
     Arg::new(alloc, "WORKERS").help(help)
 }
 
-/// Defines the subcommand `batch` for `clap`.
+/// Declares the subcommand `batch` for `clap`.
 ///
 /// # Errors
 /// `AllocError` if allocation fails.

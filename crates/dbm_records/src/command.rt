@@ -1,4 +1,4 @@
-//! Reads one command and opens the database that it is for.
+//! Reads one command and opens its database.
 ghost use Rattle.std.specs.Prelude.{◌≡◌, ◌∷◌, map, IfOk, IfErr, None, Some};
 ghost use Rattle.dbm_script.specs.Commands.{command_of_words};
 ghost use Rattle.dbm_args.specs.declared.options.Form.{Form};
@@ -15,7 +15,7 @@ use sdbm_files::Image;
 use std::alloc::Global;
 use store_cmd::{Command, Entry, Reply};
 
-/// Reads the command that a name and its arguments describe, then opens the database of the files.
+/// Reads the command that a name and its arguments describe, then opens the database in the files.
 ///
 /// # Errors
 /// `BadHex` (or in a text notation `BadText`) if a word is invalid, and the errors of `open`.
@@ -38,7 +38,7 @@ pub fn command_on(
 /// Reads the command that a name and its arguments describe.
 ///
 /// # Errors
-/// `BadHex` (or in a text notation `BadText`) if a word is invalid, and `NoMemory`.
+/// `BadHex` (or in a text notation `BadText`) if a word is invalid, and `NoMemory` if allocation fails.
 pub fn command_in(
     alloc: Global,
     notation: &Notation<Global>,
@@ -54,7 +54,7 @@ pub fn command_in(
     Ok(command)
 }
 
-/// Returns the value in an answer, or the answer itself as the error if it has no value.
+/// Returns the value in an answer. Fails with the answer itself if it has no value.
 pub fn value_of(answer: Answer<Global>) -> Result<Bytes<Global>, Answer<Global>>
     ensures ok { IfOk result (λ value. value_in answer ≡ Some value) }
     ensures err { IfErr result (λ other. (other ≡ answer) × (value_in answer ≡ None)) }
@@ -77,7 +77,7 @@ pub fn value_of(answer: Answer<Global>) -> Result<Bytes<Global>, Answer<Global>>
     }
 }
 
-/// The argument of a key, if messages may show it. A raw key is always valid, so no message shows it.
+/// Returns the argument of a key for messages. Returns `None` for a raw key, which is always valid.
 pub fn named_key<'a>(word: &'a str, raw: bool) -> Option<Named<'a>> {
     if raw {
         return None;

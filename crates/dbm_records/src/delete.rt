@@ -45,7 +45,7 @@ impl<'a> Delete<'a> {
         })
     }
 
-    /// Returns the files of the subcommand and the notation of its arguments.
+    /// Returns the head of the subcommand: its files and its notation.
     pub fn head(&self) -> Head<'a>
         ensures { result ≡ delete_head self.now }
     {
@@ -56,7 +56,7 @@ impl<'a> Delete<'a> {
         }
     }
 
-    /// The arguments that messages may show.
+    /// Returns the arguments that messages may show.
     pub fn words(&self) -> Words<'a> {
         Words {
             first: named_key(self.key, self.raw_key),

@@ -57,7 +57,7 @@ impl<'a> Each<'a> {
         })
     }
 
-    /// Returns the files of the subcommand and the notation of its arguments.
+    /// Returns the head of the subcommand: its files and its notation.
     pub fn head(&self) -> Head<'a>
         ensures { result ≡ each_head self.entry.now }
     {
@@ -70,7 +70,7 @@ impl<'a> Each<'a> {
         }
     }
 
-    /// The arguments that messages may show.
+    /// Returns the arguments that messages may show.
     pub fn words(&self) -> Words<'a> {
         Words {
             file: Some(self.file),

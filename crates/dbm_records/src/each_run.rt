@@ -22,8 +22,8 @@ pub struct EachWords {
     pub time: u64,
 }
 
-/// If the program of an image is accepted, runs it on each record whose key begins with the prefix. The report of a dry run has no
-/// database.
+/// Runs the program of an image on each record whose key begins with the prefix. If the program is refused, the report gives the reason.
+/// The report of a dry run has no database.
 ///
 /// # Errors
 /// `AllocError` if allocation fails.
@@ -43,7 +43,7 @@ pub fn run_each(
     }
 }
 
-// The database to save. A dry run has none.
+// Returns the database to save, or `None` for a dry run.
 fn written(database: Image<Global>, is_dry: bool) -> Option<Image<Global>>
     ensures { result ≡ written_by is_dry database }
 {

@@ -51,7 +51,7 @@ impl<'a> Fetch<'a> {
         })
     }
 
-    /// Returns the files of the subcommand and the notation of its arguments.
+    /// Returns the head of the subcommand: its files and its notation.
     pub fn head(&self) -> Head<'a>
         ensures { result ≡ fetch_head self.now }
     {
@@ -61,7 +61,7 @@ impl<'a> Fetch<'a> {
         }
     }
 
-    /// The arguments that messages may show.
+    /// Returns the arguments that messages may show.
     pub fn words(&self) -> Words<'a> {
         Words {
             first: named_key(self.key, self.raw_key),
@@ -152,7 +152,7 @@ pub fn look_as(
     look(alloc, notation, image, command)
 }
 
-// Makes a report whose text is only the bytes of the value that the command finds.
+// Makes a report with only the bytes of the value.
 fn look_raw(
     alloc: Global,
     image: Image<Global>,
@@ -171,7 +171,7 @@ fn look_raw(
     })
 }
 
-// The bytes of the value in an answer; no bytes if it has no value.
+// Returns the bytes of the value in an answer, or no bytes if there is no value.
 fn value_bytes(alloc: Global, answer: Answer<Global>) -> Result<Vec<u8>, AllocError>
     ensures { IfOk result (λ text. text.items ≡ bytes_or_none (value_in answer)) }
 {

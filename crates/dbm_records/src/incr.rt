@@ -28,7 +28,7 @@ use stock_names::Stock;
 /// The length of `ran CODE ` with a code of one digit.
 const AFTER_CODE: usize = 6;
 
-/// The code of a run that added.
+/// The code of a run that has added the amount.
 const ADDED: u64 = 1;
 
 /// The answer if the value has too few bytes for a number.
@@ -67,7 +67,7 @@ impl<'a> Incr<'a> {
         })
     }
 
-    /// Returns the files of the subcommand and the notation of its arguments.
+    /// Returns the head of the subcommand: its files and its notation.
     pub fn head(&self) -> Head<'a>
         ensures { result ≡ incr_head self.entry.now }
     {
@@ -78,7 +78,7 @@ impl<'a> Incr<'a> {
         }
     }
 
-    /// The arguments that messages may show. A raw key is always valid, so no message shows it.
+    /// Returns the arguments that messages may show. A raw key is always valid, so no message shows it.
     pub fn words(&self) -> Words<'a> {
         Words {
             first: if self.raw_key {
@@ -142,7 +142,8 @@ pub fn incr_command<'a>(alloc: Global) -> Result<Command<'a>, AllocError>
     let notes =
         "Prints the new number. If it would be below --min or above --max nothing changes: then the number is printed as it is,\n\
          with status 1. A missing key counts as 0. The value has 8 bytes, the lowest first, as for @counter. If it has fewer, it is\n\
-         unchanged too, and the answer is \"too short\".\n\n\
+         unchanged too, and the answer is \"too short\", with status 1. Status 3 means that nothing was added, because there is no\n\
+         room for a new key (crowded) or KEY is too long (refused). --as has the effect of --text alone: no value is printed.\n\n\
          Example: dbm incr users hits 5 --text";
     subcommand(alloc, "incr", about, notes, args)
 }
@@ -218,7 +219,7 @@ fn numbers_of(amount: Option<&str>, min: Option<&str>, max: Option<&str>) -> Opt
     Some(IncrNumbers { amount, min, max })
 }
 
-// Reads the amount, by default 1, and returns its two's complement.
+// Reads the amount, by default 1, and returns its two's complement. Returns `None` if the argument is not a number.
 fn amount_in(word: Option<&str>) -> Option<u64>
     ensures { result ≡ spec.amount_in word.entry }
 {
@@ -228,7 +229,7 @@ fn amount_in(word: Option<&str>) -> Option<u64>
     }
 }
 
-// Reads a bound. `least` is its default.
+// Reads a bound, by default `least`. Returns `None` if the argument is not a number.
 fn bound_in(word: Option<&str>, least: u64) -> Option<u64>
     ensures { result ≡ spec.bound_in least word.entry }
 {
@@ -253,8 +254,7 @@ fn key_in(
     }
 }
 
-// Makes the report of an `incr` from that of the run: if the program ran, its text is the reply word alone, or says that the value is too
-// short.
+// Makes the report of an `incr` from the report of its run. If the program ran, the text is the reply word alone, or `too short`.
 fn with_number_alone(alloc: Global, report: Report) -> Result<Report, AllocError>
     ensures text { IfOk result (λ made. made.text.items ≡ number_alone report.text.items) }
     ensures status { IfOk result (λ made. made.status ≡ report.status) }
@@ -270,7 +270,7 @@ fn with_number_alone(alloc: Global, report: Report) -> Result<Report, AllocError
     })
 }
 
-// The text without `ran CODE ` at its start; CODE is one digit. Code 4 says that the value is too short.
+// Returns the text without `ran CODE ` at its start, or `too short` for code 4. CODE is one digit.
 fn shown_number(text: &[u8]) -> &[u8]
     ensures { result.now ≡ number_alone text.now }
 {

@@ -34,7 +34,7 @@ pub enum PageRequest {
 }
 
 impl PageRequest {
-    /// The key of the request.
+    /// Returns the key of the request.
     pub fn key(&self) -> &[u8]
         ensures { result.now ≡ request_key self.now }
     {
@@ -85,7 +85,7 @@ fn has_key(command: &Command<Global>) -> bool
 /// Reads a fetch. Never returns `None`, because a fetch has a key; no clause says so.
 ///
 /// # Errors
-/// `BadHex` (in a text notation `BadText`) if the key is invalid, and `NoMemory`.
+/// `BadHex` (in a text notation `BadText`) if the key is invalid, and `NoMemory` if allocation fails.
 pub fn fetch_request(
     alloc: Global,
     notation: &Notation<Global>,
@@ -107,7 +107,7 @@ pub fn fetch_request(
 /// Reads a store. Returns `None` if the value is standard input.
 ///
 /// # Errors
-/// `BadHex` (in a text notation `BadText`) if the key or the value is invalid, and `NoMemory`.
+/// `BadHex` (in a text notation `BadText`) if the key or the value is invalid, and `NoMemory` if allocation fails.
 pub fn store_request(
     alloc: Global,
     notation: &Notation<Global>,
@@ -131,7 +131,7 @@ pub fn store_request(
 /// Reads a delete. Never returns `None`, because a delete has a key; no clause says so.
 ///
 /// # Errors
-/// `BadHex` (in a text notation `BadText`) if the key is invalid, and `NoMemory`.
+/// `BadHex` (in a text notation `BadText`) if the key is invalid, and `NoMemory` if allocation fails.
 pub fn delete_request(
     alloc: Global,
     notation: &Notation<Global>,

@@ -23,7 +23,7 @@ pub struct PageResult {
     pub status: u8,
     /// The notes for standard error.
     pub notes: Notes,
-    /// The numbers of the pages that the plan may write. Each of these pages, except the one that was read, has to be zeros in the file.
+    /// The numbers of the pages that the plan may write. Each of these pages, except the page that was read, must be all zeros in the file.
     pub numbers: Vec<u32>,
     /// The plan of the save, if the files have to change.
     pub plan: Option<Vec<u8>>,

@@ -51,7 +51,7 @@ impl<'a> Rename<'a> {
         })
     }
 
-    /// Returns the files of the subcommand and the notation of its arguments.
+    /// Returns the head of the subcommand: its files and its notation.
     pub fn head(&self) -> Head<'a>
         ensures { result ≡ rename_head self.now }
     {
@@ -62,7 +62,7 @@ impl<'a> Rename<'a> {
         }
     }
 
-    /// The arguments that messages may show.
+    /// Returns the arguments that messages may show.
     pub fn words(&self) -> Words<'a> {
         Words {
             first: named_key(self.key, self.raw_key),
@@ -72,7 +72,7 @@ impl<'a> Rename<'a> {
         }
     }
 
-    // The argument of the new key, if messages may show it.
+    // Returns the argument of the new key for messages, or `None` for a raw key.
     fn named_new_key(&self) -> Option<Named<'a>> {
         if self.raw_key {
             return None;

@@ -62,7 +62,7 @@ impl<'a> Run<'a> {
         })
     }
 
-    /// Returns the files of the subcommand and the notation of its arguments.
+    /// Returns the head of the subcommand: its files and its notation.
     pub fn head(&self) -> Head<'a>
         ensures { result ≡ run_head self.entry.now }
     {
@@ -75,7 +75,7 @@ impl<'a> Run<'a> {
         }
     }
 
-    /// The arguments that messages may show.
+    /// Returns the arguments that messages may show.
     pub fn words(&self) -> Words<'a> {
         Words {
             file: Some(self.file),
@@ -96,7 +96,7 @@ impl<'a> Run<'a> {
         }
     }
 
-    // The argument of the key, if messages may show it. A raw key is always valid, so no message shows it.
+    // Returns the argument of the key for messages. Returns `None` for a raw key, which is always valid.
     fn named_key(&self) -> Option<Named<'a>> {
         if self.raw_key {
             return None;
@@ -108,7 +108,7 @@ impl<'a> Run<'a> {
     }
 }
 
-/// Defines the subcommand `run` for `clap`.
+/// Declares the subcommand `run` for `clap`.
 ///
 /// # Errors
 /// `AllocError` if allocation fails.
@@ -164,7 +164,7 @@ pub fn run_command<'a>(alloc: Global) -> Result<Command<'a>, AllocError>
     subcommand(alloc, "run", about, notes, args)
 }
 
-// The database is saved after the run. If the program is refused, the text of the report is that of a script line that submits its image.
+// The database is saved after the run. If the program is refused, the text is the answer to a script line that submits its image.
 impl Subcommand for Run<'_> {
     ghost use Rattle.std.specs.Prelude.{false, true};
     ghost use Rattle.dbm_records.specs.Run.{run_in};
@@ -198,7 +198,7 @@ impl Subcommand for Run<'_> {
 ///
 /// # Errors
 /// `BadHex` (in a text notation `BadText`) if the key or the argument of the program is invalid, `BadNumber` if the blank, the time or the
-/// expected code is, and `NoMemory`.
+/// expected code is invalid, and `NoMemory` if allocation fails.
 pub fn run_words(
     alloc: Global,
     notation: &Notation<Global>,

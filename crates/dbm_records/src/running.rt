@@ -14,7 +14,7 @@ use prog_registry::Registry;
 use sdbm_files::Image;
 use std::alloc::{AllocError, Global};
 
-/// Opens the database of the files, then reads the program image from the program's file.
+/// Opens the database in the files, then reads the program image from the program's file.
 ///
 /// # Errors
 /// The errors of `open`, then the errors of `file_image`.
@@ -32,7 +32,7 @@ pub fn database_and_image(
     Ok((database, image))
 }
 
-/// If the program of an image is accepted, runs it on a database. Otherwise the report gives the reason.
+/// Runs the program of an image on a database. If the program is refused, the report gives the reason.
 ///
 /// # Errors
 /// `AllocError` if allocation fails.
@@ -62,7 +62,7 @@ pub fn run_image(
     }
 }
 
-// The status if a program is refused; it depends on whether a code is expected.
+// Returns the status if a program is refused: `NOT_RUN` if a code is expected, otherwise 1.
 fn refusal_status(expect: Option<u64>) -> u8
     ensures { result ≡ refusal_status expect }
 {

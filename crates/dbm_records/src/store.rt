@@ -57,7 +57,7 @@ impl<'a> Store<'a> {
         })
     }
 
-    /// Returns the files of the subcommand and the notation of its arguments.
+    /// Returns the head of the subcommand: its files and its notation.
     pub fn head(&self) -> Head<'a>
         ensures { result ≡ store_head self.now }
     {
@@ -68,7 +68,7 @@ impl<'a> Store<'a> {
         }
     }
 
-    /// The arguments that messages may show.
+    /// Returns the arguments that messages may show.
     pub fn words(&self) -> Words<'a> {
         Words {
             first: named_key(self.key, self.raw_key),
@@ -78,7 +78,7 @@ impl<'a> Store<'a> {
         }
     }
 
-    // The argument of the value, if messages may show it.
+    // Returns the argument of the value for messages, or `None` for a raw value.
     fn named_value(&self) -> Option<Named<'a>> {
         if self.raw_value {
             return None;
@@ -166,14 +166,14 @@ impl Subcommand for Store<'_> {
     }
 }
 
-/// The first word of the equivalent script line: `insert` or `replace`.
+/// Returns the first word of the equivalent script line: `insert` or `replace`.
 pub fn store_name(insert: bool) -> &'static [u8]
     ensures { result.now ≡ store_command_name insert }
 {
     if insert { b"insert" } else { b"replace" }
 }
 
-// Stores the value that the argument gives.
+// Stores the value of the argument.
 fn store_word(
     alloc: Global,
     notation: &Notation<Global>,

@@ -20,7 +20,7 @@ struct CodeCount {
 }
 
 impl Tally {
-    /// No runs.
+    /// Returns a tally without runs.
     pub fn new(alloc: Global) -> Tally {
         Tally {
             codes: Vec::new(alloc),
@@ -66,7 +66,7 @@ impl Tally {
     }
 }
 
-// The code in the answer to a run, if it has one.
+// Returns the code in the answer to a run, or `None` if it has no code.
 fn code_in(answer: &Answer<Global>) -> Option<u64> {
     match answer {
         Answer::Replied(entry) => match entry.reply {

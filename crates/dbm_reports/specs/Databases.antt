@@ -13,7 +13,7 @@ use Rattle.sdbm_files.specs.declared.opening.OpenFault.TheVariants as opening
 use Rattle.dbm_args.specs.declared.options.Form.{Form}
 use Rattle.dbm_reports.specs.declared.databases.Given.{Given}
 
--- the hash of keys that the options select
+-- the hash function that the options select
 abbrev pub key_bytes_of : Bool → KeyBytes
 key_bytes_of unsigned = cond unsigned Unsigned Signed
 
@@ -21,7 +21,7 @@ key_bytes_of unsigned = cond unsigned Unsigned Signed
 abbrev pub page_size_of : Bool → PageSize
 page_size_of wide = cond wide Wide Small
 
--- with this hash and page size, the files spell this database and no other
+-- with this hash function and page size, the files represent this database and no other
 pub record IsOpened (form : Form) (given : Given) (db : Database) : Type 0 where
   pub spells : SpellsDatabase db given.dir.items given.pag.bytes
   pub kind : db.kind ≡ key_bytes_of form.unsigned
@@ -33,7 +33,7 @@ pub record IsOpened (form : Form) (given : Given) (db : Database) : Type 0 where
 abbrev pub CanBeOpened : Form → Given → Type 0
 CanBeOpened form given = (db : Database) × IsOpened form given db
 
--- the reason why the files cannot be opened; it is never that memory ran out
+-- the reason why the files cannot be opened, other than lack of memory
 abbrev pub IsShut : Form → Given → OpenFault → Type 0
 IsShut form given opening.NoMemory = ⊥
 IsShut form given reason = IsOpenFault (key_bytes_of form.unsigned) (page_size_of form.wide) given.dir.items given.pag.bytes reason

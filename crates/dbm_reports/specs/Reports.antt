@@ -73,7 +73,7 @@ pub record IsCommandReport (notation : Notation Global) (before : Database) (com
 abbrev pub Looks : Notation Global → Database → Command Global → Report → Type 0
 Looks notation before command report = (after : Database) × (IsCommandReport notation before command None after report × (report.database ≡ None))
 
--- the report of a command, with the database after it to save
+-- the report of a command, with the resulting database to save
 abbrev pub ChangesFiles : Notation Global → Database → Command Global → Option ℕ → Report → Type 0
 ChangesFiles notation before command expect report = (after : Database) × (IsCommandReport notation before command expect after report × (report.database ≡ Some after))
 
@@ -83,7 +83,7 @@ ChangesFiles notation before command expect report = (after : Database) × (IsCo
 abbrev pub ok_line : ℕ → List ℕ
 ok_line n = codes "ok " ++ (decimal n ++ 10 ∷ [])
 
--- P holds for the database of the files
+-- P holds for the database in the files
 abbrev pub OnDatabase : Form → Given → (Database → Type 0) → Type 0
 OnDatabase form given P = (db : Database) × (IsOpened form given db × P db)
 

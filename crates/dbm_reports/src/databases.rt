@@ -1,4 +1,4 @@
-//! Opens the database of the files, and checks the size of a database.
+//! Opens the database in the files, and checks the size of a database.
 ghost use Rattle.std.specs.Prelude.{◌≡◌, false, IsTrue, IfOk, IfErr};
 ghost use Rattle.sdbm_addr.specs.Database.{IsDatabase};
 ghost use Rattle.dbm_reports.specs.Databases.{IsOpened, IsPagShort, IsPagTooLong, key_bytes_of, page_size_of};
@@ -18,7 +18,7 @@ pub struct Given {
     pub file: Vec<u8>,
 }
 
-/// The hash of keys that the options select.
+/// Returns the hash function that the options select.
 pub fn key_bytes_of(form: Form) -> KeyBytes
     ensures { result ≡ key_bytes_of form.unsigned }
 {
@@ -29,7 +29,7 @@ pub fn key_bytes_of(form: Form) -> KeyBytes
     }
 }
 
-/// The page size that the options select.
+/// Returns the page size that the options select.
 pub fn page_size_of(form: Form) -> PageSize
     ensures { result ≡ page_size_of form.wide }
 {
@@ -40,10 +40,10 @@ pub fn page_size_of(form: Form) -> PageSize
     }
 }
 
-/// Opens the database of the files. It shares each page with `given` until the page changes.
+/// Opens the database in the files. The database shares each page with `given` until the page changes.
 ///
 /// # Errors
-/// `Open` with the fault of the files, and `NoMemory`.
+/// `Open` if the files are not a database, and `NoMemory` if allocation fails.
 pub fn open(alloc: Global, given: &Given, form: Form) -> Result<Image<Global>, ReportFault>
     ensures ok { IfOk result (IsOpened form given.now) }
     ensures fault { IfErr result (IsCaused (opening_causes form given.now)) }
@@ -53,7 +53,7 @@ pub fn open(alloc: Global, given: &Given, form: Form) -> Result<Image<Global>, R
     Ok(image)
 }
 
-/// Returns `true` if a database is too large for the program: a `.pag` file of it would be longer than `PAG_LIMIT`.
+/// Returns `true` if a database is too large for the program: its `.pag` would be longer than `PAG_LIMIT`.
 pub fn is_too_long(image: &Image<Global>) -> bool
     ensures long { IsTrue result → IsPagTooLong image.now }
     ensures short { result ≡ false → IsPagShort image.now }

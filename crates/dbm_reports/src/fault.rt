@@ -125,7 +125,7 @@ impl From<LinesFault> for ReportFault {
     }
 }
 
-/// The fault for invalid bytes in a notation.
+/// Returns the fault for invalid bytes in a notation.
 pub fn bad_words(notation: &Notation<Global>) -> ReportFault
     ensures { result ≡ cond (reads_hex notation.now) ReportFault.BadHex ReportFault.BadText }
 {

@@ -10,7 +10,8 @@ use std::io::Read;
 /// Reads all of standard input, at most 16,777,216 bytes.
 ///
 /// # Errors
-/// `Read` if reading fails or is interrupted, `TooLong` if there are more bytes, and `NoMemory`. On error, the bytes read so far are lost.
+/// `Read` if reading fails or is interrupted, `TooLong` if there are more bytes, and `NoMemory` if allocation fails. On error, the bytes
+/// read so far are lost.
 pub fn read_input<R: Read>(alloc: Global, reader: &mut R) -> Result<Vec<u8>, ReportFault>
     ensures ok { IfOk result (λ all. IfSome (R.remaining reader.old) (λ input. all.items ≡ input)) }
     ensures short { IfOk result (λ all. length all.items ≤ 16777216) }

@@ -10,10 +10,10 @@ use dbm_args::NotationOptions;
 use dbm_script::Notation;
 use std::alloc::Global;
 
-/// The notation that `--text` and `--as` select, or hex without these options.
+/// Returns the notation that `--text` and `--as` select, or hex without these options.
 ///
 /// # Errors
-/// `BadLayout` if the layout is invalid, and `NoMemory`.
+/// `BadLayout` if the layout is invalid, and `NoMemory` if allocation fails.
 pub fn notation_by(
     alloc: Global,
     options: NotationOptions<'_>,
@@ -30,7 +30,7 @@ pub fn notation_by(
     }
 }
 
-// The notation without a layout.
+// Returns the notation if there is no layout.
 fn plain_notation(text: bool) -> Notation<Global>
     ensures { notation_by text None ≡ Some result }
 {

@@ -3,10 +3,10 @@ ghost use Rattle.std.specs.Prelude.{◌≡◌, false};
 
 use dbm_script::BadLines;
 
-/// The notes of a report, for standard error. They are not part of the text of the report. No clause depends on them.
+/// The notes of a report, for standard error. They are not part of the report's text, and no clause depends on them.
 #[derive(Clone, Copy, Debug, PartialEq, Eq)]
 pub struct Notes {
-    /// The count of the lines of a script that are not commands.
+    /// The bad lines of a script.
     pub bad_lines: BadLines,
     /// The verifier refuses the program that was to run.
     pub refuses_program: bool,

@@ -14,7 +14,7 @@ use prog_registry::RegFault;
 use sdbm_files::Image;
 use std::alloc::{AllocError, Global};
 
-/// Returns the image of the program whose text is in a file.
+/// Returns the image of a program, given its text.
 ///
 /// # Errors
 /// The errors of `file_image` for a text.
@@ -36,7 +36,8 @@ pub fn text_image(alloc: Global, file: &[u8]) -> Result<Vec<u8>, ReportFault>
 /// Returns the image in a program's file: the bytes of the file if it is an image, otherwise the image of its text.
 ///
 /// # Errors
-/// `NoMemory`. For a text also `NotText` if it is not UTF-8, and `Assemble` with the fault and the line if it is not a program.
+/// `NoMemory` if allocation fails. For a text also `NotText` if it is not UTF-8, and `Assemble` with the fault and the line if it is not a
+/// program.
 pub fn file_image(alloc: Global, file: &[u8], is_image: bool) -> Result<Vec<u8>, ReportFault>
     ensures ok { IfOk result (λ image. IsFileImage is_image file.now image.items) }
     ensures fault { IfErr result (IsCaused (file_causes is_image file.now)) }
@@ -47,7 +48,7 @@ pub fn file_image(alloc: Global, file: &[u8], is_image: bool) -> Result<Vec<u8>,
     text_image(alloc, file)
 }
 
-/// Makes the report that a program image is refused. It has a line with the reason, a status, and the database to save.
+/// Makes the report for a refused program image: a line with the reason, the status, and the database to save.
 ///
 /// # Errors
 /// `AllocError` if allocation fails, or if `fault` is `NoMemory`.

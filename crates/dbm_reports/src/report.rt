@@ -10,7 +10,7 @@ use sdbm_files::Image;
 use std::alloc::{AllocError, Allocator, Global};
 use store_cmd::{Command, Reply};
 
-/// The status if a run with an expected code did not run.
+/// The status if `run` with an expected code does not run the program.
 pub const NOT_RUN: u8 = 3;
 
 /// The result of a subcommand: the text to print, the status, the database to save, if any, and the notes.
@@ -83,7 +83,7 @@ fn command_report(
     })
 }
 
-/// The text of an answer, as a line.
+/// Returns the text of an answer as a line.
 ///
 /// # Errors
 /// `AllocError` if allocation fails.
@@ -100,7 +100,7 @@ pub fn shown(
     Ok(text)
 }
 
-// The status of an answer, with or without an expected code.
+// Returns the status of an answer, with or without an expected code.
 fn status_of(answer: &Answer<Global>, expect: Option<u64>) -> u8
     ensures { result ≡ status_of expect answer.now }
 {
@@ -110,7 +110,7 @@ fn status_of(answer: &Answer<Global>, expect: Option<u64>) -> u8
     }
 }
 
-/// The status of an answer without an expected code: 1 if the key is missing or the requested change was not made.
+/// Returns the status of an answer without an expected code: 1 if the key is missing or the requested change was not made, otherwise 0.
 pub fn answer_status(answer: &Answer<Global>) -> u8
     ensures { result ≡ answer_status answer.now }
 {
@@ -123,7 +123,7 @@ pub fn answer_status(answer: &Answer<Global>) -> u8
     }
 }
 
-// The status of the answer to a run with an expected code.
+// Returns the status of the answer to a run with an expected code.
 fn code_status(answer: &Answer<Global>, code: u64) -> u8
     ensures { result ≡ code_status code answer.now }
 {
@@ -133,7 +133,7 @@ fn code_status(answer: &Answer<Global>, code: u64) -> u8
     }
 }
 
-// The status of the reply to a run with an expected code.
+// Returns the status of the reply to a run with an expected code.
 fn run_status(reply: &Reply<Global>, code: u64) -> u8
     ensures { result ≡ run_status code reply.now }
 {
@@ -143,7 +143,7 @@ fn run_status(reply: &Reply<Global>, code: u64) -> u8
     }
 }
 
-/// A report that only prints a text.
+/// Returns a report that only prints a text.
 pub fn printed(text: Vec<u8>) -> Report
     ensures text { result.text ≡ text }
     ensures status { result.status ≡ 0 }
@@ -157,7 +157,7 @@ pub fn printed(text: Vec<u8>) -> Report
     }
 }
 
-/// The line `ok N`.
+/// Returns the line `ok N`.
 ///
 /// # Errors
 /// `AllocError` if allocation fails.
@@ -167,7 +167,7 @@ pub fn show_ok<A: Allocator + Copy>(alloc: A, count: usize) -> Result<Vec<u8, A>
     show_named(alloc, b"ok ", count)
 }
 
-/// A line with a number after a name.
+/// Returns a line with a number after a name.
 ///
 /// # Errors
 /// `AllocError` if allocation fails.

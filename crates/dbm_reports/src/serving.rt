@@ -36,8 +36,8 @@ pub enum Unserved<F: Drop> {
 /// Serves a subcommand: makes its report, then writes the text of the report.
 ///
 /// # Errors
-/// `Unreported` with the fault of `report`, before anything is written; `Write` if only a prefix of the text was written; and `TooLong`,
-/// after the whole text was written, if `.pag` would be longer than `PAG_LIMIT`.
+/// `Unreported` with the fault of `report`, before anything is written; `Write` if the writer fails, after a prefix of the text was
+/// written; and `TooLong`, after the whole text was written, if `.pag` would be longer than `PAG_LIMIT`.
 pub fn serve<S: Subcommand, R: Read, W: Write>(
     alloc: Global,
     notation: &Notation<Global>,
@@ -60,8 +60,8 @@ pub fn serve<S: Subcommand, R: Read, W: Write>(
 /// Writes the text of a report.
 ///
 /// # Errors
-/// `Write` if only a prefix of the text was written; and `TooLong`, after the whole text was written, if `.pag` would be longer than
-/// `PAG_LIMIT`.
+/// `Write` if the writer fails, after a prefix of the text was written; and `TooLong`, after the whole text was written, if `.pag` would be
+/// longer than `PAG_LIMIT`.
 pub fn write_report<F: Drop, W: Write>(
     report: Report,
     writer: &mut W,
@@ -84,7 +84,7 @@ pub fn write_report<F: Drop, W: Write>(
     })
 }
 
-// Returns an error if the database to save is too large.
+// Fails if the database to save is too large.
 fn check_length(database: &Option<Image<Global>>) -> Result<(), ()>
     ensures ok { OnOk result (MayBeWritten database.now) }
     ensures long { OnErr result ((db : Database) × ((database.now ≡ Some db) × (IsDatabase db × IsPagTooLong db))) }

@@ -28,7 +28,7 @@ pub trait Subcommand {
     // True if the subcommand reads standard input.
     ghost reads: { Self → Bool };
 
-    /// Makes the report of the subcommand. Nothing is written before.
+    /// Makes the report of the subcommand, before anything is written.
     ///
     /// # Errors
     /// The first fault: arguments are checked before files, and files before standard input.

@@ -6,8 +6,7 @@ use dbm_script::{Notation, read_bytes, show_bytes};
 use sdbm_addr::Bytes;
 use std::alloc::{AllocError, Global};
 
-/// Returns a word that means the bytes of an argument. That is the argument itself, or if `raw` is true the text of its bytes in the
-/// notation.
+/// Returns an argument as a word of the notation: the argument itself, or if `raw` is true the text of its bytes.
 ///
 /// # Errors
 /// `AllocError` if allocation fails.

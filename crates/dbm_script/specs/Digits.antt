@@ -2,7 +2,7 @@
 use Rattle.std.specs.Prelude.{ℕ, ◌+◌, ◌*◌, ◌%◌, ◌==◌, ◌&&◌, nat_le, nat_lt, bit_or, cond, Bool, true, false, List, [], ◌∷◌, Option, Some, None}
 use Rattle.hex.specs.Hex.{hex_digit_value}
 
--- the digit value that a table entry represents; an entry above 15 represents none
+-- the digit value that a table entry represents; an entry above 15 represents no digit
 abbrev pub value_read : ℕ → Option ℕ
 value_read v = cond (nat_le v 15) (Some v) None
 
@@ -12,7 +12,7 @@ is_same None (Some w) = false
 is_same (Some v) None = false
 is_same (Some v) (Some w) = v == w
 
--- the table has the values of the bytes from c on as digits
+-- the table has the digit values of the bytes from c on
 abbrev pub are_values : List ℕ → ℕ → Bool
 are_values [] c = true
 are_values (v ∷ vs) c = is_same (value_read v) (hex_digit_value c) && are_values vs (c + 1)
@@ -35,7 +35,7 @@ behind_a c = (bit_or c 32 + 159) % 256
 abbrev pub lane_value : ℕ → ℕ
 lane_value c = cond (lane_passes (nat_lt (behind_zero c) 10)) (behind_zero c) (cond (lane_passes (nat_lt (behind_a c) 6)) ((behind_a c + 10) % 256) 255)
 
--- joins the values of pairs of digits to bytes
+-- joins pairs of digit values into bytes
 abbrev pub joined_digits : List ℕ → List ℕ
 joined_digits [] = []
 joined_digits (v ∷ []) = []

@@ -12,7 +12,7 @@ use Rattle.prog_registry.specs.declared.fault.RegFault.TheVariants.{NoMemory, De
 abbrev pub ImageVerdict : Type 0
 ImageVerdict = Result Accepted RegFault
 
--- The program is already in the list, at one index alone, which is its number. Nothing changes.
+-- The program is already in the list, at exactly one index, its number. Nothing changes.
 pub record IsThere (programs : List Accepted) (image : List ℕ) (p : Accepted) (id : ℕ) (programs' : List Accepted) : Type 0 where
   pub stands : slice_get programs id ≡ Some p
   pub spelled : image_in p ≡ image

@@ -32,7 +32,7 @@ AnswersCommand A notation db command text db' = (answer : Answer A) × (IsAnswer
 abbrev pub run_command : {A : Type 0} → List Accepted → List ℕ → ℕ → List ℕ → Option ℕ → ℕ → Option (Command A)
 run_command programs key prog arg blank now = option_map (λ p. commands.Run key p.code arg blank now) (slice_get programs prog)
 
--- the effect of a run, and the text of its answer; without its program it changes nothing
+-- the effect of a run, and the text of its answer; if its program is missing, nothing changes
 abbrev pub AnswersRun : (A : Type 0) → Notation A → Database → Option (Command A) → List ℕ → Database → Type 0
 AnswersRun A notation db None text db' = (text ≡ codes "refused NoProgram") × (db' ≡ db)
 AnswersRun A notation db (Some command) text db' = AnswersCommand A notation db command text db'

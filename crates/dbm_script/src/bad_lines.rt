@@ -1,7 +1,7 @@
 //! Counts the lines of a script that are not commands.
 ghost use Rattle.std.specs.Prelude.{◌≡◌, ◌+◌, ◌<◌, false, true};
 
-/// The count of the lines of a script that are not commands, such as a misspelled one. Each is answered `bad line`.
+/// The bad lines of a script: the lines that are not commands, and are answered `bad line`.
 #[derive(Clone, Copy, Debug, PartialEq, Eq)]
 pub struct BadLines {
     /// The line number, from 1 on, of the first bad line, or 0 if there is none.
@@ -51,7 +51,7 @@ impl LineCount {
         self.bad.count = self.bad.count.saturating_add(1);
     }
 
-    /// Returns the count of the bad lines so far.
+    /// Returns the bad lines so far.
     pub fn bad_lines(&self) -> BadLines
         ensures { result ≡ self.now.bad }
     {

@@ -21,7 +21,7 @@ const VALUES: [u8; 256] =
     \xff\xff\xff\xff\xff\xff\xff\xff\xff\xff\xff\xff\xff\xff\xff\xff\xff\xff\xff\xff\xff\xff\xff\xff\xff\xff\xff\xff\xff\xff\xff\xff";
 
 /// Decodes hex of either case, as `hex::decode` does. Returns `None` if the text is not hex. No branch depends on the kind of a digit: the
-/// digits of a key are random, so the processor would mispredict it.
+/// digits of a key are random, so the processor would mispredict the branch.
 ///
 /// # Errors
 /// `AllocError` if allocation fails.
@@ -68,7 +68,7 @@ fn decode_eight(text: &[u8], out: &mut [u8]) -> bool
     true
 }
 
-// The values of sixteen digits; more than 15 for any other byte.
+// Returns the values of sixteen digits; more than 15 for any other byte.
 #[inline(always)]
 fn values(text: u8x16) -> u8x16
     ensures { result ≡ map lane_value text }
@@ -81,7 +81,7 @@ fn values(text: u8x16) -> u8x16
     decimal.simd_lt(u8x16::splat(10)).select(decimal, behind)
 }
 
-// Joins the values of sixteen digits in pairs to eight bytes.
+// Joins the values of sixteen digits in pairs into eight bytes.
 #[inline(always)]
 fn pairs(digits: u8x16) -> u8x8
     ensures { result ≡ joined_digits digits }
@@ -108,7 +108,7 @@ fn decode_each(text: &[u8], out: &mut [u8]) -> bool
     true
 }
 
-// The value of a digit; more than 15 for any other byte.
+// Returns the value of a digit; more than 15 for any other byte.
 fn value(digit: u8) -> u8
     ensures { value_read result ≡ hex_digit_value digit }
 {

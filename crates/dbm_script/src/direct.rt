@@ -25,7 +25,7 @@ use store_moves::{RunInput, act_run, act_store, ran};
 /// The longest word, in bytes after decoding, that is read without allocation.
 const SHORT: usize = 64;
 
-/// Answers a line in hex as session 0 and appends the answer to `text`, if only `text` needs memory. The words must be short, and the line
+/// Answers a line in hex as session 0 and appends the answer to `text`, without other allocation. The words must be short, and the line
 /// must be a fetch, a store that `act_store` executes, or a run that `act_run` executes. Otherwise returns `false` and changes nothing.
 ///
 /// # Errors
@@ -63,7 +63,7 @@ pub(crate) fn answer_directly<A: Allocator + Copy>(
     Ok(false)
 }
 
-// Decodes a word in hex to the beginning of `room`, and returns the number of bytes. Returns `None` if it is too long or not hex.
+// Decodes a word in hex to the beginning of `room`, and returns the number of bytes. Returns `None` if the word is too long or not hex.
 fn read_short(word: &[u8], room: &mut [u8; SHORT]) -> Option<usize>
     ensures within { IfSome result (λ count. count ≤ 64) }
     ensures bytes { IfSome result (λ count. hex_bytes word.now ≡ Some (take count room.new)) }

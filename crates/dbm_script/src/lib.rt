@@ -1,4 +1,4 @@
-//! Scripts: each line of the text is a command on a store. Runs them and writes the answers.
+//! Scripts: each line of a text is a command on a store. Runs the lines and writes the answers.
 #![tactic(auto)]
 
 mod answering;

@@ -28,7 +28,7 @@ impl From<AllocError> for LineFault {
     }
 }
 
-/// A buffer of bytes that were read but not yet returned. A flag in it says that the input has ended.
+/// A buffer of bytes that were read but not yet returned, with a flag for the end of the input.
 #[derive(Drop)]
 pub struct LineReader {
     buffer: Vec<u8>,
@@ -70,8 +70,8 @@ impl LineReader {
     /// line, which may be empty. Calls the reader only while the line is incomplete.
     ///
     /// # Errors
-    /// `Read` if the reader fails or is interrupted, `TooLong` if the line has more than `most` bytes, and `NoMemory`. On error, the bytes
-    /// read so far are lost.
+    /// `Read` if the reader fails or is interrupted, `TooLong` if the line has more than `most` bytes, and `NoMemory` if allocation fails.
+    /// On error, the bytes read so far are lost.
     pub fn next<R: Read>(
         &mut self,
         reader: &mut R,

@@ -30,7 +30,7 @@ pub enum Ask<A: Allocator> {
     Incr(IncrAsk<A>),
 }
 
-/// Reads the request in a line. Returns `None` if the line is not a request. One space separates two words. A program image is in hex in
+/// Reads the request in a line. Returns `None` if the line is not a request. Words are separated by one space. A program image is in hex in
 /// each notation.
 ///
 /// # Errors
@@ -172,7 +172,7 @@ fn read_three<A: Allocator + Copy>(
     read_plain(alloc, notation, name, &[first, second])
 }
 
-// Reads an addition to the number of a key. Returns `None` if there is no amount or the key is invalid.
+// Reads an addition to the number of a key. Returns `None` if `amount` is `None` or the key is invalid.
 fn read_incr<A: Allocator + Copy>(
     alloc: A,
     notation: &Notation<A>,

@@ -89,7 +89,7 @@ pub fn show_bytes<A: Allocator>(
     }
 }
 
-/// Appends the bytes of a value to `text`: by the layout if the notation has one that the value fits, otherwise like `show_bytes`.
+/// Appends the bytes of a value to `text`: by the layout if there is one and the value fits it, otherwise like `show_bytes`.
 ///
 /// # Errors
 /// `AllocError` if allocation fails. On error, discard `text`: it may be partial.

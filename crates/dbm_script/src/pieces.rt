@@ -4,7 +4,8 @@ ghost use Rattle.dbm_script.specs.Pieces.{pieces_of, pieces_left};
 
 use memchr::memchr;
 
-/// Splits a text at the first byte equal to `end`. Returns the text before it, and the text after it if there is such a byte.
+/// Splits a text at the first byte equal to `end`. Returns the text before and after that byte; without that byte, the whole text and
+/// `None`.
 pub fn first_piece(end: u8, text: &[u8]) -> (&[u8], Option<&[u8]>)
     ensures { pieces_of end text.now ≡ result.0.now ∷ pieces_left end result.1 }
 {

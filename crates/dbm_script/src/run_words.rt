@@ -44,7 +44,7 @@ impl From<AllocError> for WordFault {
 ///
 /// # Errors
 /// `BadHex` (in a text notation `BadText`) if the key or the argument is invalid; otherwise `BadNumber` if the blank or the time is
-/// invalid; and `NoMemory`.
+/// invalid; and `NoMemory` if allocation fails.
 pub fn read_run_words<A: Allocator + Copy>(
     alloc: A,
     notation: &Notation<A>,
@@ -76,7 +76,7 @@ pub fn read_run_words<A: Allocator + Copy>(
     })
 }
 
-// The fault for invalid bytes.
+// Returns the fault for invalid bytes.
 fn bad_bytes<A: Allocator>(notation: &Notation<A>) -> WordFault
     ensures { result ≡ bad_bytes notation.now }
 {

@@ -44,7 +44,7 @@ pub fn answer_run<A: Allocator + Copy>(
     }
 }
 
-/// Makes the command of a run. Returns `None` if no program has the number that the run names.
+/// Makes the command of a run. Returns `None` if no program has the number `run.prog`.
 ///
 /// # Errors
 /// `AllocError` if the reference count of the program is at its maximum.
@@ -66,7 +66,7 @@ pub fn command_of_run<A: Allocator>(
     }))
 }
 
-// The program with this number, shared with the registry.
+// Returns the program with this number, shared with the registry.
 fn shared_program<A: Allocator>(
     registry: &Registry<A>,
     prog: u32,

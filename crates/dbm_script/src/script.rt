@@ -34,7 +34,7 @@ pub struct ScriptRun<A: Allocator> {
     pub image: Image<A>,
     /// The text of the answers.
     pub text: Vec<u8, A>,
-    /// The count of the lines that are not commands, for a note. No clause constrains it.
+    /// The bad lines, for a note. No clause constrains them.
     pub bad_lines: BadLines,
 }
 
@@ -42,7 +42,7 @@ pub struct ScriptRun<A: Allocator> {
 ///
 /// # Errors
 /// `Read` if the reader fails, `TooLong` if the script has more than 16,777,216 bytes, `Write` if the writer fails or accepts no byte, and
-/// `NoMemory`. On error, the database is dropped. Except for `Write`, nothing was written.
+/// `NoMemory` if allocation fails. On error, the database is dropped, and except after `Write` nothing was written.
 pub fn run_script<A: Allocator + Copy, R: Read, W: Write>(
     alloc: A,
     notation: &Notation<A>,
@@ -71,7 +71,8 @@ pub fn run_script<A: Allocator + Copy, R: Read, W: Write>(
 /// are dropped at the end.
 ///
 /// # Errors
-/// `OutputTooLong` at the first line whose answer makes the text longer than the limit, and `NoMemory`. On error, the database is dropped.
+/// `OutputTooLong` at the first line whose answer makes the text longer than `most` bytes, and `NoMemory` if allocation fails. On error,
+/// the database is dropped.
 pub fn run_lines<A: Allocator + Copy>(
     alloc: A,
     notation: &Notation<A>,
@@ -102,7 +103,8 @@ pub fn run_lines<A: Allocator + Copy>(
 /// Like `run_lines` after `spell_out`, but expands the shorthand one line at a time, so the expanded script is never in memory as a whole.
 ///
 /// # Errors
-/// `OutputTooLong` at the first line whose answer makes the text longer than the limit, and `NoMemory`. On error, the database is dropped.
+/// `OutputTooLong` at the first line whose answer makes the text longer than `most` bytes, and `NoMemory` if allocation fails. On error,
+/// the database is dropped.
 pub fn run_spelled<A: Allocator + Copy>(
     alloc: A,
     notation: &Notation<A>,

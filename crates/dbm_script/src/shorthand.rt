@@ -24,9 +24,8 @@ pub struct TimeOfDay {
 }
 
 /// Expands the shorthand of a text line by line. In a script, a line that begins with `#` becomes empty, and `get`, `put` and `del` become
-/// `fetch`, `replace` and `delete`. Any other line that ends in CR becomes a single CR, which is a bad line. If there is a time and a line
-/// runs a program, a last word `now` of the line becomes the seconds of the time, and `now-ms` its milliseconds. Each line keeps its
-/// number.
+/// `fetch`, `replace` and `delete`. Any other line that ends in CR becomes a single CR, which is a bad line. If `time` is given and a line
+/// runs a program, a last word `now` becomes the seconds of `time`, and `now-ms` its milliseconds. Each line keeps its number.
 ///
 /// # Errors
 /// `AllocError` if allocation fails.

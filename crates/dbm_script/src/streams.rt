@@ -8,7 +8,8 @@ use std::io::Read;
 /// The largest script, in bytes.
 pub const SCRIPT_LIMIT: usize = 16_777_216;
 
-/// Reads all remaining bytes of a reader. More than `SCRIPT_LIMIT` bytes are an error, and so is an interrupted read.
+/// Reads all remaining bytes of a reader. Fails with `Read` if a read fails or is interrupted, with `TooLong` if there are more than
+/// `SCRIPT_LIMIT` bytes, and with `NoMemory` if allocation fails.
 pub fn read_all<A: Allocator + Copy, R: Read>(
     alloc: A,
     reader: &mut R,

@@ -29,7 +29,7 @@ impl From<AllocError> for TasksFault {
 /// Reads the tasks of a text. Each line is empty or has the four words of a task, `KEY ARG BLANK NOW`.
 ///
 /// # Errors
-/// `BadLine` with the number of the first line that is neither empty nor a task, and `NoMemory`.
+/// `BadLine` with the number of the first line that is neither empty nor a task, and `NoMemory` if allocation fails.
 pub fn read_tasks<A: Allocator + Copy>(
     alloc: A,
     notation: &Notation<A>,

@@ -3,7 +3,7 @@ use Rattle.std.specs.Prelude.{◌≡◌, List, [], ◌∷◌, ◌++◌, Option, 
 use Rattle.sdbm_addr.specs.Database.{Database}
 use Rattle.dbm_script.specs.declared.shorthand.TimeOfDay.{TimeOfDay}
 
--- a call that saved a database, or a call that returned the time of day, or None if there was no time
+-- a call that saved a database, or a call that returned the time of day (None if there was no time)
 pub data HostCall : Type 0 where
   DidSave : Database → HostCall
   GaveTime : Option TimeOfDay → HostCall

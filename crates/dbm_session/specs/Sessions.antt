@@ -22,7 +22,7 @@ abbrev pub before_last : List ℕ → List (List ℕ) → List (List ℕ)
 before_last piece [] = []
 before_last piece (other ∷ others) = piece ∷ before_last other others
 
--- The lines of a text, from its pieces between LFs. Each line ends with LF, so the piece after the last LF is not a line.
+-- The lines of a text, given its pieces between LFs. Each line ends with LF, so the piece after the last LF is not a line.
 abbrev pub ended_lines : List (List ℕ) → List (List ℕ)
 ended_lines [] = []
 ended_lines (piece ∷ pieces) = before_last piece pieces
@@ -31,7 +31,7 @@ abbrev pub last_after : List ℕ → List (List ℕ) → List ℕ
 last_after piece [] = piece
 last_after piece (other ∷ others) = last_after other others
 
--- the bytes after the last LF of a text, from its pieces between LFs
+-- the bytes after the last LF of a text, given its pieces between LFs
 abbrev pub last_piece : List (List ℕ) → List ℕ
 last_piece [] = []
 last_piece (piece ∷ pieces) = last_after piece pieces
@@ -147,7 +147,7 @@ pub record AnsweredOwn (n : Notation Global) (s : Stage) (text : List ℕ) (log 
 
 -- ---- many lines
 
--- the first of several lines is answered, and Rest holds of the lines after it
+-- the first of several lines is answered, and Rest holds for the lines after it
 pub record OneThen (n : Notation Global) (s : Stage) (line text : List ℕ) (calls : List HostCall) (Rest : Stage → List ℕ → List HostCall → Type 0) : Type 0 where
   pub first : List ℕ
   pub rest : List ℕ
@@ -192,7 +192,7 @@ pub record SessionStops (n : Notation Global) (db : Database) (lines : List (Lis
 
 -- ---- sessions with only script lines
 
--- a line that the script language has
+-- a line of the script language
 abbrev pub IsOfScript : List ℕ → Type 0
 IsOfScript line = (is_save line ≡ false) × (is_own line ≡ false)
 

@@ -28,7 +28,7 @@ pub trait Host {
     fn ask(&mut self, is_over: bool)
         ensures { log self.new ≡ log self.old };
 
-    /// Returns the time of day for a line, or `None` if lines may not use it or the system reports none.
+    /// Returns the time of day for a line, or `None` if lines may not use the time or the system does not report it.
     fn time(&mut self) -> Option<TimeOfDay>
         ensures { Logs (log self.old) (log self.new) (GaveTime result ∷ []) };
 

@@ -57,7 +57,8 @@ pub fn read_own(line: &[u8]) -> OwnLine<'_> {
     }
 }
 
-/// Appends the answer to a line that scripts do not have to `text`. `OwnLine::Bad` and `OwnLine::Program` are answered `bad line`.
+/// Appends to `text` the answer to a line that scripts do not have. `OwnLine::Bad`, `OwnLine::Program` and an invalid prefix are answered
+/// `bad line`.
 ///
 /// # Errors
 /// `AllocError` if allocation fails.
@@ -82,8 +83,8 @@ pub fn show_own(
     Ok(())
 }
 
-/// Returns the script line that submits the program whose text is `file`. If `file` is not the text of a program, appends a line that names
-/// the fault to `text` and returns `None`. A text without instructions is an empty program, which the verifier refuses.
+/// Returns the script line that submits the program whose text is `file`. If `file` is not the text of a program, appends a line with the
+/// fault to `text` and returns `None`. A text without instructions is an empty program, which the verifier refuses.
 ///
 /// # Errors
 /// `AllocError` if allocation fails.
@@ -113,7 +114,7 @@ pub fn program_line(
     Ok(Some(line))
 }
 
-// Appends the line that says why the text of a program is refused.
+// Appends a line with the reason for refusing the text of a program.
 fn show_fault(alloc: Global, fault: ReportFault, text: &mut Vec<u8>) -> Result<(), AllocError> {
     let line = format!(in alloc; "refused {fault}\n")?;
     text.extend_from_slice(line.as_bytes())

@@ -43,8 +43,8 @@ struct Session {
 ///
 /// # Errors
 /// `Read` if the reader fails, `TooLong` if a line has more than 16,777,216 bytes, `Write` if the writer fails, `Save` if a save fails, and
-/// `NoMemory`. The session then ends without another save. The files hold the last save that succeeded; after `Save`, they may hold the
-/// failed one.
+/// `NoMemory` if allocation fails. The session then ends without another save. The files hold the last save that succeeded; after `Save`,
+/// they may hold the failed one.
 pub fn run_session<R: Read, W: Write, H: Host>(
     alloc: Global,
     notation: &Notation<Global>,
@@ -74,7 +74,7 @@ pub fn run_session<R: Read, W: Write, H: Host>(
     Err(SessionFault::TooLong)
 }
 
-// The number of an incomplete last line after `count` complete lines. `None` if `line` is empty, because then no line is incomplete.
+// Returns the number of an incomplete last line after `count` complete lines, or `None` if `line` is empty: then no line is incomplete.
 fn half_after(count: u64, line: &Vec<u8>) -> Option<u64>
     requires { count < 18446744073709551615 }
     ensures { result ≡ half_after count line.now.items }

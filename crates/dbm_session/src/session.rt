@@ -42,7 +42,7 @@ impl<'a> Session<'a> {
         })
     }
 
-    /// Returns the arguments as messages show them.
+    /// Returns the arguments that messages may show.
     pub fn words(&self) -> Words<'a> {
         Words {
             subject: Subject::Session,
@@ -56,7 +56,7 @@ impl<'a> Session<'a> {
     }
 }
 
-/// Defines the subcommand `session` for `clap`.
+/// Declares the subcommand `session` for `clap`.
 ///
 /// # Errors
 /// `AllocError` if allocation fails.

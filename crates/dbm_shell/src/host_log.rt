@@ -27,7 +27,7 @@ impl HostLog {
         HostLog {}
     }
 
-    /// Appends a time to the log.
+    /// Returns the log with this time appended.
     pub(crate) fn with_time(&self, time: &Option<TimeOfDay>) -> HostLog
         ensures { result.calls ≡ self.now.calls ++ GaveTime time.now ∷ [] }
     {
@@ -35,7 +35,7 @@ impl HostLog {
         HostLog {}
     }
 
-    /// Appends a committed save to the log.
+    /// Returns the log with this committed save appended.
     pub(crate) fn with_save(&self, image: &Image<Global>) -> HostLog
         ensures { result.calls ≡ self.now.calls ++ DidSave image.now ∷ [] }
     {

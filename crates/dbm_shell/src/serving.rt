@@ -16,15 +16,15 @@ use std::io::{self, Read};
 use std::rt::Runtime;
 use std::time::Clock;
 
-/// Answers the lines of a reader on the database of the taken files, and saves the database in these files. Until the session ends, no
+/// Answers the lines of a reader on the database in the files of `taken`, and saves the database in these files. Until the session ends, no
 /// other run may change the database; other runs may read it between two saves.
 ///
 /// # Errors
 /// - Before a line is read: `Report` with `BadLayout` if the layout of values is invalid, with `BadNumber` if `--save-every` is invalid, or
 ///   with `Open` if the files cannot be opened; and `WriteFile` if the files were taken without the lock for changes.
 /// - While lines are answered: `Report` with `Read`, or with `TooLong` if a line has more than 16,777,216 bytes; `Write` if an answer was
-///   not written; the errors of a save; and `NoMemory`. The changes since the last save are then lost, and a note gives the number of lines
-///   that requested changes.
+///   not written; the errors of a save; and `NoMemory` if allocation fails. The changes since the last save are then lost, and a note gives
+///   the number of lines that requested changes.
 /// - `CutLine` if the input ends within a line. That line is not run, and the changes before it are saved.
 pub fn serve_session<R: Runtime<File = File> + Clock + AllocGlobal, I: Read>(
     rt: &R,
@@ -52,7 +52,7 @@ pub fn serve_session<R: Runtime<File = File> + Clock + AllocGlobal, I: Read>(
     answer_lines(rt, &notation, image, reader, &mut shell)
 }
 
-// Opens the database of the files, and drops the bytes of the files.
+// Opens the database in the files, and drops the bytes of the files.
 fn opened(
     alloc: Global,
     session: Session<'_>,

@@ -28,16 +28,16 @@ pub struct Options<'a> {
     pub clock: bool,
 }
 
-/// The files of a session's database, the clock, and the terminal at which lines are typed, if there is one. All saves of the session go
-/// through one log of saves, which is open from the first save on. The shell remembers the identity of its files, because it may save only
-/// into these. Only clauses read the field `log`, which has the saves and the times that the shell returned.
+/// The files of a session's database, the clock, and the terminal at which lines are typed, if there is one. The shell remembers the IDs of
+/// its files, because it may save only into these. Only clauses read the field `log`, which has the saves and the times that the shell
+/// returned.
 #[derive(Drop)]
 pub struct Shell<'a, R: Runtime<File = File>> {
     rt: &'a R,
     place: RunPlace<'a>,
     held: &'a LockedFiles,
     seen: SeenFiles,
-    // The data files that the saves of the session have made, held open.
+    // The data files that the saves of the session have created, held open.
     made: DataFiles,
     saves: SessionSaves<'a, R>,
     options: Options<'a>,
@@ -82,7 +82,7 @@ impl<'a, R: Runtime<File = File> + Clock + AllocGlobal> Shell<'a, R> {
         }
     }
 
-    // Returns the time of day, or `None` if lines may not use it or the system reports none.
+    // Returns the time of day, or `None` if lines may not use the time or the system does not report it.
     fn clock_time(&self) -> Option<TimeOfDay> {
         if !self.options.clock {
             return None;
@@ -110,15 +110,15 @@ impl<'a, R: Runtime<File = File> + Clock + AllocGlobal> Shell<'a, R> {
         Ok(self.log.with_save(image))
     }
 
-    /// Ends the saves of the session, after which both data files are whole. If this fails and the session has saved, notes that the next
-    /// run that writes will finish the save.
+    /// Closes the log of the session, so that both data files are complete. If this fails and the session has saved, notes that the next
+    /// writing run will finish the save.
     pub fn end_saves(&mut self) {
         if close_session(self.rt, self.held, &mut self.saves).is_err() && self.has_saved {
             note_waiting_save(self.rt, self.place.base);
         }
     }
 
-    // The seconds since the last save, or the greatest number if the system reports no time.
+    // Returns the seconds since the last save, or `u64::MAX` if the system reports no time.
     fn seconds(&self) -> u64 {
         let (Some(saved_at), Ok(now)) = (self.saved_at, self.rt.monotonic()) else {
             return u64::MAX;
@@ -135,7 +135,7 @@ impl<'a, R: Runtime<File = File> + Clock + AllocGlobal> Shell<'a, R> {
     }
 
     // Returns the line that submits the named program: a stock program, or the program in the file with this name. If there is no such
-    // program, appends a line that says why to `text` and returns `None`.
+    // program, appends a line with the reason to `text` and returns `None`.
     fn program(&self, name: &[u8], text: &mut Vec<u8>) -> Result<Option<Vec<u8>>, AllocError>
         ensures { IfOk result (λ line. IfSome line (λ full. starts_with nat_eq full.items (codes "program ") ≡ true)) }
     {

@@ -9,7 +9,7 @@ use std::alloc::{AllocError, Allocator};
 // The longest bar.
 static SIGNS: [u8; 40] = [b'#'; 40];
 
-/// Appends a line for each element of `bars`, which counts the pages of one tenth.
+/// Appends a line for each element of `bars`. Each element is the number of pages in one tenth.
 ///
 /// # Errors
 /// `AllocError` if allocation fails. A part of the output may then be in `text`.
@@ -24,7 +24,7 @@ pub fn show_bars<A: Allocator>(bars: &[u32], text: &mut Vec<u8, A>) -> Result<()
     Ok(())
 }
 
-// The greatest number in `bars`, or 0 if it is empty.
+// Returns the greatest number in `bars`, or 0 if `bars` is empty.
 fn most_of(bars: &[u32]) -> u32
     ensures { result ≡ greatest (λ n. n) bars.now }
 {
@@ -65,7 +65,7 @@ fn show_percent<A: Allocator>(i: u64, text: &mut Vec<u8, A>) -> Result<(), Alloc
     show_number(10 * i, text)
 }
 
-// A bar of `count` signs.
+// Returns a bar of `count` signs.
 fn signs(count: usize) -> &'static [u8]
     requires { count ≤ 40 }
     ensures { result.now ≡ replicate count 35 }
@@ -73,7 +73,7 @@ fn signs(count: usize) -> &'static [u8]
     &SIGNS[..count]
 }
 
-// The length of the bar for `number`, if 40 signs represent `most`. A number above 0 has at least one sign.
+// Returns the length of the bar for `number`, if 40 signs represent `most`. A number above 0 has at least one sign.
 fn bar_length(most: u32, number: u32) -> usize
     ensures value { result ≡ bar_length most number }
     ensures short { result ≤ 40 }

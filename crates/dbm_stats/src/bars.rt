@@ -40,7 +40,7 @@ fn count_tenth(shapes: &[PageShape], size: PageSize, i: u64) -> u32
     count
 }
 
-// The tenth, from 0 to 9, of a page with `filled` bytes in use.
+// Returns the tenth, from 0 to 9, of a page with `filled` bytes in use.
 fn tenth(filled: u32, size: PageSize) -> u64
     ensures { result ≡ tenth size filled }
 {

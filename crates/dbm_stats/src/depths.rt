@@ -12,7 +12,7 @@ pub struct Depths {
     pub sum: u64,
 }
 
-/// Computes the least depth, the greatest depth and the sum.
+/// Returns the least depth, the greatest depth and the sum of the depths.
 pub fn depths_of(shapes: &[PageShape]) -> Depths
     requires { length shapes.now ≤ 2 ^ 32 }
     ensures { result ≡ depths_of (map_list (λ (s : PageShape). s.depth) shapes.now) }
@@ -24,7 +24,7 @@ pub fn depths_of(shapes: &[PageShape]) -> Depths
     }
 }
 
-// The least depth, or 0 if there is no page.
+// Returns the least depth, or 0 if there is no page.
 fn least(shapes: &[PageShape]) -> u8
     ensures { result ≡ (depths_of (map_list (λ (s : PageShape). s.depth) shapes.now)).least }
 {
@@ -38,7 +38,7 @@ fn least(shapes: &[PageShape]) -> u8
     least
 }
 
-// The greatest depth, or 0 if there is no page.
+// Returns the greatest depth, or 0 if there is no page.
 fn greatest(shapes: &[PageShape]) -> u8
     ensures { result ≡ (depths_of (map_list (λ (s : PageShape). s.depth) shapes.now)).greatest }
 {
@@ -49,7 +49,7 @@ fn greatest(shapes: &[PageShape]) -> u8
     greatest
 }
 
-// The sum of the depths.
+// Returns the sum of the depths.
 fn sum(shapes: &[PageShape]) -> u64
     requires { length shapes.now ≤ 2 ^ 32 }
     ensures { result ≡ (depths_of (map_list (λ (s : PageShape). s.depth) shapes.now)).sum }

@@ -8,7 +8,7 @@ use crate::totals::PageShape;
 use sdbm_addr::PageSize;
 use std::alloc::{AllocError, Allocator};
 
-// The result has at most this many pages.
+// The maximum number of pages in the result.
 const MOST: usize = 5;
 
 /// A page and the number of its free bytes.
@@ -37,7 +37,7 @@ pub fn fullest_of<A: Allocator + Copy>(
     Ok(rooms)
 }
 
-// The free bytes of each page.
+// Returns each page with its free bytes.
 fn rooms_of<A: Allocator>(
     alloc: A,
     shapes: &[PageShape],
@@ -52,7 +52,7 @@ fn rooms_of<A: Allocator>(
     Ok(rooms)
 }
 
-// The free bytes of a page.
+// Returns a page with its free bytes.
 fn room_on(shape: &PageShape, size: PageSize) -> PageRoom
     ensures { result ≡ room_on size shape.now }
 {

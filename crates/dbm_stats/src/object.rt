@@ -112,7 +112,7 @@ fn show_room<A: Allocator>(room: &PageRoom, text: &mut Vec<u8, A>) -> Result<(),
     Ok(text.push(b'}')?)
 }
 
-// The bytes after the first one; no bytes if `bytes` is empty.
+// Returns the bytes after the first one, or no bytes if `bytes` is empty.
 fn past_first(bytes: &[u8]) -> &[u8]
     ensures { result.now ≡ drop 1 bytes.now }
 {

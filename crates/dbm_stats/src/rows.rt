@@ -84,7 +84,7 @@ pub fn show_depths<A: Allocator>(
     show_row(b"greatest depth           ", depths.greatest as u64, text)
 }
 
-// Appends a quotient with one decimal place, rounded down. A `count` of 0 is taken as 1.
+// Appends a quotient with one decimal place, rounded down. A `count` of 0 counts as 1.
 fn show_quotient<A: Allocator>(
     sum: u64,
     count: u32,

@@ -58,7 +58,7 @@ fn page_shape<A: Allocator + Copy>(image: &Image<A>, number: u32, page: &SharedP
     }
 }
 
-// The number of bytes of a page that are not free.
+// Returns the number of bytes of a page that are not free.
 fn filled<A: Allocator>(page: &Page<A>) -> u32
     ensures { result ≡ filled page.now.pairs }
 {

@@ -5,7 +5,7 @@ ghost use Rattle.sdbm_addr.specs.Directory.{Splits};
 ghost use Rattle.sdbm_addr.specs.DirectoryFile.{bit_of, SpellsDirectory};
 ghost use Rattle.sdbm_dir.specs.Bitmap.{splits_below};
 
-/// The number of split prefixes in a directory, given its bytes. This is the number of bits that are 1.
+/// Returns the number of split prefixes in a directory: the number of bits in `bytes` that are 1.
 pub fn count_splits(bytes: &[u8]) -> u64
     requires short { length bytes.now < 2 ^ 32 }
     ensures count { (d : Splits) → SpellsDirectory bytes.now d → result ≡ set.len d }
@@ -17,7 +17,7 @@ pub fn count_splits(bytes: &[u8]) -> u64
     count
 }
 
-// The number of bits that are 1 in one byte.
+// Returns the number of bits that are 1 in one byte.
 fn count_bits(bytes: &[u8], index: usize) -> u64
     requires inside { index < length bytes.now }
     ensures few { result ≤ 8 }
@@ -33,7 +33,7 @@ fn count_bits(bytes: &[u8], index: usize) -> u64
     count
 }
 
-// Bit k of one byte, as a number.
+// Returns bit k of one byte as a number.
 fn count_bit(bytes: &[u8], index: usize, k: u32) -> u64
     requires inside { index < length bytes.now }
     requires bit { k < 8 }
@@ -43,7 +43,7 @@ fn count_bit(bytes: &[u8], index: usize, k: u32) -> u64
     if is_set(bytes, index, k) { 1 } else { 0 }
 }
 
-// Bit k of one byte.
+// Returns bit k of one byte.
 fn is_set(bytes: &[u8], index: usize, k: u32) -> bool
     requires inside { index < length bytes.now }
     requires bit { k < 8 }

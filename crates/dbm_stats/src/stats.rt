@@ -29,8 +29,8 @@ pub struct Stats<A: Allocator> {
     pub pag_bytes: u64,
     /// The length in bytes that the `.pag` file would have if the database were widened.
     pub wide_bytes: u64,
-    /// Ten numbers of pages: those filled to less than a tenth, those filled to at least one and less than two tenths, and so on. Pages
-    /// without pairs are not counted. A full page counts in the last tenth.
+    /// Ten counts of pages by how full they are: less than one tenth, at least one and less than two tenths, and so on. Pages without pairs
+    /// are not counted. A full page counts in the last tenth.
     pub bars: Vec<u32, A>,
     /// The fullest pages, at most five, the fullest first. Of two equally full pages, the one with the lower number comes first.
     pub fullest: Vec<PageRoom, A>,
@@ -71,7 +71,7 @@ pub fn stats_of<A: Allocator + Copy>(alloc: A, image: &Image<A>) -> Result<Stats
     })
 }
 
-// The number of pages that have pairs.
+// Returns the number of pages that have pairs.
 fn used_of(shapes: &[PageShape]) -> u32
     requires { length shapes.now ≤ 2 ^ 31 }
     ensures { result ≡ length shapes.now }

@@ -33,7 +33,7 @@ const NONE: PairTotals = PairTotals {
     longest_pair: 0,
 };
 
-// The totals over one pair.
+// Returns the totals over one pair.
 fn pair_totals(key: &[u8], value: &[u8]) -> PairTotals
     ensures { result ≡ totals_of ((key.now, value.now) ∷ []) }
 {
@@ -61,7 +61,7 @@ fn join(first: PairTotals, second: PairTotals) -> PairTotals
     }
 }
 
-/// The totals over the pairs of a page.
+/// Returns the totals over the pairs of a page.
 pub fn page_totals<A: Allocator>(page: &Page<A>) -> PairTotals
     ensures totals { result ≡ totals_of page.now.pairs }
     ensures small { AreBelow result 8192 }
@@ -73,7 +73,7 @@ pub fn page_totals<A: Allocator>(page: &Page<A>) -> PairTotals
     totals
 }
 
-/// The totals over the pairs of all pages.
+/// Returns the totals over the pairs of all pages.
 pub fn all_totals(shapes: &[PageShape]) -> PairTotals
     requires small { All (λ (s : PageShape). AreBelow s.totals 8192) shapes.now }
     requires few { length shapes.now ≤ 2 ^ 32 }

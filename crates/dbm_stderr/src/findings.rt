@@ -23,7 +23,7 @@ pub fn find_unread<'a, R: Files<File = File>>(
     Some(Finding { name, matter })
 }
 
-// The first of the files of a database that cannot be read.
+// Returns the first file of a database that cannot be read.
 fn unread_of<'a, R: Files<File = File>>(rt: &R, names: &'a Names) -> Option<Finding<'a>> {
     for name in [
         names.lock.as_str(),
@@ -145,8 +145,7 @@ fn unwritten<R: Files<File = File>>(rt: &R, name: &str) -> Option<Matter> {
     None
 }
 
-/// Finds the first file to read that is over its size limit. If there is none, finds the first that is not a regular file: a device or a
-/// FIFO has no length.
+/// Finds the first file to read that is over its size limit. If there is no such file, finds the first device or FIFO, which has no length.
 pub fn find_too_long<'a, R: Files<File = File>>(
     rt: &R,
     sources: &'a [Source],
@@ -178,7 +177,7 @@ fn is_longer<R: Files<File = File>>(rt: &R, source: &Source) -> bool {
     }
 }
 
-/// Returns a finding if a file is an object file, the output of a compiler, and not a program: its first four bytes are those of ELF.
+/// Returns a finding if a file is an object file, the output of a compiler: its first four bytes are those of ELF.
 pub fn find_object<'a, R: Files<File = File>>(rt: &R, name: &'a str) -> Option<Finding<'a>> {
     let mut head = [0; 4];
     let is_object = match fs::open(rt, name) {

@@ -1,9 +1,9 @@
-//! Notes on how the lines of a script or a batch end.
+//! Notes on the line ends of a script or a batch.
 
 use dbm_messages::{Sentence, half_line_note, line_end_note};
 use dbm_script::LineKind;
 
-/// Makes the note on the first line of a text that ends in CR. Returns `None` if no line does. A comment in a script may end in CR.
+/// Makes the note on the first line that ends in CR. Returns `None` if there is no such line. A comment in a script may end in CR.
 pub fn note_of_line_end(lines: LineKind, text: &[u8]) -> Option<Sentence<'static>> {
     for (at, line) in text.split(|byte| *byte == b'\n').enumerate() {
         let is_comment = lines == LineKind::OfScript && line.starts_with(b"#");

@@ -21,7 +21,7 @@ pub enum Work {
 }
 
 impl Work {
-    // The name of the step that comes after reading the files.
+    // Returns the name of the step after reading the files.
     fn doing(self) -> &'static str {
         match self {
             Work::Backup | Work::Check => "checking",
@@ -47,14 +47,14 @@ pub fn tell_reading<R: Runtime<File = File> + AllocGlobal>(
     }
 }
 
-/// Like `tell_reading`, when the command works on a `.pag` of `len` bytes.
+/// Like `tell_reading`, for the work on a `.pag` of `len` bytes.
 pub fn tell_work<R: Runtime<File = File> + AllocGlobal>(rt: &R, work: Option<Work>, len: u64) {
     if let Some(work) = work {
         tell_step(rt, work.doing(), len);
     }
 }
 
-/// Like `tell_reading`, when a `.pag` of `len` bytes is saved.
+/// Like `tell_reading`, for the save of a `.pag` of `len` bytes.
 pub fn tell_saving<R: Runtime<File = File> + AllocGlobal>(rt: &R, work: Option<Work>, len: u64) {
     if work.is_some() {
         tell_step(rt, "saving", len);
@@ -69,7 +69,7 @@ fn tell_step<R: Runtime<File = File> + AllocGlobal>(rt: &R, step: &str, len: u64
     }
 }
 
-// The length of the `.pag` of a base, if the file exists.
+// Returns the length of the `.pag` of a base, if the file exists.
 fn pages_len<R: Runtime<File = File> + AllocGlobal>(rt: &R, base: &str) -> Option<u64> {
     let base = resolve(rt, base).ok()?;
     let names = names_of(rt.alloc(), base.as_str()).ok()?;

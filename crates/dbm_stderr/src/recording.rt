@@ -72,7 +72,7 @@ impl<R: Read> RecordingReader<R> {
         count
     }
 
-    /// The recorded bytes. Empty if memory ran out.
+    /// Returns the recorded bytes, or no bytes if memory ran out.
     pub fn text(&self) -> &[u8] {
         if self.has_lost {
             return &[];

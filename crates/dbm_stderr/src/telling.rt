@@ -19,7 +19,7 @@ fn say<R: Runtime>(rt: &R, before: &str, sentence: Sentence<'_>) {
     let _ = eprintln!(rt; "{before}{sentence}");
 }
 
-/// Prints one line that says what a fault is about and what to do.
+/// Prints one line with the cause of a fault, and what to do.
 pub fn advise<R: Runtime<File = File> + AllocGlobal>(
     rt: &R,
     context: Option<&DiagnosticContext<'_>>,
@@ -37,7 +37,7 @@ pub fn advise<R: Runtime<File = File> + AllocGlobal>(
     }
 }
 
-// Like `advise`, with the arguments of the request. For some faults, examines the files again to find the one that the fault is about.
+// Like `advise`, with the arguments of the request. For some faults, examines the files again to find the file that the fault is about.
 fn advise_on<R: Runtime<File = File> + AllocGlobal>(
     rt: &R,
     context: &DiagnosticContext<'_>,

@@ -9,7 +9,7 @@ use std::fs::{self, File};
 use std::rt::Runtime;
 use std::time::{Clock, Duration};
 
-/// Milliseconds that a run waits before it reports that it waits.
+/// The time in milliseconds that a run waits before it reports the wait.
 const SILENT_WAIT: u64 = 500;
 
 /// Like `take_files`, with reports. If the run is verbose or standard error is a terminal, reports the holder of the lock after a wait of
@@ -95,8 +95,8 @@ fn tell_holder<R: Runtime<File = File> + AllocGlobal>(rt: &R, place: RunPlace<'_
     let _ = eprintln!(rt; "dbm: note: {note}");
 }
 
-// Returns the number of the process for which a run waits, if the system reports one. For a run that may write, this is the process that
-// has the base open for changes; otherwise, or if there is none, the one that has locked the files.
+// Returns the ID of the process for which a run waits, if the system reports it. For a run that may write, looks first for a process with
+// the base open for changes. Then looks for a process that has locked the files.
 fn holder_of<R: Runtime<File = File> + AllocGlobal>(
     rt: &R,
     base: &str,
@@ -109,7 +109,7 @@ fn holder_of<R: Runtime<File = File> + AllocGlobal>(
     seen_locker_of(rt, names.lock.as_str())
 }
 
-// The number of the process that holds a lock, if this process can see it.
+// Returns the ID of the process that holds a lock, if this process can see it.
 fn seen_locker_of<R: Runtime<File = File> + AllocGlobal>(rt: &R, name: &str) -> Option<u64> {
     match locker_of(rt, name)? {
         0 => None,
@@ -117,7 +117,7 @@ fn seen_locker_of<R: Runtime<File = File> + AllocGlobal>(rt: &R, name: &str) -> 
     }
 }
 
-// The name of a process.
+// Returns the name of a process.
 fn name_of<R: Runtime<File = File> + AllocGlobal>(rt: &R, process: u64) -> Option<String> {
     let path = format!(in rt.alloc(); "/proc/{process}/comm").ok()?;
     let mut name = fs::read_to_string(rt, path.as_str()).ok()?;

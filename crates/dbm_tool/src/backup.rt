@@ -21,11 +21,11 @@ use std::time::Clock;
 // The mode of a copy of a database without BASE.pag and BASE.redo.
 const NEW_MODE: u32 = 0o666;
 
-/// Opens the database of the files that were read, copies it into the new files of a backup, and prints the number of pairs. If making the
+/// Opens the database in the files that were read, copies it into the new files of a backup, and prints the number of pairs. If making the
 /// copy fails, reports the fault here and returns the status of a fault.
 ///
 /// # Errors
-/// Only faults of the database that is copied: `Report` with `Open` if its files cannot be opened, and `NoMemory`.
+/// Only faults of the database that is copied: `Report` with `Open` if its files cannot be opened, and `NoMemory` if allocation fails.
 pub fn serve_backup<R: Runtime<File = File> + Clock + AllocGlobal>(
     rt: &R,
     backup: &Backup<'_>,
@@ -66,7 +66,7 @@ fn make_copy<R: Runtime<File = File> + Clock + AllocGlobal>(
     }
 }
 
-// The permissions of a database: those of its `.pag`, or if that is missing those of its redo file.
+// Returns the permissions of a database: those of its `.pag`, or if `.pag` is missing those of its redo file.
 fn mode_of<R: Runtime<File = File> + AllocGlobal>(rt: &R, base: &str) -> Result<u32, ServeFault> {
     let names = names_of(rt.alloc(), base)?;
     for name in [&names.pages, &names.redo] {
@@ -77,7 +77,7 @@ fn mode_of<R: Runtime<File = File> + AllocGlobal>(rt: &R, base: &str) -> Result<
     Ok(NEW_MODE)
 }
 
-// The files of the copy.
+// Returns the files of the copy.
 fn place_of_copy<'a>(backup: &Backup<'a>) -> RunPlace<'a> {
     RunPlace {
         base: Some(backup.to),
@@ -88,7 +88,7 @@ fn place_of_copy<'a>(backup: &Backup<'a>) -> RunPlace<'a> {
     }
 }
 
-// The context for sentences about the copy.
+// Returns the context for sentences about the copy.
 fn context_of_copy<'a>(backup: &Backup<'a>) -> DiagnosticContext<'a> {
     DiagnosticContext {
         place: place_of_copy(backup),

@@ -13,7 +13,7 @@ use std::time::{Clock, Duration, SystemTime, UNIX_EPOCH};
 /// Returns the number of units since the beginning of 1970 in UTC, in decimal.
 ///
 /// # Errors
-/// `ReadClock` if the system does not report the time, and `NoMemory`.
+/// `ReadClock` if the system does not report the time, and `NoMemory` if allocation fails.
 pub fn read_clock<C: Clock>(
     clock: &C,
     alloc: Global,
@@ -35,7 +35,7 @@ pub fn read_time<C: Clock>(clock: &C) -> Result<TimeOfDay, ServeFault> {
     }
 }
 
-// The time since the beginning of 1970 in UTC, or `ReadClock` if the system does not report it.
+// Returns the time since the beginning of 1970 in UTC. Fails with `ReadClock` if the system does not report it.
 fn since_beginning<C: Clock>(clock: &C) -> Result<Duration, ServeFault> {
     let Ok(now) = SystemTime::now(clock) else {
         return Err(ServeFault::ReadClock);

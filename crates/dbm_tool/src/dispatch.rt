@@ -16,7 +16,7 @@ use std::io::{Read, Write};
 use std::sync::Wait;
 use std::thread::Threads;
 
-/// Serves a request, after reading the layout of values that its options name.
+/// Serves a request in the notation of its options.
 pub fn serve_wish<T: Threads + Wait + Sync, R: Read, W: Write>(
     rt: &T,
     alloc: Global,

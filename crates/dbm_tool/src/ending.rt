@@ -70,7 +70,8 @@ pub enum Ending {
 }
 
 impl Ending {
-    /// The ending of a run, given the result of its request. `None` means that the reader of the answer is gone, which is no fault.
+    /// Returns the ending of a run, given the result of its request. `None` means that the reader of the answer is gone, which is not a
+    /// fault.
     pub fn of(outcome: Result<Option<Served>, ServeFault>) -> Ending
         ensures { IsEndingOf outcome result }
     {
@@ -82,8 +83,8 @@ impl Ending {
     }
 }
 
-/// The exit status of the program: that of the served request, 0 if the arguments request help or the version, and 2 for every other
-/// refusal and for every fault.
+/// Returns the exit status of the program: that of the served request, 0 if the arguments request help or the version, and 2 for every
+/// other refusal and for every fault.
 pub fn exit_status(ending: &Ending) -> u8
     ensures { IsExitStatus ending.now result }
 {

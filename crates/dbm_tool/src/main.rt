@@ -50,7 +50,7 @@ use std::time::Duration;
 use std::{env, fs, io, thread};
 use stock::{check_program, print_programs, stock_file};
 
-// The default wait in seconds for the lock that a change of the database needs.
+// The default for the longest wait for the lock, in seconds, if a run may change the database.
 const DEFAULT_PATIENCE: u64 = 60;
 
 fn main(rt: HostRuntime) -> ExitCode {
@@ -198,8 +198,8 @@ fn refused_again(alloc: Global, words: &[String]) -> Option<ToolFault> {
     }
 }
 
-// Prints notes after an answer that the user may not expect. The notes are about missing files, a save that is not yet in the data files,
-// an object file instead of an image, bad lines of a script, a line that ends in CR if there are bad lines, and a last line without LF.
+// Prints notes that explain an answer. The notes are about missing files, a save that is not yet in the data files, an object file instead
+// of an image, bad lines of a script, a line that ends in CR if there are bad lines, and a last line without LF.
 fn note<R: Runtime<File = File> + AllocGlobal>(
     rt: &R,
     context: &DiagnosticContext<'_>,
@@ -227,7 +227,7 @@ fn note<R: Runtime<File = File> + AllocGlobal>(
     }
 }
 
-// Notes which line of a script or a batch ends in CR, if one does.
+// Notes the first line of a script or a batch that ends in CR, if any.
 fn note_line_end<R: Runtime>(rt: &R, lines: LineKind, input: &[u8]) {
     if let Some(note) = note_of_line_end(lines, input) {
         note_that(rt, note);
@@ -236,7 +236,7 @@ fn note_line_end<R: Runtime>(rt: &R, lines: LineKind, input: &[u8]) {
 
 // Checks a request, takes its files, and serves it. The checks are: the stock program exists, the base is valid, the timeout is valid, and
 // required files exist. If there may be a change, standard output must be writable too, because otherwise the answer would be lost. A run
-// that writes holds its lock until its change is saved. Returns `None` if the reader of the answer is gone, which is no fault.
+// that writes holds its lock until its change is saved. Returns `None` if the reader of the answer is gone, which is not a fault.
 fn serve_request<R: Runtime<File = File> + AllocGlobal + Threads + Wait + Sync, I: Read>(
     rt: &R,
     request: Request<'_>,
@@ -332,7 +332,7 @@ fn take_asked<R: Runtime<File = File> + AllocGlobal>(
     Ok(taken)
 }
 
-// The files of a request, and the timeout of their lock.
+// The files of a request, and the longest wait for their lock.
 #[derive(Clone, Copy)]
 struct Taking<'a> {
     place: RunPlace<'a>,
@@ -437,7 +437,7 @@ fn with_words<'a>(wish: Wish<'a>, added: &'a AddedWords) -> Wish<'a> {
     }
 }
 
-// The number of cores that this process may use, in decimal; 1 if the system reports none.
+// Returns the number of cores that this process may use, in decimal; 1 if the system does not report it.
 fn cores_text<R: Threads>(rt: &R, alloc: Global) -> Result<String, AllocError> {
     let cores = match thread::available_parallelism(rt) {
         Ok(cores) => cores.get(),
@@ -553,7 +553,7 @@ fn serve_change<R: Runtime<File = File> + AllocGlobal + Threads + Wait + Sync, I
     let mut lines = Vec::new(rt.alloc());
     let outcome = match serve(rt, rt.alloc(), wish, &given, reader, &mut lines) {
         Ok(outcome) => outcome,
-        // Collecting lines in memory only fails if allocation fails.
+        // Collecting lines in memory fails only if allocation fails.
         Err(ServeFault::Write) => return Err(ServeFault::NoMemory),
         Err(fault) => return Err(fault),
     };

@@ -9,8 +9,8 @@ use dbm_stderr::{PipeWriter, note_refusal};
 use std::io;
 use std::rt::Runtime;
 
-/// Prints the lines of a request that changes nothing. Returns `false` if standard output is a pipe whose reader is gone. That is no fault:
-/// a reader such as `head` stops when it has read enough.
+/// Prints the lines of a request that changes nothing. Returns `false` if standard output is a pipe whose reader is gone. That is not a
+/// fault: a reader such as `head` stops when it has read enough.
 ///
 /// # Errors
 /// `Write` if the lines cannot be printed.

@@ -43,11 +43,11 @@ pub struct PageServed {
 }
 
 /// Serves a request from the page of its key. The files were taken, but `.pag` was left unread. If there is a change, saves it, releases
-/// the lock, and prints the lines. If there is none, the caller has to release the lock and then print the lines. Returns `None` if that
-/// page is not enough: nothing was written, and the caller has to read the whole `.pag`.
+/// the lock, and prints the lines. If there is no change, the caller must release the lock and then print the lines. Returns `None` if the
+/// page is not enough: nothing was written, and the caller must read the whole `.pag`.
 ///
 /// # Errors
-/// `Write` if the lines could not be written, and the errors of a save.
+/// `Saved` if the change was saved, but the lines could not be printed; and the errors of a save.
 pub fn serve_quick<R: Runtime<File = File> + AllocGlobal>(
     rt: &R,
     wish: Wish<'_>,
@@ -185,7 +185,7 @@ fn ends_with_pairs(alloc: Global, unread: &UnreadPages, directory: &[u8], form: 
     has_own_pairs(alloc, directory, kind, size, last, page.as_slice())
 }
 
-// Returns `true` if the pages with these numbers are zeros, except the one that was read.
+// Returns `true` if the pages with these numbers, except page `number`, are all zeros.
 fn are_free(
     alloc: Global,
     unread: &UnreadPages,

@@ -1,4 +1,4 @@
-//! Extracts the parts of a request that the files and the sentences need.
+//! Extracts the files of a request, and the parts that sentences show.
 ghost use Rattle.std.specs.Prelude.{◌≡◌, option_map};
 ghost use Rattle.dbm_command_line.specs.Wishes.{wish_base, wish_file, writes_files};
 ghost use Rattle.dbm_tool.specs.Stock.{file_in};
@@ -16,7 +16,7 @@ use dbm_stderr::{DiagnosticContext, Work};
 use sdbm_addr::PageSize;
 use sdbm_files::PAG_LIMIT;
 
-/// The files of a request on a database or a program.
+/// Returns the files of a request on a database or a program.
 pub fn place_of<'a>(wish: &Wish<'a>) -> RunPlace<'a>
     ensures base { option_map (λ text. text.now) result.base ≡ wish_base wish.now }
     ensures file { option_map (λ text. text.now) result.file ≡ file_in (wish_file wish.now) }
@@ -33,7 +33,7 @@ pub fn place_of<'a>(wish: &Wish<'a>) -> RunPlace<'a>
     }
 }
 
-// The page size that the options select.
+// Returns the page size that the options select.
 fn size_of(words: &Words<'_>) -> PageSize {
     if words.wide {
         PageSize::Wide
@@ -53,7 +53,7 @@ pub fn given_of(bytes: FileBytes) -> Given
     }
 }
 
-/// The parts of a request that notes and sentences show.
+/// Returns the parts of a request that notes and sentences show.
 pub fn context_of<'a>(request: &Request<'a>) -> DiagnosticContext<'a> {
     let words = words_of(&request.ask);
     let numbers = Numbers {
@@ -67,7 +67,7 @@ pub fn context_of<'a>(request: &Request<'a>) -> DiagnosticContext<'a> {
     }
 }
 
-// The arguments that a sentence may show.
+// Returns the arguments that a sentence may show.
 fn words_of<'a>(ask: &Ask<'a>) -> Words<'a> {
     match ask {
         Ask::Wish(wish) => Words {
@@ -81,7 +81,7 @@ fn words_of<'a>(ask: &Ask<'a>) -> Words<'a> {
     }
 }
 
-// The kind of lines on standard input, if it is a script or a batch.
+// Returns the kind of lines on standard input, if it is a script or a batch.
 fn lines_of(ask: &Ask<'_>) -> Option<LineKind> {
     match ask {
         Ask::Wish(Wish::Script(_)) => Some(LineKind::OfScript),
@@ -90,7 +90,7 @@ fn lines_of(ask: &Ask<'_>) -> Option<LineKind> {
     }
 }
 
-// The place of a request that has no files.
+// Returns the place of a request without files.
 fn no_place() -> RunPlace<'static> {
     RunPlace {
         base: None,
@@ -101,7 +101,7 @@ fn no_place() -> RunPlace<'static> {
     }
 }
 
-/// The files of a request.
+/// Returns the files of a request.
 pub fn place_asked<'a>(ask: &Ask<'a>) -> RunPlace<'a> {
     match ask {
         Ask::Wish(wish) => place_of(wish),
@@ -111,7 +111,7 @@ pub fn place_asked<'a>(ask: &Ask<'a>) -> RunPlace<'a> {
     }
 }
 
-// The files that a backup reads.
+// Returns the files that a backup reads.
 fn place_of_backup<'a>(backup: &Backup<'a>) -> RunPlace<'a> {
     RunPlace {
         base: Some(backup.base),
@@ -122,7 +122,7 @@ fn place_of_backup<'a>(backup: &Backup<'a>) -> RunPlace<'a> {
     }
 }
 
-// The files of a session.
+// Returns the files of a session.
 fn place_of_session<'a>(session: &Session<'a>) -> RunPlace<'a> {
     RunPlace {
         base: Some(session.base),
@@ -163,7 +163,7 @@ pub fn work_of(wish: &Wish<'_>) -> Option<Work> {
     }
 }
 
-/// Returns the first argument of a store that was read as hex but may be meant as text, because it has only letters, as `cafe` does.
+/// Returns the first argument of a store that was read as hex but may be meant as text, because it has only letters, like `cafe`.
 pub fn doubtful_hex<'a>(ask: &Ask<'a>) -> Option<&'a str> {
     let Ask::Wish(wish @ Wish::Store(_)) = ask else {
         return None;

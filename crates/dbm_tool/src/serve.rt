@@ -19,19 +19,19 @@ use std::thread::Threads;
 /// # Errors
 /// The first fault in this order. Faults that `ReportFault` names are inside `Report`.
 /// - `BadLayout` if the layout of values is invalid. For a dump or a load, `BadFormat` of `Dump` if the format is unknown.
-/// - `BadHex` (in a text notation `BadText`) if an argument is not valid bytes, and `BadNumber` if one is not a number.
+/// - `BadHex` (in a text notation `BadText`) if an argument is not valid bytes, and `BadNumber` if a number is invalid.
 /// - `Open` if the files cannot be opened.
-/// - `NotText` or `Assemble` if the program's file is not the text of a program. For `disasm`, `Decode` if the file is not the image of
-///   one. For a batch, `Submit` if the program is refused.
+/// - `NotText` or `Assemble` if the program's file is not the text of a program. For `disasm`, `Decode` if the file is not the image of a
+///   program. For a batch, `Submit` if the program is refused.
 /// - `Read` if standard input could not be read, and `TooLong` if it has more than 16,777,216 bytes. For a load, `Dump` with the fault of
 ///   the dump.
-/// - For a script, `OutputTooLong`.
+/// - For a script, `OutputTooLong` if the answers are longer than `--max-output` allows.
 /// - For a batch, `BadLine` with the first line that is not a task, `Pool` if not all tasks were done, and `Close` if the store does not
 ///   close.
 /// - `Write` if only a prefix of the text was written, and `FileTooLong`, after the whole text was written, if `.pag` would exceed
 ///   `PAG_LIMIT`. On any other fault nothing was written.
 ///
-/// `NoMemory` may occur at any step before the text is written. No other fault contains it, except that of a task.
+/// `NoMemory` may occur at any step before the text is written. No other fault contains `NoMemory`, except that of a task.
 pub fn serve<T: Threads + Wait + Sync, R: Read, W: Write>(
     rt: &T,
     alloc: Global,

@@ -23,7 +23,7 @@ pub fn must_be_wide(request: &Request<'_>) -> bool {
 /// because in a database of small pages each wide page that is not all zeros looks small.
 ///
 /// # Errors
-/// `OtherSize` if the files look small, `NoMemory`, and the errors of `take_rest`.
+/// `OtherSize` if the files look small, `NoMemory` if allocation fails, and the errors of `take_rest`.
 pub fn refuse_small<R: Files<File = File> + Clock + AllocGlobal>(
     rt: &R,
     place: RunPlace<'_>,

@@ -14,7 +14,7 @@ use std::fs::File;
 use std::rt::Runtime;
 use stock_names::{ProgramWord, read_word};
 
-/// The file that the argument for a program names. `None` if there is no argument, or if it begins with `@`.
+/// Returns the file that the argument for a program names, or `None` if there is no argument or it begins with `@`.
 pub fn file_in<'a>(word: Option<&'a str>) -> Option<&'a str>
     ensures { option_map (λ text. text.now) result ≡ file_in (option_map (λ text. text.now) word.entry) }
 {
@@ -52,7 +52,7 @@ pub fn check_program(wish: &Wish<'_>) -> Result<(), ServeFault>
 /// if the request names a file or no program.
 ///
 /// # Errors
-/// `NoStock` if no stock program has the name, and `NoMemory`.
+/// `NoStock` if no stock program has the name, and `NoMemory` if allocation fails.
 pub fn stock_file(alloc: Global, wish: &Wish<'_>) -> Result<Option<Vec<u8>>, ServeFault>
     ensures ok { IfOk result (λ file. IsStockFile (head_of wish.now).image (word_in (wish_file wish.now)) (option_map (λ bytes. bytes.items) file)) }
     ensures fault { IfErr result (λ fault. (fault ≡ NoMemory) ⊎ ((fault ≡ NoStock) × (word_in (wish_file wish.now) ≡ Unknown))) }
@@ -71,7 +71,7 @@ pub fn stock_file(alloc: Global, wish: &Wish<'_>) -> Result<Option<Vec<u8>>, Ser
 /// Prints the stock programs, or one of them. Returns `false` if standard output is a pipe whose reader is gone.
 ///
 /// # Errors
-/// `NoStock` if no stock program has the name, `Write` if the text cannot be printed, and `NoMemory`.
+/// `NoStock` if no stock program has the name, `Write` if the text cannot be printed, and `NoMemory` if allocation fails.
 pub fn print_programs<R: Runtime<File = File> + AllocGlobal>(
     rt: &R,
     programs: &Programs<'_>,

@@ -81,7 +81,7 @@ module _ {A : Type 0} (s : DeskState A) (session : ℕ) (command : Command A) (p
   pub may_step_in : MayChange s.database place.page result.change
   may_step_in = lead.may
 
-  -- the reason for a refusal, when memory is needed or the page is held
+  -- the reason for a refusal if memory is needed or the page is held
   pub step_refused : (changes : Bool) → changes ≡ is_some result.change → (b : Bool) → (changes && taken) ≡ b → IsStepFault s session command (cond b Busy NoMemory)
   step_refused changes is true e =
       let both = both_so changes taken e in
@@ -95,7 +95,7 @@ module _ {A : Type 0} (s : DeskState A) (session : ℕ) (command : Command A) (p
           let clash : true ≡ false = sym there ∙ not_both changes taken e so in
           cc
 
-  -- the reason for a refusal when there is no memory to compute it
+  -- the reason for a refusal if there is no memory to compute the result
   pub memory_refused : (IsRun command × (is_change command ≡ false)) ⊎ (is_change command ≡ is_some result.change) → (b : Bool) → (is_change command && taken) ≡ b → IsStepFault s session command (cond b Busy NoMemory)
   memory_refused (inr is) b e = step_refused (is_change command) is b e
   memory_refused (inl run) true e = let clash : true ≡ false = sym (both_so (is_change command) taken e).0 ∙ run.1 in absurd cc
@@ -121,7 +121,7 @@ module _ {A : Type 0} (s : DeskState A) (session : ℕ) (command : Command A) (p
         limit_is = refl;
       }
 
-  -- it was executed in place, on a page without other holds
+  -- the step was executed in place, on a page without other holds
   pub stepped_at_once : (reply copy : Reply A) (db : Database) (mid entries : List (Entry A)) → IsPutIn s.database place session command reply db → copy ≡ reply → taken ≡ false → mid ≡ s.entries
       → entries ≡ mid ++ record { session = session; command = command; reply = copy } ∷ [] → Steps s session command reply (record s { database = db; entries = entries })
   stepped_at_once reply copy db mid entries done copy_is free same more = stepped done.ends reply copy db mid entries done.reply_is copy_is (at (is_some result.change) taken free) done.database same more

@@ -133,7 +133,7 @@ tied_leads {A} db ok hs t o tie =
     subst (λ (r : PageResult A). LeadsTo db o.session o.command o.place.page r) (sym (tied_works db hs t o tie))
     (works_lead db ok o.place o.session o.command (keyed_may o.command tie.mode tie.may) tie.small tie.place)
 
--- and it is the effect of its command
+-- the installed result of an open ticket is the effect of its command
 pub tied_acts : {A : Type 0} (db db' : Database) → IsDatabase db → (hs : List Held) (t : ℕ) (o : Open A) → IsTied db hs t o → HasEnd o.page.pairs o.session o.command → (r : Reply A) → r ≡ (worked o).reply
     → db' ≡ changed_by db o.place.page (worked o).change → Acts db (record { session = o.session; command = o.command; reply = r }) db'
 tied_acts {A} db db' ok hs t o tie ends r is installed =

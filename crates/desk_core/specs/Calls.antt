@@ -75,7 +75,7 @@ IsAskFault s command af.TrailFull = IsSmall s.database.size command × (s.limit 
 IsAskFault s command af.Busy = IsSmall s.database.size command × ((length s.entries + open_count s < s.limit) × (is_barred s command ≡ true))
 IsAskFault s command af.NoMemory = MayAsk s command
 
--- The needs of a command: the place of its key, and its first hold on the page there. `None` for a count.
+-- The place of a command's key, and the mode of its first hold on the page there; `None` for a count.
 abbrev pub IsWanted : {A : Type 0} → DeskState A → Command A → Option PageNeed → Type 0
 IsWanted s command None = command ≡ Count
 IsWanted s command (Some wanted) = (first_hold command ≡ Some wanted.mode) × IsPlaceOf s.database (key_of command) wanted.place
@@ -204,9 +204,9 @@ pub record Steps {A : Type 0} (s : DeskState A) (session : ℕ) (command : Comma
   pub holds : s'.holds ≡ s.holds
   pub limit_is : s'.limit ≡ s.limit
 
--- The condition of each refusal of a step. It is that of a request; in addition, `Busy` applies if a ticket holds a page that
--- would change. `NoMemory` applies only if neither does. A run is an exception: its program runs on a page that needs memory
--- before it is known whether the page changes.
+-- The condition of each refusal of a step: that of a request; in addition, `Busy` applies if a ticket holds a page that would
+-- change. `NoMemory` applies only if no other refusal does. A run is an exception: it allocates before it is known whether its
+-- page changes, so it may get `NoMemory` instead of this `Busy`.
 abbrev pub IsStepFault : {A : Type 0} → DeskState A → ℕ → Command A → AskFault → Type 0
 IsStepFault s session command af.PairTooLarge = IsAskFault s command af.PairTooLarge
 IsStepFault s session command af.ArgTooLong = IsAskFault s command af.ArgTooLong
@@ -214,13 +214,14 @@ IsStepFault s session command af.TrailFull = IsAskFault s command af.TrailFull
 IsStepFault s session command af.Busy = IsAskFault s command af.Busy ⊎ (MayAsk s command × ((is_held s command ≡ true) × WouldChange s session command))
 IsStepFault s session command af.NoMemory = MayAsk s command × (IsRun command ⊎ (is_held s command ≡ true → WouldChange s session command → ⊥))
 
--- ---- looks
+-- ---- commands that are computed on a copy of their page, without a ticket (`look` and `put`)
 
 -- the page of an open command is still the current page of its key, and the database has the same page size and hash kind
 abbrev pub IsStill : {A : Type 0} → DeskState A → Open A → Type 0
 IsStill s o = IsAsked s o.session o.command o
 
--- the result of an open command may be put in: its page is unchanged, and if the command changes the page, no ticket holds it
+-- the result of an open command may be installed: its page is unchanged, and if the command changes the page, no ticket
+-- holds it
 pub record MayPut {A : Type 0} (s : DeskState A) (o : Open A) : Type 0 where
   pub may : MayAsk s o.command
   pub still : IsStill s o
@@ -230,8 +231,8 @@ pub record MayPut {A : Type 0} (s : DeskState A) (o : Open A) : Type 0 where
 abbrev pub IsInTheWay : {A : Type 0} → DeskState A → Open A → Type 0
 IsInTheWay s o = (is_some (worked o).change && list_any (bars o.place.page Exclusive) s.holds) ≡ true
 
--- The condition of each refusal of `put`. It is that of a request; or the page has changed; or it is unchanged, and a ticket
--- holds it or memory runs out.
+-- The condition of each refusal of `put`: a request is refused; or the page has changed; or the page is unchanged, and a
+-- ticket holds it or memory runs out.
 abbrev pub IsPutFault : {A : Type 0} → DeskState A → Open A → PutFault → Type 0
 IsPutFault s o (pf.Refused af.PairTooLarge) = IsAskFault s o.command af.PairTooLarge
 IsPutFault s o (pf.Refused af.ArgTooLong) = IsAskFault s o.command af.ArgTooLong

@@ -55,7 +55,7 @@ pub enum EventOutcome<A: Allocator> {
     NoHand,
 }
 
-/// A command in hand under a ticket.
+/// A command in hand: `play` keeps it for later events of its ticket.
 #[derive(Drop)]
 pub enum InHand<A: Allocator> {
     /// A command to compute.
@@ -69,12 +69,11 @@ type ByTicket<A> = HashMap<usize, InHand<A>, BuildHasherDefault<FoldHasher>, A>;
 
 impl<A: Allocator + Copy> Desk<A> {
     /// Plays a list of events in order and returns their outcomes. Initially nothing is in hand. A requested job is in hand
-    /// under its ticket and replaces any earlier command there. The outcome of a refused event says so. Tickets that are open
-    /// at the end stay open.
+    /// under its ticket and replaces any earlier command there. The outcome of a refused event is the refusal. Tickets that
+    /// are open at the end stay open.
     ///
     /// # Errors
-    /// `AllocError` if there is no memory for the outcomes and the commands in hand, which is allocated first. The desk is then
-    /// unchanged.
+    /// `AllocError` if there is no memory for the outcomes and the commands in hand. The desk is then unchanged.
     pub fn play(&mut self, events: &[Event<A>]) -> Result<Vec<EventOutcome<A>, A>, AllocError>
         ensures plays { IfOk result (λ outcomes. (last : Hands A) × Plays self.old no_hands events.now outcomes.items self.new last) }
         ensures goes_on { IfOk result (λ _. GoesOn self.old self.new) }
@@ -85,7 +84,7 @@ impl<A: Allocator + Copy> Desk<A> {
         for event in events {
             let outcome = self.happen(&mut hands, event);
             outcomes.push_reserved(outcome);
-            // Restores the invariant of the desk.
+            // This borrow restores the invariant of the desk.
             let _ = &self.alloc;
         }
         Ok(outcomes)

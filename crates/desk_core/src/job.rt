@@ -102,7 +102,7 @@ impl<A: Allocator> Job<A> {
     /// Computes the result from the snapshot of the page. Neither reads nor changes anything else.
     ///
     /// # Errors
-    /// `AllocError` if there is no memory for the reply or for the changed pages. The job is returned.
+    /// `AllocError` if there is no memory for the reply, the changed pages or the page of a run. The job is returned.
     pub fn work(self) -> Result<Done<A>, (AllocError, Job<A>)>
     where
         A: Copy,

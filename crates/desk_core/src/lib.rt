@@ -73,7 +73,7 @@ pub enum AskFault {
     ArgTooLong,
     /// The number of entries and open tickets together is at its limit.
     TrailFull,
-    /// The hold of another ticket on the page conflicts.
+    /// Another ticket's hold on the page conflicts.
     Busy,
     /// Out of memory.
     NoMemory,
@@ -95,7 +95,7 @@ pub enum ConvertFault {
 pub enum FinishFault {
     /// The ticket is not open.
     NoTicket,
-    /// The session, command, place or page of the computed command differs from the ticket's.
+    /// The session, command, place, hash kind or page of the computed command differs from the ticket's.
     Foreign,
     /// The command changes the page, but the ticket's hold is not exclusive.
     NotExclusive,
@@ -116,7 +116,7 @@ pub enum Asked<A: Allocator> {
     Answered(Reply<A>),
 }
 
-/// The needs of a command about a key: the place of its key, and its first hold on the page there.
+/// The place of a command's key, and the mode of the command's first hold on the page there.
 #[derive(Clone, Copy)]
 pub(crate) struct PageNeed {
     pub(crate) place: Place,
@@ -174,7 +174,7 @@ impl<A: Allocator + Copy> Desk<A> {
         }
     }
 
-    // Checks that a command may be requested, and returns its needs. Does not check memory.
+    // Checks that a command may be requested, and returns its place and hold (`None` for a count). Does not check memory.
     fn may_ask(&self, command: &SharedCommand<A>) -> Result<Option<PageNeed>, AskFault>
         ensures ok { OnOk result (MayAsk self.now command.now) }
         ensures wanted { IfOk result (IsWanted self.now command.now) }

@@ -1,5 +1,5 @@
-//! Commands computed without a ticket. Such a command is looked up on the desk and computed on a snapshot of its page. Its
-//! result is put in if that page is unchanged.
+//! Commands computed without a ticket. A `Look` has a snapshot of the command's page. The result is computed from the
+//! snapshot, and installed if the page is unchanged.
 ghost use Rattle.std.specs.Prelude.{◌≡◌, ◌↔◌, IsTrue, IfOk, IfErr, OnOk, OnErr, is_some};
 ghost use Rattle.store_moves.specs.Works.{HasKey, HasEnd, key_of};
 ghost use Rattle.store_moves.specs.Leads.{IsPlaceOf};
@@ -15,8 +15,8 @@ use std::marker::Model;
 use store_cmd::SharedCommand;
 use store_moves::{PageCopy, Worked};
 
-/// A command that was looked up, to be computed without the desk. It is modelled as the open command that its ticket would
-/// have. It has no ticket, so it holds no page and reserves no room in the trail.
+/// A command with a snapshot of its page, to be computed without the desk. It is modelled as an open command. It has no
+/// ticket, so it holds no page and reserves no room in the trail.
 #[derive(Drop)]
 pub struct Look<A: Allocator> {
     alloc: A,
@@ -52,7 +52,7 @@ impl<A: Allocator> Model for Seen<A> {
     ghost invariant = { λ a. IsSeen a.asked a.worked };
 }
 
-/// The reasons why a computed look is not put in.
+/// The reasons why the result of a look is not installed.
 #[derive(Clone, Copy, Debug, PartialEq, Eq)]
 pub enum PutFault {
     /// `ask` refuses the command, a ticket holds the page that it changes, or memory runs out.
@@ -65,7 +65,7 @@ impl<A: Allocator> Look<A> {
     /// Computes the result from the snapshot of the page. Neither reads nor changes anything else.
     ///
     /// # Errors
-    /// `AllocError` if there is no memory for the reply or for the changed pages. The look is returned.
+    /// `AllocError` if there is no memory for the reply, the changed pages or the page of a run. The look is returned.
     pub fn work(self) -> Result<Seen<A>, (AllocError, Look<A>)>
     where
         A: Copy,
@@ -99,8 +99,8 @@ impl<A: Allocator> Seen<A> {
 }
 
 impl<A: Allocator + Copy> Desk<A> {
-    /// Looks up a session's command about a key, to be computed without the desk. Allocates nothing and holds nothing: other
-    /// sessions may change the page in the meantime.
+    /// Takes a `Look` for a session's command about a key, to be computed without the desk. Allocates nothing and holds
+    /// nothing, so other sessions may change the page in the meantime.
     ///
     /// # Errors
     /// Those of `ask`. `NoMemory` only if the owner count of the page is at its maximum. The command is returned.
@@ -153,7 +153,7 @@ impl<A: Allocator + Copy> Desk<A> {
         })
     }
 
-    /// Puts in the result of a look, if the page of its key is unchanged. The effect is that of one `step` of its command.
+    /// Installs the result of a look if the page of its key is unchanged. The effect is that of one `step` of its command.
     /// Returns the reply twice, like `step_twice`.
     ///
     /// # Errors
@@ -188,7 +188,7 @@ impl<A: Allocator + Copy> Desk<A> {
         }
     }
 
-    // Returns the fault with which a look is not put in, without checking memory.
+    // Checks that the result of a look may be installed. Does not check memory.
     fn may_put(&self, seen: &Seen<A>) -> Result<(), PutFault>
         ensures ok { OnOk result (MayPut self.now seen.now) }
         ensures refused { IfErr result (IsPutFault self.now seen.now) }

@@ -31,9 +31,10 @@ pub struct ReplyPair<A: Allocator> {
 impl<A: Allocator + Copy> Desk<A> {
     /// Answers a session's command in one call, without a ticket.
     ///
-    /// # Errors Those of `ask`, and `Busy` if the command would change a page that a ticket holds. `NoMemory` only if neither
-    /// applies. A run may fail with `NoMemory` in any case, since it allocates before it is known whether its page changes. On
-    /// an error the desk is unchanged, and the command is returned.
+    /// # Errors
+    /// Those of `ask`, and `Busy` if the command would change a page that a ticket holds. `NoMemory` only if neither applies. A
+    /// run may fail with `NoMemory` instead of this `Busy`, since it allocates before it is known whether its page changes. On an
+    /// error the desk is unchanged, and the command is returned.
     pub fn step(
         &mut self,
         session: u64,
@@ -115,8 +116,8 @@ impl<A: Allocator + Copy> Desk<A> {
         }
     }
 
-    // Like `step_twice`, for a run on a short record whose page is neither held nor read elsewhere. Allocates only the entry.
-    // Returns any other command, and nothing changes.
+    // Like `step_twice`, for a run on a short record whose page no ticket holds and no snapshot shares. Allocates only the
+    // entry. Returns the command and changes nothing in any other case, or if memory runs out.
     fn step_in_place(
         &mut self,
         session: u64,
@@ -150,7 +151,7 @@ impl<A: Allocator + Copy> Desk<A> {
         })
     }
 
-    // Like `step_twice`, for a command about a key: computes its result first.
+    // Like `step_twice`, for a command about a key: computes the result, then installs it.
     fn step_by_plan(
         &mut self,
         session: u64,
@@ -197,7 +198,7 @@ impl<A: Allocator + Copy> Desk<A> {
         work_at(self.alloc, &self.image, place, session, command.command())
     }
 
-    // Puts in a command's result on its page, and adds its entry.
+    // Installs a command's result on its page, and adds its entry.
     pub(crate) fn put_step(
         &mut self,
         session: u64,

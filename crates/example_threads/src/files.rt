@@ -20,8 +20,8 @@ pub fn read_image<R: Files + AllocGlobal>(rt: &R) -> Result<Image<Global>, &'sta
     }
 }
 
-/// Writes both files whole. A crash may break them: a service that must survive a crash saves as `dbm` does, with a redo file,
-/// by the steps of `sdbm_saves`.
+/// Writes both files whole. A crash may corrupt them: a service that must survive a crash saves as `dbm` does, with a redo
+/// file, by the steps of `sdbm_saves`.
 pub fn write_image<R: Files + AllocGlobal>(
     rt: &R,
     image: &Image<Global>,

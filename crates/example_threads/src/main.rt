@@ -1,5 +1,5 @@
-//! A small service: four threads count visits in one database. It is read from its two files and written to them again. The
-//! service then reads the written files and prints their pairs.
+//! A small service: four threads count visits in one database. The service reads the database from its two files and writes
+//! it to them again. It then reads the written files and prints their pairs.
 #![tactic(auto)]
 
 mod files;

@@ -101,7 +101,7 @@ uses_bar-more m Read u = rw (some_more u.read) (at_first (not (are_compatible Re
 uses_bar-more m Update u = rw (some_more u.update) (at_second (not (are_compatible Update m)) (not (u.read == 0) && not (are_compatible Read m)) (not (u.update == 0)) (not (u.exclusive == 0) && not (are_compatible Exclusive m)))
 uses_bar-more m Exclusive u = rw (some_more u.exclusive) (at_third (not (are_compatible Exclusive m)) (not (u.read == 0) && not (are_compatible Read m)) (not (u.update == 0) && not (are_compatible Update m)) (not (u.exclusive == 0)))
 
--- a hold of the list bars a mode exactly if the numbers bar it
+-- a hold of the list bars a mode if and only if the numbers bar it
 pub bars-uses_of : (q : ℕ) (m : Hold) (hs : List Held) → list_any (bars q m) hs ≡ uses_bar m (uses_of q hs)
 bars-uses_of q m [] = refl
 bars-uses_of q m (x ∷ xs) = ap (λ b. ((x.page == q) && not (are_compatible x.mode m)) || b) (bars-uses_of q m xs)
@@ -220,7 +220,7 @@ module _ {S : Type 0} (pages : HashMap ℕ Uses S) (hs : List Held) (index : IsI
         (made-own ∙ sym (ap (more Exclusive) others-are))
         (λ q n. made-other q n ∙ sym (other q n))
 
--- another ticket holds the page exactly if some hold of it is left without this ticket's hold
+-- another ticket holds the page if and only if a hold is left without this ticket's hold
 pub beside-is : (q : ℕ) (t : Ticket) (hs : List Held) → obeys_rule hs ≡ true → list_any (is_beside q t) hs ≡ list_any (is_on q) (without t hs)
 beside-is q t [] o = refl
 beside-is q t (x ∷ xs) o =
@@ -240,7 +240,7 @@ page_of-is t (x ∷ xs) = elim (is_of t x) as (λ b. (if b then x.page else page
   | false ↦ page_of-is t xs
 ]
 
--- another ticket holds the page exactly if its numbers without this ticket's hold are not all 0
+-- another ticket holds the page if and only if the numbers without this ticket's hold are not all 0
 pub shared-is : (t : Ticket) (hs : List Held) (p : ℕ) (m : Hold) → held_by t hs ≡ Some (p, m) → obeys_rule hs ≡ true → is_shared t hs ≡ not (is_free (uses_of p (without t hs)))
 shared-is t hs p m l o =
     let page : page_of t hs ≡ p = page_of-is t hs ∙ ap page_in l in

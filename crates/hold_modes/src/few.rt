@@ -1,4 +1,4 @@
-//! A few holds in a vector, which are searched one after another.
+//! A few holds in a vector, searched one after another.
 ghost use Rattle.std.specs.Prelude.{◌≡◌, ◌↔◌, true, IsTrue, IsErr, OnOk, OnErr};
 ghost use Rattle.std.specs.List.{list_any, position};
 ghost use Rattle.hold_modes.specs.Held.{bars, is_beside, is_of, is_shared, is_updating, held_by, without, made_exclusive, obeys_rule};

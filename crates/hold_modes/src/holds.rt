@@ -14,11 +14,11 @@ use std::marker::Model;
 pub enum HoldFault {
     /// Another ticket holds the page in a mode that bars the requested one.
     Busy,
-    /// Allocation for one more hold fails.
+    /// Allocation failed.
     NoMemory,
 }
 
-// The greatest number of holds without an index. A search through so few holds is faster than an index.
+// The greatest number of holds without an index. Searching this few is faster than using an index.
 const FEW: usize = 16;
 
 /// The holds on pages. The model is the list of holds, oldest first. Each ticket has at most one hold, and any two holds on one page are

@@ -42,7 +42,7 @@ impl<A: Allocator + Copy> Pages<A> {
         self.uses.reserve(1)
     }
 
-    // Sets the numbers of a page's holds. `reserve` has to make room before.
+    // Sets the numbers of a page's holds. Call `reserve` first.
     pub(crate) fn put(&mut self, page: u32, uses: Uses)
         requires { 0 < spare self.old.uses }
         ensures { Puts self.old.uses self.new.uses page (Some uses) }

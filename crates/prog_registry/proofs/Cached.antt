@@ -17,7 +17,7 @@ use Rattle.prog_registry.specs.Kept.{plain, AreKept}
 
 -- ---- the verdicts
 
--- a stored verdict on an image is true of it
+-- a stored verdict on an image is the verifier's verdict
 pub found_judged : (verdicts : List Verdict) (image : List ℕ) (fault : VerifyFault) → AreVerdicts verdicts → verdict_on verdicts image ≡ Some fault → IsJudged image fault
 found_judged verdicts image fault are e =
     let found = Contains-lookup (bytes_eq image) verdicts fault e in

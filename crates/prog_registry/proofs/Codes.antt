@@ -24,7 +24,7 @@ image_sized code image is = let sized = image_is_whole code image is in record {
 pub program_sized : (p : Accepted) (image : List ℕ) → IsProgramOf image p → IsSized image
 program_sized p image one = image_sized p.code image (image_of_program image p one)
 
--- the program with an image
+-- an image with a number has an accepted program
 pub stands_program : (programs : List Accepted) (image : List ℕ) (id : ℕ) → ArePrograms programs → StandsAt programs image id → (p : Accepted) × IsProgramOf image p
 stands_program programs image id are stands = by_program (slice_get programs id) (λ p. are.each id p) (sym (slice_get-map image_in programs id) ∙ stands) where
   by_program : (o : Option Accepted) → ((p : Accepted) → o ≡ Some p → Rattle.prog_registry.specs.Judged.IsProgram p) → option_map image_in o ≡ Some image → (p : Accepted) × IsProgramOf image p

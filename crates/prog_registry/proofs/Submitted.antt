@@ -35,7 +35,7 @@ given_program old image id new are gives = ⊎_elim
 
 -- ---- bytes that are not an image
 
--- Either the number of bytes is possible for a code and no fault of the decoder is reported, or one is.
+-- Either the number of bytes is that of a possible code and no decoder fault is returned, or one is returned.
 abbrev Decodes : List ℕ → Result ProgId RegFault → Type 0
 Decodes image r = (IsSized image × ((f : DecodeFault) → r ≡ Err (Decode f) → ⊥)) ⊎ ((f : DecodeFault) × (r ≡ Err (Decode f)) × IsUndecoded image f)
 

@@ -42,7 +42,7 @@ pub record IsSized (image : List ℕ) : Type 0 where
   pub whole : IsWhole image
   pub short : IsShort image
 
--- The reason why an image gives no accepted program. Memory runs out only after the tests of the length.
+-- The reason why an image gives no accepted program. `NoMemory` is possible only if the length is valid.
 abbrev pub Condemns : List ℕ → RegFault → Type 0
 Condemns image NoMemory = IsSized image
 Condemns image (Decode fault) = IsUndecoded image fault

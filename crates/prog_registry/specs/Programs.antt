@@ -11,7 +11,7 @@ program_limit = 4096
 abbrev pub images_of : List Accepted → List (List ℕ)
 images_of programs = map image_in programs
 
--- An image has this number.
+-- The image has this number.
 abbrev pub StandsAt : List Accepted → List ℕ → ℕ → Type 0
 StandsAt programs image id = slice_get (images_of programs) id ≡ Some image
 

@@ -1,4 +1,4 @@
--- A registry, and the effect of `submit` on it (own).
+-- A registry, and the effect of `submit` on it: rules of this project.
 use Rattle.std.specs.Prelude.{ℕ, ◌≡◌, ◌<◌, ◌++◌, ◌⊎◌, List, [], ◌∷◌, length, None}
 use Rattle.bpf_verify.specs.declared.fault.VerifyFault.{VerifyFault}
 use Rattle.bpf_verify.specs.Verified.{Accepted}
@@ -15,7 +15,7 @@ pub record Registered : Type 0 where
 
 -- ---- submissions that get a number
 
--- The program of a new image is appended, and gets the previous number of programs as its number.
+-- The program of a new image is appended. Its number is the number of earlier programs.
 pub record AddsProgram (old : Registered) (image : List ℕ) (id : ℕ) (new : Registered) : Type 0 where
   pub is_new : IsNew old.programs image
   pub unjudged : verdict_on old.recent.verdicts image ≡ None

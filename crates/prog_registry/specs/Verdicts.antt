@@ -23,11 +23,11 @@ verdict_on verdicts image = lookup (bytes_eq image) verdicts
 abbrev pub AreVerdicts : List Verdict → Type 0
 AreVerdicts verdicts = (v : Verdict) → Contains verdicts v → IsJudged v.0 v.1
 
--- the table after a new verdict, which goes first; the last of 64 verdicts is removed
+-- the table after a new verdict: the verdict is first, and the last of 64 is removed
 abbrev pub with_verdict : Recent → List ℕ → VerifyFault → Recent
 with_verdict old image fault = record { verdicts = (image, fault) ∷ take 63 old.verdicts; recalls = old.recalls }
 
--- The verdict was stored. It moves to the front, and the answer is counted, up to the greatest number of 64 bits.
+-- The verdict was stored. It moves to the front, and the answer is counted, saturating at 2 ^ 64 - 1.
 pub record Recalls (old : Recent) (image : List ℕ) (fault : VerifyFault) (new : Recent) : Type 0 where
   pub was : verdict_on old.verdicts image ≡ Some fault
   pub first : new.verdicts ≡ promoted (bytes_eq image) old.verdicts

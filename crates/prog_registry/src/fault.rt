@@ -1,4 +1,4 @@
-//! The reasons why an image gets no number.
+//! The fault of a refused image, and its text.
 
 use bpf_insn::DecodeFault;
 use bpf_verify::VerifyFault;
@@ -8,7 +8,7 @@ use std::fmt;
 /// The reason why an image gets no number. It prints as its name, with the details in brackets.
 #[derive(Clone, Copy, Debug, PartialEq, Eq)]
 pub enum RegFault {
-    /// Memory ran out, at any step.
+    /// Out of memory, at any step.
     NoMemory,
     /// The image is not a program.
     Decode(DecodeFault),

@@ -1,4 +1,4 @@
-//! From an image to an accepted program.
+//! Decodes and verifies images.
 
 ghost use Rattle.std.specs.Prelude.{IfOk, IfErr};
 ghost use Rattle.bpf_insn.specs.Code.{IsImage};
@@ -9,7 +9,7 @@ use bpf_insn::{Code, DecodeFault, decode};
 use bpf_verify::{Verified, VerifyFault, verify};
 use std::alloc::Allocator;
 
-/// The code of an image.
+/// Decodes an image.
 fn decoded<A: Allocator>(alloc: A, image: &[u8]) -> Result<Code<A>, RegFault>
     ensures ok { IfOk result (λ code. IsImage code image.now) }
     ensures err { IfErr result (Condemns image.now) }
@@ -21,10 +21,10 @@ fn decoded<A: Allocator>(alloc: A, image: &[u8]) -> Result<Code<A>, RegFault>
     }
 }
 
-/// The accepted program of an image.
+/// Decodes and verifies an image.
 ///
 /// # Errors
-/// `Decode` with the decoder's fault, `Verify` with the verifier's, and `NoMemory` if either ran out of memory.
+/// `Decode` with the decoder's fault, `Verify` with the verifier's, or `NoMemory` if an allocation fails.
 pub fn judge<A: Allocator + Copy>(alloc: A, image: &[u8]) -> Result<Verified<A>, RegFault>
     ensures ok { IfOk result (IsProgramOf image.now) }
     ensures err { IfErr result (Condemns image.now) }

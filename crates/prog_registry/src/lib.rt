@@ -1,8 +1,8 @@
-//! Accepted programs by number, and the verdicts on images that were refused.
+//! Accepted programs by number, and the most recent verdicts on refused images.
 //!
-//! `Registry::submit` takes an image, decodes and verifies it once, and returns its number. A known image, found by
-//! its bytes, gets its number again. The last 64 images that the verifier refused are stored with their faults, so
-//! that they are not verified again.
+//! `Registry::submit` takes an image, decodes and verifies it once, and returns its number. An image with the same bytes
+//! gets its number again. The last 64 images that the verifier refused are stored with their faults, and are not verified
+//! again.
 #![tactic(auto)]
 
 mod fault;

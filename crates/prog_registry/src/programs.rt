@@ -68,7 +68,7 @@ impl<A: Allocator> Programs<A> {
         self.numbers.get(image).copied()
     }
 
-    /// The program with a number.
+    /// Returns the program with a number, or `None` if no program has it.
     pub fn get(&self, number: u32) -> Option<&Arc<Verified<A>, A>>
         ensures value { option_map (λ p. arc_value p.now) result ≡ slice_get self.now number }
         ensures programs { ArePrograms self.now }
@@ -84,7 +84,7 @@ impl<A: Allocator> Programs<A> {
         self.list.len() == PROGRAM_LIMIT
     }
 
-    /// Appends the program of a new image. All allocations come first, so nothing changes if one fails.
+    /// Appends the program of a new image and returns its number. On error, nothing changes.
     pub fn add(&mut self, image: &[u8], program: Verified<A>) -> Result<u32, AllocError>
     where
         A: Copy,

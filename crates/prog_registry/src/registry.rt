@@ -1,4 +1,4 @@
-//! The registry.
+//! The registry of programs and verdicts.
 
 ghost use Rattle.std.specs.Prelude.{◌≡◌, ◌≢◌, ◌%◌, ◌<◌, ◌/◌, ◌≤◌, ◌↔◌, ◌⊎◌, ℕ, List, [], Some, IfOk, IfErr, OnOk, IsOkAnd, IsErrOf, length, slice_get};
 ghost use Rattle.std.specs.Option.{option_map};
@@ -28,8 +28,8 @@ use std::sync::Arc;
 #[derive(Clone, Copy, Debug, PartialEq, Eq)]
 pub struct ProgId(pub u32);
 
-/// Accepted programs by number, and the most recent verdicts on refused images. In clauses it is the list of programs, the list
-/// of verdicts, and the number of answers from stored verdicts.
+/// Accepted programs by number, and the most recent verdicts on refused images. Its model is the list of programs, the list of
+/// verdicts, and the number of answers from verdicts.
 #[derive(Drop)]
 pub struct Registry<A: Allocator = Global> {
     programs: Programs<A>,
@@ -78,7 +78,7 @@ impl<A: Allocator> Registry<A> {
         self.verdicts.len()
     }
 
-    /// The number of answers from stored verdicts, which stops at `u64::MAX`. Allocates no memory.
+    /// The number of answers from stored verdicts, saturating at `u64::MAX`. Allocates no memory.
     pub fn recalls(&self) -> u64
         ensures { result ≡ self.now.recent.recalls }
     {
@@ -147,11 +147,11 @@ impl<A: Allocator + Copy> Registry<A> {
     /// # Errors
     /// - `Decode` if the image is not a program.
     /// - `Verify` if the program is not accepted. The programs are unchanged. The verdict is stored as the most recently used
-    ///   one. A verdict that was already stored is returned at once, and this answer is counted.
+    ///   one. If a verdict is already stored, it is returned at once, and the answer is counted.
     /// - `Full` if the program is accepted and new, and there are already 4,096 programs.
-    /// - `NoMemory` if memory ran out. This is never stored as a verdict.
+    /// - `NoMemory` if memory ran out. This fault is never stored as a verdict.
     ///
-    /// A fault other than `Verify` changes nothing. If there is no memory to store a verdict, it is only returned.
+    /// A fault other than `Verify` changes nothing. If there is no memory to store a verdict, the verdict is only returned.
     pub fn submit(&mut self, image: &[u8]) -> Result<ProgId, RegFault>
         // The result.
         ensures ok { IfOk result (λ id. GivesNumber self.old image.now id.0 self.new) }

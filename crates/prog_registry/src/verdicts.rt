@@ -55,14 +55,15 @@ impl<A: Allocator> Verdicts<A> {
         self.cache.len()
     }
 
-    /// The number of answers that this table has given. It stops at `u64::MAX`.
+    /// The number of answers that this table has given, saturating at `u64::MAX`.
     pub fn recalls(&self) -> u64
         ensures { result ≡ self.now.recalls }
     {
         self.recalls
     }
 
-    /// Returns the stored verdict on an image, if there is one. The verdict becomes the most recently used one, and is counted.
+    /// Returns the stored verdict on an image, if there is one. The verdict becomes the most recently used one, and the
+    /// answer is counted.
     pub fn recall(&mut self, image: &[u8]) -> Option<VerifyFault>
         ensures some { IfSome result (λ fault. Recalls self.old image.now fault self.new) }
         ensures judged { IfSome result (IsJudged image.now) }
@@ -78,7 +79,7 @@ impl<A: Allocator> Verdicts<A> {
     /// Stores the verdict on an image that has none. If 64 verdicts are stored, it replaces the least recently used one.
     ///
     /// # Errors
-    /// `AllocError` if allocation fails; nothing has changed then.
+    /// `AllocError` if allocation fails; then nothing changes.
     pub fn keep(&mut self, alloc: A, image: &[u8], fault: VerifyFault) -> Result<(), AllocError>
     where
         A: Copy,

@@ -49,7 +49,7 @@ put_page pages n (e ∷ es) = map.insert pages n (e ∷ es)
 abbrev pub with_page : Database → ℕ → List Pair → Database
 with_page db n pairs = record { kind = db.kind; size = db.size; splits = db.splits; pages = put_page db.pages n pairs }
 
--- Encodings, which a database needs to be the value of a model.
+-- Encodings, which `Database` needs as the value type of a model.
 
 abbrev pub is_signed : KeyBytes → Bool
 is_signed Signed = true

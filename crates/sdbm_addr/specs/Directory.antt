@@ -1,5 +1,5 @@
 -- The split prefixes of hashes, and the page of each hash (Larson 1978, "Dynamic hashing": the index as a forest of binary trees;
--- Yigit, sdbm 1990: sdbm.c, `getpage`, a trie stored as an array of bits).
+-- Yigit, sdbm 1990: sdbm.c, `getpage`: a trie stored as an array of bits).
 -- A word is written in reverse: its last letter is the head of the list, so `∷` adds a letter.
 use Rattle.std.specs.Prelude.{◌≡◌, ℕ, ◌+◌, ◌*◌, ◌/◌, ◌%◌, ◌^◌, ◌<◌, ◌≤◌, Bool, true, false, List, [], ◌∷◌, length, suc, zero, ◌==◌, cond}
 use Rattle.std.specs.Ordering.{bool_cmp}
@@ -24,7 +24,7 @@ pub record IsDirectory (d : Splits) : Type 0 where
   pub closed : (b : Bool) (w : Word) → set.contains d (b ∷ w) ≡ true → set.contains d w ≡ true
   pub short : (w : Word) → set.contains d w ≡ true → length w ≤ 30
 
--- The number of a word, which is also its directory bit: the empty word has 0; each further letter doubles it and adds 1 or 2.
+-- The number of a word and of its directory bit: the empty word has number 0; each further letter doubles the number and adds 1 or 2.
 abbrev pub word_number : Word → ℕ
 word_number [] = 0
 word_number (b ∷ w) = 2 * word_number w + cond b 2 1

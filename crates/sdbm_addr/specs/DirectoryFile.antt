@@ -5,7 +5,7 @@ use Rattle.std.specs.Int.{bit_at}
 use Rattle.std.specs.FinSet as set
 use Rattle.sdbm_addr.specs.Directory.{Word, Splits, IsDirectory, word_number}
 
--- Bit n of the bytes: bit n % 8 of byte n / 8, where bit 0 is the lowest. Bits after the end are 0 (our own rule).
+-- Bit n of the bytes: bit n % 8 of byte n / 8; bit 0 is the lowest. Bits after the end are 0 (our own rule).
 abbrev pub bit_of : List ℕ → ℕ → Bool
 bit_of bytes n = bit_at (slice_index_or bytes (n / 8) 0) (n % 8) == 1
 

@@ -6,7 +6,7 @@ use Rattle.sdbm_addr.specs.Layout.{Spells, bytes_of_page}
 use Rattle.sdbm_addr.specs.DirectoryFile.{SpellsDirectory, AreDirectoryBytes}
 use Rattle.sdbm_addr.specs.Database.{Database, IsDatabase, pairs_at}
 
--- page n of the bytes of a `.pag` file; pages are in the order of their numbers
+-- the bytes of page n in a `.pag` file; pages are in the order of their numbers
 abbrev pub page_at : PageSize → List ℕ → ℕ → List ℕ
 page_at size bytes n = slice_range bytes (n * page_bytes size) ((n + 1) * page_bytes size)
 

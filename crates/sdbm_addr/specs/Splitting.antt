@@ -21,7 +21,7 @@ abbrev pub page_along : ℕ → ℕ → ℕ → ℕ → ℕ
 page_along hash h zero e = e % 2 ^ h
 page_along hash h (suc t) e = cond (agree h hash e) (page_along hash (h + 1) t e) (e % 2 ^ h)
 
--- `other` is a different key, and its hash has the same n lowest bits
+-- `other` is a neighbor of `key` by n bits: a different key whose hash has the same n lowest bits
 abbrev pub is_neighbor : KeyBytes → List ℕ → ℕ → List ℕ → Bool
 is_neighbor kind key n other = not (same_key key other) && agree n (hash_of kind key) (hash_of kind other)
 
@@ -33,7 +33,7 @@ neighbors kind pairs key n = sum_by footprint (filter (λ e. is_neighbor kind ke
 abbrev pub map_neighbors : KeyBytes → Map → List ℕ → ℕ → ℕ
 map_neighbors kind m key n = sum_by footprint (map.entries (map.retain_keys m (is_neighbor kind key n)))
 
--- a pair fits on a page together with the neighbors of its key by n bits, which take `taken n` bytes
+-- a pair fits on a page together with its key's neighbors by n bits; the neighbors take `taken n` bytes
 abbrev pub HasRoom : PageSize → (ℕ → ℕ) → List ℕ → List ℕ → ℕ → Type 0
 HasRoom size taken key value n = taken n + footprint (key, value) + 2 ≤ page_bytes size
 

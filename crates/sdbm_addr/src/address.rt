@@ -11,7 +11,8 @@ const THIRD: u32 = 780587199;
 
 const FOURTH: u32 = 1139564289;
 
-/// Returns the hash of a key: the sum, modulo 2^32, of the weights of its bytes, each multiplied by 65599^n if n bytes follow.
+/// Returns the hash of a key: the sum of the weights of its bytes, modulo 2^32. The weight of a byte that n bytes follow is multiplied by
+/// 65599^n.
 pub fn hash(key: &[u8], kind: KeyBytes) -> u32
     ensures { result ≡ hash_of kind key.now }
 {
@@ -58,8 +59,8 @@ pub fn mask(depth: u8) -> u32
     (1u32 << depth) - 1
 }
 
-/// Returns the number of the directory bit of a prefix that is extended by one letter. `bit` is the bit of the shorter prefix, which is
-/// below 2^31 - 1 for at most 30 letters; `side` is the next bit of the hash.
+/// Returns the number of the directory bit of a prefix that is extended by one letter. `bit` is the bit of the shorter prefix, which has
+/// at most 30 letters; `side` is the next bit of the hash.
 pub fn child(bit: u32, side: bool) -> u32
     requires { bit < 2 ^ 31 - 1 }
     ensures { result ≡ 2 * bit + cond side 2 1 }

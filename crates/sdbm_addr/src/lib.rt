@@ -13,7 +13,7 @@ pub use address::{child, hash, mask};
 use std::alloc::{AllocError, Allocator};
 use std::marker::Model;
 
-/// The way in which the bytes of a key count in its hash. The original adds a plain `char`, which is signed on most machines.
+/// The way in which the bytes of a key count in its hash. The original sdbm adds a plain `char`, which is signed on most machines.
 #[derive(Clone, Copy, Debug, PartialEq, Eq)]
 pub enum KeyBytes {
     /// A byte b of 128 or more counts as b - 256.
@@ -34,14 +34,14 @@ pub enum Mode {
 /// The page size of a database. The files do not record it.
 #[derive(Clone, Copy, Debug, PartialEq, Eq)]
 pub enum PageSize {
-    /// 1,024 bytes, as in the original; a pair has at most 1,008 bytes.
+    /// 1,024 bytes, as in the original sdbm; a pair has at most 1,008 bytes.
     Small,
     /// 8,192 bytes; a pair has at most 8,008 bytes.
     Wide,
 }
 
 impl PageSize {
-    /// The number of bytes in a page.
+    /// Returns the number of bytes in a page.
     pub fn bytes(self) -> usize
         ensures { result ≡ page_bytes self }
     {
@@ -51,7 +51,7 @@ impl PageSize {
         }
     }
 
-    /// The greatest length of a pair in bytes: its key and its value together.
+    /// Returns the greatest length of a pair in bytes: its key and its value together.
     pub fn pair_limit(self) -> usize
         ensures { result ≡ pair_limit self }
     {
@@ -61,7 +61,7 @@ impl PageSize {
         }
     }
 
-    /// The greatest number of offsets in a page's index, two for each pair.
+    /// Returns the greatest number of offsets in a page's index, which has two for each pair.
     pub fn offset_limit(self) -> usize
         ensures { result ≡ offset_limit self }
     {
@@ -110,7 +110,7 @@ impl<A: Allocator> Bytes<A> {
         self.bytes.as_slice()
     }
 
-    /// Borrows the bytes for overwriting. Their number does not change.
+    /// Borrows the bytes for overwriting. The length does not change.
     pub fn as_mut_slice(&mut self) -> &mut [u8]
         ensures* writes_back { sem 𝓛 (LendsBytes A.row A.Allocator self.entry result) }
         ensures value { result.now ≡ self.old }

@@ -1,6 +1,6 @@
 //! Tests the bits of a directory's bytes, and divides the bytes into blocks.
 
-ghost use Rattle.std.specs.Prelude.{◌≡◌, ◌<◌, ◌≤◌, ◌+◌, ◌*◌, ◌%◌, ◌^◌, ℕ, length, slice_index_or, IsTrue, ◌↔◌, IfOk};
+ghost use Rattle.std.specs.Prelude.{◌≡◌, ◌<◌, ◌≤◌, ◌+◌, ◌*◌, ◌/◌, ◌%◌, ◌^◌, ℕ, true, length, slice_index_or, IsTrue, ◌↔◌, IfOk};
 ghost use Rattle.sdbm_addr.specs.DirectoryFile.{bit_of, AreDirectoryBytes, HasDeepBit, HasOrphanBit, IsOrphanBit};
 ghost use Rattle.sdbm_dir.specs.Bitmap.{splits_of, IsBitmap};
 ghost use Rattle.sdbm_dir.specs.Ends.{IsEnd};
@@ -16,6 +16,11 @@ const DEEP_BIT: u32 = (1 << 31) - 1;
 // The number of bytes up to and including the byte that has `DEEP_BIT` as its last bit.
 const MOST_BYTES: usize = 1 << 28;
 
+// The number of zeros that are compared at a time.
+const PIECE: usize = 64;
+
+static ZEROS: [u8; PIECE] = [0; PIECE];
+
 /// Returns `true` if a bit is 1. Bits after the end are 0.
 pub fn is_set(bytes: &[u8], bit: u32) -> bool
     ensures { result ≡ bit_of bytes.now bit }
@@ -30,7 +35,7 @@ pub fn is_set(bytes: &[u8], bit: u32) -> bool
 pub fn end_of(bytes: &[u8]) -> usize
     ensures { IsEnd bytes.now result }
 {
-    let mut end = bytes.len();
+    let mut end = end_of_pieces(bytes);
     while end > 0 {
         if bytes[end - 1] != 0 {
             return end;
@@ -40,7 +45,31 @@ pub fn end_of(bytes: &[u8]) -> usize
     0
 }
 
-/// Returns `true` if the bit of a word of more than 30 letters is 1. `end` is the length of the bytes without trailing zeros.
+// Returns the length of the bytes without trailing pieces that are zeros.
+fn end_of_pieces(bytes: &[u8]) -> usize
+    ensures within { result ≤ length bytes.now }
+    ensures zeros { (k : ℕ) → result ≤ k → slice_index_or bytes.now k 0 ≡ 0 }
+{
+    let mut end = bytes.len();
+    while end >= PIECE {
+        if !is_zero_piece(bytes, end - PIECE) {
+            return end;
+        }
+        end -= PIECE;
+    }
+    end
+}
+
+// Returns `true` if the piece that begins at `start` is all zeros.
+fn is_zero_piece(bytes: &[u8], start: usize) -> bool
+    requires { start + 64 ≤ length bytes.now }
+    ensures { IsTrue result → (k : ℕ) → start ≤ k → k < start + 64 → slice_index_or bytes.now k 0 ≡ 0 }
+{
+    let piece = &bytes[start..start + PIECE];
+    piece == ZEROS.as_slice()
+}
+
+/// Returns `true` if a bit that belongs to a word of more than 30 letters is 1. `end` is the length of the bytes without trailing zeros.
 pub fn has_deep_bit(bytes: &[u8], end: usize) -> bool
     requires { IsEnd bytes.now end }
     ensures { IsTrue result ↔ HasDeepBit bytes.now }
@@ -51,22 +80,47 @@ pub fn has_deep_bit(bytes: &[u8], end: usize) -> bool
     is_set(bytes, DEEP_BIT)
 }
 
-/// Returns `true` if a bit is 1 although its parent is 0. `end` is the length of the bytes without trailing zeros. Bytes that are zero are
-/// skipped.
+/// Returns `true` if a bit is 1 although its parent is 0. `end` is the length of the bytes without trailing zeros. Skips bytes that are
+/// zero, and bytes whose parents are in two bytes of ones.
 pub fn has_orphan_bit(bytes: &[u8], end: usize) -> bool
     requires end { IsEnd bytes.now end }
     requires short { end ≤ 2 ^ 28 }
     ensures { IsTrue result ↔ HasOrphanBit bytes.now }
 {
     for index in 0..end {
-        if bytes[index] != 0 && has_orphan_in(bytes, index as u32) {
+        if bytes[index] != 0
+            && !has_full_parents(bytes, index)
+            && has_orphan_in(bytes, index as u32)
+        {
             return true;
         }
     }
     false
 }
 
-// Does the check of `has_orphan_bit` for the bits of one byte.
+// Returns `true` if the parents of all bits of a byte are in two bytes that are all ones.
+fn has_full_parents(bytes: &[u8], index: usize) -> bool
+    requires { index < length bytes.now }
+    ensures { IsTrue result → (n : ℕ) → n / 8 ≡ index → IsOrphanBit bytes.now n → ⊥ }
+{
+    if index < 2 {
+        return false;
+    }
+    if !is_full(bytes, index / 2) {
+        return false;
+    }
+    is_full(bytes, index / 2 - 1)
+}
+
+// Returns `true` if all bits of a byte are 1.
+fn is_full(bytes: &[u8], index: usize) -> bool
+    requires { index < length bytes.now }
+    ensures { IsTrue result → (n : ℕ) → n / 8 ≡ index → bit_of bytes.now n ≡ true }
+{
+    bytes[index] == 255
+}
+
+// Returns `true` if byte `index` has a bit that is 1 although its parent is 0.
 fn has_orphan_in(bytes: &[u8], index: u32) -> bool
     requires { index < 2 ^ 28 }
     ensures { IsTrue result ↔ ((k : ℕ) × ((k < 8) × IsOrphanBit bytes.now (8 * index + k))) }
@@ -79,7 +133,7 @@ fn has_orphan_in(bytes: &[u8], index: u32) -> bool
     false
 }
 
-// Does the check of `has_orphan_bit` for one bit.
+// Returns `true` if the bit is 1 although its parent is 0.
 fn is_orphan_bit(bytes: &[u8], bit: u32) -> bool
     ensures { IsTrue result ↔ IsOrphanBit bytes.now bit }
 {

@@ -1,5 +1,5 @@
-//! The directory: it stores one bit for each split prefix of hashes, and finds the place that a hash leads to (Yigit, sdbm 1990: sdbm.c,
-//! `getpage`).
+//! The directory of a database. Stores one bit for each split prefix of hashes, and finds the place that a hash leads to (Yigit, sdbm 1990:
+//! sdbm.c, `getpage`).
 #![tactic(auto)]
 
 ghost use Rattle.std.specs.Prelude.{◌≡◌, ◌≢◌, ℕ, ◌<◌, ◌≤◌, ◌^◌, ◌-◌, ◌%◌, true, false, OnOk, OnErr, IfOk, IfErr, Ok};
@@ -24,7 +24,7 @@ use std::marker::Model;
 /// The reason why bytes cannot be read as a directory.
 #[derive(Clone, Copy, Debug, PartialEq, Eq)]
 pub enum DirFault {
-    /// A bit with a number of at least 2^31 - 1 is 1. No prefix of at most 30 letters has such a bit.
+    /// A bit with a number of at least 2^31 - 1 is 1; this is the bit of a prefix of more than 30 letters.
     TooDeep,
     /// A bit b above 0 is 1, and the bit of its parent, (b - 1) / 2, is 0: a prefix is split, but not the prefix that is one letter
     /// shorter.
@@ -40,7 +40,7 @@ pub struct Place {
     pub page: u32,
     /// The length of the hash's shortest unsplit prefix, at most 31.
     pub depth: u8,
-    /// The directory bit of that prefix; splitting the page sets it.
+    /// The directory bit of that prefix. Splitting the page sets this bit.
     pub bit: u32,
 }
 
@@ -50,7 +50,7 @@ pub struct Dir<A: Allocator> {
     bits: Vec<u8, A>,
     // Approximate number of bits that are 1.
     count: u32,
-    // The depth at which a search starts, in units of four letters; most places have about this depth. It does not affect the result.
+    // The depth at which a search starts, in units of four letters; most places have about this depth. The result does not depend on it.
     fours: u8,
 }
 
@@ -68,7 +68,7 @@ impl<A: Allocator> Model for Dir<A> {
 }
 
 impl<A: Allocator> Dir<A> {
-    /// A directory without split prefixes: every hash leads to page 0. Does not allocate.
+    /// Makes a directory without split prefixes; every hash leads to page 0. Does not allocate.
     pub fn empty(alloc: A) -> Self
         ensures splits { result.splits ≡ set.empty }
         ensures room { result.room ≡ 0 }
@@ -80,12 +80,12 @@ impl<A: Allocator> Dir<A> {
         }
     }
 
-    /// Reads the bytes of a `.dir` file. The prefix with number b is split if bit b modulo 8 of byte b / 8 is 1, where bit 0 is the lowest
-    /// (Yigit, sdbm 1990: sdbm.c, `getdbit`). The bytes may have any values and any length; trailing zeros are ignored. Allocates the
-    /// blocks up to the block of the highest bit that is 1.
+    /// Reads the bytes of a `.dir` file. The prefix with number b is split if bit b % 8 of byte b / 8 is 1; bit 0 is the lowest (Yigit,
+    /// sdbm 1990: sdbm.c, `getdbit`). The bytes may have any values and any length; trailing zeros are ignored. Allocates the blocks up to
+    /// the block of the highest bit that is 1.
     ///
     /// # Errors
-    /// `TooDeep` if a bit that is 1 has too high a number; otherwise `DirOrphan` if a bit is 1 and its parent is 0; otherwise `NoMemory` if
+    /// `TooDeep` if a bit from number 2^31 - 1 on is 1; otherwise `DirOrphan` if a bit is 1 and its parent is 0; otherwise `NoMemory` if
     /// allocation fails.
     pub fn from_bytes(alloc: A, bytes: &[u8]) -> Result<Self, DirFault>
         ensures ok { IfOk result (λ dir. SpellsDirectory bytes.now dir.splits) }
@@ -112,6 +112,19 @@ impl<A: Allocator> Dir<A> {
         }
     }
 
+    /// Returns a copy, or an error if allocation fails.
+    pub fn try_clone(&self, alloc: A) -> Result<Self, AllocError>
+        ensures { IfOk result (λ copy. copy ≡ self.now) }
+    {
+        let mut bits = Vec::with_capacity(alloc, self.bits.len())?;
+        bits.extend_from_slice(self.bits.as_slice())?;
+        Ok(Dir {
+            bits,
+            count: self.count,
+            fours: self.fours,
+        })
+    }
+
     /// Borrows the bytes of the directory's `.dir` file: whole blocks of 4,096 bytes, up to the block of the highest bit that is 1. If
     /// every bit is 0, there are no bytes. Does not allocate. The time is proportional to the room after the highest bit that is 1.
     pub fn bytes(&self) -> &[u8]
@@ -128,8 +141,8 @@ impl<A: Allocator> Dir<A> {
         is_set(self.bits.as_slice(), bit)
     }
 
-    /// Makes room for a bit, in whole blocks. Does not allocate if there is room already; the other methods never allocate. On error the
-    /// directory is unchanged.
+    /// Makes room for a bit, in whole blocks. Does not allocate if there is room already. Returns an error if allocation fails; the
+    /// directory is unchanged then.
     pub fn grow_for(&mut self, bit: u32) -> Result<(), AllocError>
         ensures splits { self.new.splits ≡ self.old.splits }
         ensures room { OnOk result (bit < self.new.room) }
@@ -145,8 +158,8 @@ impl<A: Allocator> Dir<A> {
         Ok(())
     }
 
-    /// Marks a prefix of at most 30 letters as split; its shorter prefixes must be split already. There must be room for its bit.
-    /// Does not allocate.
+    /// Marks a prefix of at most 30 letters as split; its shorter prefixes must be split already. The directory must have room for `bit`,
+    /// the bit of the prefix. Does not allocate.
     pub fn mark(&mut self, bit: u32)
         requires grown { bit < self.old.room }
         requires shallow { bit < 2 ^ 31 - 1 }
@@ -160,8 +173,8 @@ impl<A: Allocator> Dir<A> {
         self.fours = fours_of(self.count);
     }
 
-    /// Returns the place of a hash, which is given by its shortest unsplit prefix. A prefix begins with the lowest bit of the hash; the
-    /// page number is the prefix as a number with the same lowest bit.
+    /// Returns the place of a hash. The hash's shortest unsplit prefix determines the place. A prefix begins with the lowest bit of the
+    /// hash; the page number is the prefix as a number with the same lowest bit.
     pub fn place(&self, hash: u32) -> Place
         ensures depth { IsDepth self.now.splits hash result.depth }
         ensures shallow { result.depth ≤ 31 }

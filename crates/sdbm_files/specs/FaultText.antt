@@ -1,4 +1,4 @@
--- The text of a fault: its name, followed in brackets by the page number and the cause, if any.
+-- The text of a fault: its name and, in brackets, the page number and the cause, if any.
 use Rattle.std.specs.Prelude.{ℕ, List, ◌++◌, codes, decimal}
 use Rattle.sdbm_dir.specs.FaultText as dir
 use Rattle.sdbm_page.specs.FaultText as page

@@ -63,7 +63,7 @@ pub record AreTaken (size : PageSize) (entries : List (ℕ × Content)) (raw : �
   pub parsed : AreParsed size entries count bad pag
   pub known : AreKnown size entries raw total pag
 
--- if `before` holds of the first `total` pages, `after` holds once a page with these bytes follows
+-- if `before` holds for the first `total` pages, `after` holds for them and a next page with these bytes
 abbrev pub Follows : PageSize → ℕ → List ℕ → (ℕ → List ℕ → Type 0) → (ℕ → List ℕ → Type 0) → Type 0
 Follows size total bytes before after = (pag : List ℕ) → length pag ≡ total * page_bytes size → before total pag → after (total + 1) (pag ++ bytes)
 

@@ -1,4 +1,4 @@
-//! Displays a fault as its name, followed in brackets by the page number and the cause, if any.
+//! Displays a fault as its name and, in brackets, the page number and the cause, if any.
 use crate::OpenFault;
 use std::error::Error;
 use std::fmt;

@@ -46,8 +46,8 @@ use std::marker::Model;
 pub use widening::widen;
 pub use writing::WriteFault;
 
-/// A database. The model is the way in which its keys hash, its page size, the split prefixes, and the pairs of each page. Every pair is on
-/// the page that its key leads to. Pages without pairs are not stored.
+/// A database. The model is the kind of hashing, the page size, the split prefixes, and the pairs of each page. Every pair is on the page
+/// that its key leads to. Pages without pairs are not stored.
 #[derive(Drop)]
 pub struct Image<A: Allocator> {
     alloc: A,
@@ -90,7 +90,7 @@ impl<A: Allocator + Copy> Image<A> {
     /// # Errors
     /// `PagLength` if `.pag` is not a whole number of pages; otherwise `Page` with the lowest number of an invalid page, and its fault;
     /// otherwise `Dir` with the fault of `.dir`, if its bytes spell no directory; otherwise `Misplaced` with the lowest number of a page
-    /// with a key that leads to another page. `NoMemory` if an allocation fails before such a fault is found.
+    /// with a key that leads to another page. `NoMemory` if an allocation fails before one of these faults is found.
     pub fn open(
         alloc: A,
         dir: &[u8],
@@ -146,7 +146,7 @@ impl<A: Allocator + Copy> Image<A> {
         Image::open(alloc, dir, bytes.as_slice(), kind, size)
     }
 
-    // Does the work of `open_read` if `pag` has the page size of the database.
+    // Opens a database with the page size of `pag`.
     fn open_parsed(
         alloc: A,
         dir: &[u8],
@@ -222,9 +222,11 @@ impl<A: Allocator + Copy> Image<A> {
         self.dir.place(hash(key, self.kind))
     }
 
-    /// Installs a plan for the page of a place: replaces this page by the leaf, adds the twins, and marks the bits. All memory is allocated
-    /// first; a plan without splits allocates only if the place has no page yet. If allocation fails, the database is unchanged and the
-    /// plan is returned.
+    /// Installs a plan for the page of a place: replaces this page by the leaf, adds the twins, and marks the bits. A plan without splits
+    /// allocates only if the place has no page yet.
+    ///
+    /// # Errors
+    /// `AllocError`, with the plan, if allocation fails. The database is unchanged then.
     pub fn install(&mut self, place: Place, plan: Plan<A>) -> Result<(), (AllocError, Plan<A>)>
         requires { IsInstallable self.old place.page plan.leaf plan.twins.items plan.bits.items }
         ensures ok { OnOk result (self.new ≡ installed self.old place.page plan.leaf plan.twins.items plan.bits.items) }
@@ -275,7 +277,7 @@ impl<A: Allocator + Copy> Image<A> {
         write_record(&mut self.pages, number, i, value)
     }
 
-    /// Stores a pair by changing page `number` in place. Returns `false` and changes nothing if this page does not exist, if it has another
+    /// Stores a pair by changing page `number` in place. Returns `false` and changes nothing if this page does not exist or has another
     /// owner, if the key of an insert exists, or if the pair does not fit without a split. Does not allocate.
     pub fn store_pair(&mut self, number: u32, key: &[u8], value: &[u8], mode: Mode) -> bool
         requires small { length key.now + length value.now ≤ pair_limit self.old.size }

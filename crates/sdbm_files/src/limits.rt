@@ -19,7 +19,7 @@ fn most_pages(size: PageSize) -> u32
     }
 }
 
-/// Returns `true` if the page may have this number in a `.pag`: the page ends within the limit, or it has no pairs.
+/// Returns `true` if the page may have this number in a `.pag`: the page ends within the limit or has no pairs.
 pub fn has_place<A: Allocator + Copy>(size: PageSize, number: u32, page: &SharedPage<A>) -> bool
     ensures { result ≡ has_place size (number, page.now) }
 {

@@ -20,17 +20,17 @@ use std::collections::HashMap;
 pub enum OpenFault {
     /// The length of `.pag` is not a multiple of the page size.
     PagLength,
-    /// The page with this number is the lowest invalid one, and has this fault, which is never `NoMemory`.
+    /// The lowest number of an invalid page, and the fault of this page. The fault is never `NoMemory`.
     Page(usize, PageFault),
     /// The bytes of `.dir` spell no directory. The fault is never `NoMemory`.
     Dir(DirFault),
-    /// The page with this number is the lowest one that has a key which leads to another page.
+    /// The lowest number of a page with a key that leads to another page.
     Misplaced(usize),
     /// Allocation fails.
     NoMemory,
 }
 
-/// Reads the bytes of a directory.
+/// Reads the bytes of a directory. The error is `Dir` with the fault of the bytes, or `NoMemory` if allocation fails.
 pub fn read_dir<A: Allocator + Copy>(alloc: A, bytes: &[u8]) -> Result<Dir<A>, OpenFault>
     ensures dir { IfOk result (λ dir. SpellsDirectory bytes.now dir.splits) }
     ensures fault { IfErr result (IsFaultOfDir bytes.now) }
@@ -42,7 +42,25 @@ pub fn read_dir<A: Allocator + Copy>(alloc: A, bytes: &[u8]) -> Result<Dir<A>, O
     }
 }
 
-/// Returns the lowest number below `count` of a page that has a key which leads to another page, or `None` if there is no such page.
+/// Like `read_dir`, but if `known` has these bytes, copies `known` instead of checking the bytes again.
+pub fn reread_dir<A: Allocator + Copy>(
+    alloc: A,
+    known: &Dir<A>,
+    bytes: &[u8],
+) -> Result<Dir<A>, OpenFault>
+    ensures dir { IfOk result (λ dir. SpellsDirectory bytes.now dir.splits) }
+    ensures fault { IfErr result (IsFaultOfDir bytes.now) }
+{
+    if known.bytes() != bytes {
+        return read_dir(alloc, bytes);
+    }
+    match known.try_clone(alloc) {
+        Ok(dir) => Ok(dir),
+        Err(_) => Err(OpenFault::NoMemory),
+    }
+}
+
+/// Returns the lowest number, below `count`, of a page with a key that leads to another page, or `None` if there is no such page.
 pub fn misplaced<A: Allocator>(
     dir: &Dir<A>,
     kind: KeyBytes,
@@ -75,8 +93,8 @@ fn leads_here<A: Allocator>(
     }
 }
 
-/// Returns `true` if each key of a page leads to page `number`. The depth of the first key is the number of lowest hash bits that lead to
-/// the page, so only these bits of the other hashes are compared.
+/// Returns `true` if each key of a page leads to page `number`. The depth of the first key is the number of low hash bits that select the
+/// page, so only these bits of the other hashes are compared.
 pub fn keys_lead<A: Allocator>(dir: &Dir<A>, kind: KeyBytes, number: usize, page: &Page<A>) -> bool
     ensures { IsTrue result ↔ LeadTo kind dir.now.splits number page.now.pairs }
 {
@@ -96,7 +114,7 @@ pub fn keys_lead<A: Allocator>(dir: &Dir<A>, kind: KeyBytes, number: usize, page
     true
 }
 
-/// Makes a map of the same pages under the same numbers. The pages are shared, not copied.
+/// Makes a map of the same pages under the same numbers, or returns an error if allocation fails. The pages are shared, not copied.
 pub fn copy_pages<A: Allocator + Copy>(
     alloc: A,
     pages: &Numbered<A>,

@@ -31,7 +31,7 @@ pub struct Parsed<A: Allocator> {
     pub raw: Raw<A>,
     /// The number of pages that were parsed.
     pub count: usize,
-    /// The first page that was not parsed, if it is invalid, and its fault. No later page is parsed.
+    /// The number of the first invalid page, if there is one, and its fault. No later page is parsed.
     pub bad: Option<(usize, PageFault)>,
 }
 
@@ -51,8 +51,8 @@ impl<A: Allocator + Copy> Parsed<A> {
         }
     }
 
-    /// Adds the page with this number, which is the next one, and parses it unless an earlier page was invalid. If allocation fails, no
-    /// page is added.
+    /// Adds page `number`, the next page of the file, and parses it unless an earlier page was invalid. If allocation fails, no page is
+    /// added.
     pub fn take(
         &mut self,
         alloc: A,
@@ -78,7 +78,7 @@ impl<A: Allocator + Copy> Parsed<A> {
         }
     }
 
-    // Adds a parsed page.
+    // Adds a page that was parsed; `None` is a page without pairs. If allocation fails, no page is added.
     fn keep(
         &mut self,
         alloc: A,
@@ -179,8 +179,8 @@ fn insert_page<A: Allocator + Copy>(
     }
 }
 
-/// Reads the bytes of a page. Returns the page, `None` if the page has no pairs, or the fault if the bytes spell no page; or an error if
-/// allocation fails.
+/// Reads the bytes of a page. Returns the page, or `None` if the page has no pairs. The inner error is the fault of bytes that spell no
+/// page; the outer error means that allocation failed.
 pub fn read_page<A: Allocator + Copy>(
     alloc: A,
     bytes: &[u8],

@@ -1,5 +1,5 @@
 //! Opens a single page of a database, and lists the numbers of pages.
-ghost use Rattle.std.specs.Prelude.{◌≡◌, ◌≢◌, ◌↔◌, ℕ, [], length, nat_eq, IsTrue, IfOk, IfSome, IfNone};
+ghost use Rattle.std.specs.Prelude.{◌≡◌, ◌≢◌, ◌↔◌, ℕ, [], length, nat_eq, true, false, IsTrue, IfOk, IfSome, IfNone};
 ghost use Rattle.std.specs.List.{All, Contains};
 ghost use Rattle.std.specs.List.Sorted.{IsStrictlyIncreasing};
 ghost use Rattle.std.specs.HashMap.{IsUnique, keys};
@@ -12,7 +12,7 @@ ghost use Rattle.sdbm_files.specs.Kept.{pages_of, AreSized};
 ghost use Rattle.sdbm_files.specs.Opened.{LeadTo, SpellsNoPart, pairs_of_page};
 
 use crate::Image;
-use crate::opening::{OpenFault, keys_lead, read_dir};
+use crate::opening::{OpenFault, keys_lead, reread_dir};
 use crate::pages::{Pages, replace_page};
 use crate::parsed::read_page;
 use sdbm_addr::{KeyBytes, PageSize};
@@ -46,7 +46,31 @@ impl<A: Allocator + Copy> Image<A> {
         ensures database { IfOk result (λ opened. IfSome opened IsDatabase) }
         ensures none { IfOk result (λ opened. IfNone opened (SpellsNoPart kind size dir.now number page.now)) }
     {
-        let splits = match read_dir(alloc, dir) {
+        Image::empty(alloc, kind, size).reopen_page(dir, number, page)
+    }
+
+    /// Like `open_page`, with the way of hashing keys and the page size of this database, which does not change. If `dir` has the bytes of
+    /// this database's directory, copies the directory instead of checking the bytes again.
+    ///
+    /// # Errors
+    /// `AllocError` if allocation fails.
+    pub fn reopen_page(
+        &self,
+        dir: &[u8],
+        number: u32,
+        page: &[u8],
+    ) -> Result<Option<Self>, AllocError>
+        requires { length page.now ≡ page_bytes self.now.size }
+        ensures directory { IfOk result (λ opened. IfSome opened (λ image. SpellsDirectory dir.now image.splits)) }
+        ensures kind { IfOk result (λ opened. IfSome opened (λ image. image.kind ≡ self.now.kind)) }
+        ensures size { IfOk result (λ opened. IfSome opened (λ image. image.size ≡ self.now.size)) }
+        ensures page { IfOk result (λ opened. IfSome opened (λ image. Spells self.now.size page.now (pairs_at image number))) }
+        ensures others { IfOk result (λ opened. IfSome opened (λ image. (n : ℕ) → n ≢ number → pairs_at image n ≡ [])) }
+        ensures database { IfOk result (λ opened. IfSome opened IsDatabase) }
+        ensures none { IfOk result (λ opened. IfNone opened (SpellsNoPart self.now.kind self.now.size dir.now number page.now)) }
+    {
+        let (alloc, kind, size) = (self.alloc, self.kind, self.size);
+        let splits = match reread_dir(alloc, &self.dir, dir) {
             Ok(splits) => splits,
             Err(OpenFault::Dir(_)) => return Ok(None),
             Err(_no_memory) => return Err(AllocError),
@@ -65,6 +89,15 @@ impl<A: Allocator + Copy> Image<A> {
             dir: splits,
             pages,
         }))
+    }
+
+    /// Returns `true` if the page with this number has pairs.
+    pub fn has_pairs(&self, number: u32) -> bool
+        ensures yes { result ≡ true → pairs_at self.now number ≢ [] }
+        ensures no { result ≡ false → pairs_at self.now number ≡ [] }
+        ensures database { IsDatabase self.now }
+    {
+        self.page(number).is_some()
     }
 
     /// Returns the numbers of the pages that have pairs, in ascending order.

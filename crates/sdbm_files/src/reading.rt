@@ -9,12 +9,12 @@ use sdbm_addr::PageSize;
 use std::alloc::{AllocError, Allocator};
 use std::marker::Model;
 
-/// The size of a block in bytes. A save compares and writes whole blocks of `.pag`.
+/// The size of a block in bytes. A save compares `.pag` with the new pages block by block.
 pub const BLOCK: usize = 1024;
 
-/// The part of a `.pag` file that was read so far. The model is the page size and all bytes that were read. Only the pages that have pairs,
-/// the bytes of pages that are not canonical, and the bytes after the last whole page are stored, so a hole takes no memory.
-/// `Image::open_read` makes a database that shares these pages.
+/// The part of a `.pag` file that was read so far. The model is the page size and all bytes that were read. A `ReadPages` stores the pages
+/// with pairs, the bytes of unparsed and of non-canonical pages, and the bytes after the last whole page. Pages of zeros, such as a hole,
+/// take no memory. `Image::open_read` makes a database that shares these pages.
 #[derive(Drop)]
 pub struct ReadPages<A: Allocator> {
     alloc: A,
@@ -38,7 +38,7 @@ impl<A: Allocator> Model for ReadPages<A> {
 impl<A: Allocator + Copy> ReadPages<A> {
     ghost use Rattle.sdbm_files.specs.Reading.{with_piece, IsPartlyRead, IsBlock};
 
-    /// Makes a `ReadPages` of which nothing is read yet. Does not allocate.
+    /// Makes an empty `ReadPages`. Does not allocate.
     pub fn new(alloc: A, size: PageSize) -> Self
         ensures { result ≡ record { size = size; bytes = [] } }
     {
@@ -80,8 +80,8 @@ impl<A: Allocator + Copy> ReadPages<A> {
         self.len % self.size.bytes() == 0
     }
 
-    /// Reads the next piece of the file. The bytes read before must be whole pages. Allocates memory for pages that have pairs, for the
-    /// bytes of pages that are not canonical, and for the bytes after the last whole page. Pages of zeros need no memory.
+    /// Reads the next piece of the file. The bytes read before must be whole pages. Allocates memory for pages with pairs, for the bytes of
+    /// unparsed and of non-canonical pages, and for the bytes after the last whole page, but not for pages of zeros.
     ///
     /// # Errors
     /// `AllocError` if allocation fails. Some pages at the start of the piece may then be read already.
@@ -138,7 +138,7 @@ impl<A: Allocator + Copy> ReadPages<A> {
         part(self.page(index / blocks), index % blocks * BLOCK)
     }
 
-    /// Copies all bytes that were read, which allows parsing with the other page size. The pages do not change.
+    /// Copies all bytes that were read, for parsing with the other page size.
     ///
     /// # Errors
     /// `AllocError` if allocation fails.

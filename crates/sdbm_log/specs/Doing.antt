@@ -1,4 +1,4 @@
--- Lists of calls that are made in order on the three files, and the images that a crash leaves before, between and during the calls.
+-- Lists of calls that are made in order on the three files, and the images that a crash leaves before, during and after the calls.
 use Rattle.std.specs.Prelude.{◌≤◌, ◌≡◌, ◌⊎◌, List, [], ◌∷◌, length}
 use Rattle.sdbm_saves.specs.Disk.{Image, content}
 use Rattle.sdbm_saves.specs.Acts.{Act, write, resize, sync, clear, acted, seen_after, LeftBy, LeftAfter}
@@ -26,8 +26,8 @@ pub record Does (acts : List Act) (seen : Image) (may_leave : Image → Type 0) 
   pub any_moment : (c : Image) → AnyMoment acts seen may_leave c → P c
   pub after : Q (seen_after acts seen) (LeftAfter acts seen may_leave)
 
--- An image that may be read after a process was killed during a call, so that the call was done in part. It depends only on the image that
--- was read before, not on the images that a crash may leave.
+-- An image that may be read after a process was killed during a call, so that a part of the call was done. The image depends only on the
+-- image that was read before, not on the images that a crash may leave.
 abbrev pub Partly : Act → Image → Image → Type 0
 Partly act seen c = LeftBy act seen (λ d. d ≡ seen) c
 

@@ -2,7 +2,7 @@
 -- save, which is committed once the record is complete. Plans are applied to the data files without a sync, so a crash may leave a mix of
 -- old and new bytes in the data files. Applying all plans of the log again repairs the data files (a redo log: Gray and Reuter, Transaction
 -- Processing 1993, chapter 9). Byte 0 is the commit byte (mark), which is 1 while there are records. The next eight bytes are "sdbmlog1".
--- If byte 0 is 1 and other bytes follow, the file is the committed plan of a single save (specs/Redo.antt of sdbm_saves).
+-- If byte 0 is 1 and the next eight bytes differ, the file is the committed plan of a single save (specs/Redo.antt of sdbm_saves).
 use Rattle.std.specs.Prelude.{Bool, true, false, if◌then◌else◌, ◌==◌, ◌⊎◌, ◌-◌, ◌*◌, ◌/◌, ◌%◌, Option, MatchOption, ◌<◌, ◌≤◌, ◌≡◌, ◌≢◌, ◌^◌, ℕ, zero, suc, ◌+◌, List, [], ◌∷◌, ◌++◌, length, take, drop, replicate, get_or}
 use Rattle.std.specs.Borrow.{Bor}
 use Rattle.sdbm_saves.specs.declared.disk.DiskFile.TheVariants.{Pages, Directory}
@@ -16,7 +16,7 @@ nonzero [] = 0
 nonzero (zero ∷ bytes) = nonzero bytes
 nonzero (suc b ∷ bytes) = suc (nonzero bytes)
 
--- a number below 255^4 as four nonzero bytes, and the number that four such bytes represent
+-- a number below 255^4 as four nonzero bytes, and the number that four nonzero bytes represent
 abbrev pub digits : ℕ → List ℕ
 digits n = suc (n % 255) ∷ suc (n / 255 % 255) ∷ suc (n / 65025 % 255) ∷ suc (n / 16581375 % 255) ∷ []
 
@@ -27,9 +27,9 @@ weight_at log = (get_or log 0 0 - 1) + 255 * (get_or log 1 0 - 1) + 65025 * (get
 abbrev pub size_at : List ℕ → ℕ
 size_at log = weight_at (drop 4 log)
 
--- The record of a plan: its weight, the length of the plan, and the plan. The weight is the number of nonzero bytes after it. The weight
--- and the length have four nonzero bytes each. A record is written over zeros, so it is complete if and only if the number of its nonzero
--- bytes is the weight.
+-- The record of a plan: its weight, the length of the plan, and the plan. The weight is the number of nonzero bytes after the weight. The
+-- weight and the length have four nonzero bytes each. A record is written over zeros, so the record is complete if and only if the weight
+-- matches the nonzero bytes that follow.
 abbrev pub body_of : List ℕ → List ℕ
 body_of plan = digits (length plan) ++ plan
 
@@ -63,8 +63,8 @@ after_records (suc n) log = after_records n (later_records log)
 abbrev pub end_in : List ℕ → ℕ
 end_in log = length log - length (after_records (number_in log) log)
 
--- The bytes may be a record whose write a crash interrupted, followed by zeros. If the weight is complete, it is at least the number of
--- nonzero bytes after it. If the length is complete, only zeros follow the plan.
+-- The bytes may be a record whose write a crash interrupted, followed by zeros. If the weight is complete, at most that number of later
+-- bytes are nonzero. If the length is complete, only zeros follow the plan.
 pub record MayBeTorn (rest : List ℕ) : Type 0 where
   pub weight : nonzero (take 4 rest) ≡ 4 → nonzero (drop 4 rest) ≤ weight_at rest
   pub size : nonzero (take 4 (drop 4 rest)) ≡ 4 → nonzero (drop (8 + size_at rest) rest) ≡ 0
@@ -93,7 +93,7 @@ abbrev pub log_plan : ℕ → List ℕ → List ℕ
 log_plan zero log = []
 log_plan (suc n) log = joined_all (first_plan log) n (later_records log)
 
--- the next plan, joined with the n plans before it, whose joined plan is `first`
+-- the plan `next` joined with the n plans before it; `first` is the joined plan of these n plans
 abbrev pub next_plan : ℕ → List ℕ → List ℕ → List ℕ
 next_plan zero first next = next
 next_plan (suc n) first next = joined first next
@@ -106,7 +106,7 @@ records_of redo = drop 4096 redo
 abbrev pub is_signed : List ℕ → Bool
 is_signed redo = if number_at redo 1 == 1835164787 then number_at redo 5 == 828862316 else false
 
--- a redo file is a log that may have records: its commit byte is 1
+-- a redo file is a log that may have records: its commit byte is 1, and "sdbmlog1" follows
 abbrev pub is_log : List ℕ → Bool
 is_log redo = if get_or redo 0 0 == 1 then is_signed redo else false
 
@@ -162,7 +162,7 @@ abbrev pub Holds : List ℕ × List ℕ → Image → Type 0
 Holds both image = (files_of image ≡ both) × CanRecover image
 
 -- The log that a crash may leave, compared with the log that is read. The records and the signature are the same. The commit byte is the
--- same, or 0 if there are no records. The other bytes of the header may be any.
+-- same, or 0 if there are no records. The other bytes of the header may have any values.
 pub record IsKeptLog (read left : List ℕ) : Type 0 where
   pub records : records_of left ≡ records_of read
   pub signed : (i : ℕ) → 1 ≤ i → i < 9 → get_or left i 0 ≡ get_or read i 0
@@ -195,13 +195,13 @@ pub record HasRecords (end : ℕ) (log : List ℕ) : Type 0 where
   pub ends : end ≡ length records
   pub zeros : nonzero slack ≡ 0
 
--- No plan shortens a file, neither `first` nor `next`, and both plans together have few enough changes for one plan.
+-- Neither `first` nor `next` shortens a file, and both plans together have few enough changes for one plan.
 pub record Grows (first next : List ℕ) : Type 0 where
   pub so_far : (g : ℕ) → old_length (data_file g) first ≤ new_length (data_file g) first
   pub on : (g : ℕ) → new_length (data_file g) first ≤ new_length (data_file g) next
   pub few : count_of first + count_of next < 2 ^ 32
 
--- `next` may follow n plans, whose joined plan is `first`
+-- `next` may follow n plans; the joined plan of these n plans is `first`
 abbrev pub CanFollow : ℕ → List ℕ → List ℕ → Type 0
 CanFollow zero first next = Unit {0}
 CanFollow (suc n) first next = Grows first next
@@ -211,13 +211,13 @@ pub record IsGrowing (plan : List ℕ) : Type 0 where
   pub pages : old_length Pages plan ≤ new_length Pages plan
   pub directory : old_length Directory plan ≤ new_length Directory plan
 
--- a plan that shortens no file may follow n plans, whose joined plan `first` has `count` changes
+-- a plan that shortens no file may follow n plans; the joined plan of these n plans is `first` and has `count` changes
 abbrev pub MayGrow : ℕ → List ℕ → ℕ → Type 0
 MayGrow zero first count = Unit {0}
 MayGrow (suc n) first count = ((g : ℕ) → old_length (data_file g) first ≤ new_length (data_file g) first) × (count_of first ≡ count)
 
--- A save is committed, and its plan is not applied yet. The plan is the last in the log, and the log is durable. The image that is read and
--- each image that a crash may leave represent the files with the plan applied.
+-- A save is committed, and its plan is not applied yet. The plan is the last plan in the log, and the log is durable. The image that is
+-- read and each image that a crash may leave represent the files with the plan applied.
 pub record IsCommitted (plan : List ℕ) (seen : Image) (may_leave : Image → Type 0) : Type 0 where
   pub kept : KeepsLog seen may_leave
   pub some : 1 ≤ number_of seen
@@ -229,7 +229,7 @@ pub record IsCommitted (plan : List ℕ) (seen : Image) (may_leave : Image → T
 abbrev pub IsPlanOf : Image → Option (Bor (List ℕ)) → Type 0
 IsPlanOf image plan = MatchOption plan (number_of image ≡ 0) (λ p. (1 ≤ number_of image) × (p.now ≡ plan_of image))
 
--- the redo file is a log whose records end at offset `end`; if the commit byte is 0, it has no records
+-- the redo file is a log whose records end at offset `end`; if the commit byte is 0, there are no records
 pub record IsLogFile (end : ℕ) (redo : List ℕ) : Type 0 where
   pub signed : is_signed redo ≡ true
   pub mark : ((end ≡ 0) × (get_or redo 0 0 ≡ 0)) ⊎ (get_or redo 0 0 ≡ 1)

@@ -1,7 +1,7 @@
 -- Runs that use the files of one database with a log, one after another. Each run may use a different disk and a different process, and may
--- be interrupted at any time. Several saves of one process are several runs. A save is one run, or two: its commit, which saves the files,
--- and its remaining calls, which keep the saved files. If a call after the commit is interrupted, the first of these runs has returned and
--- the second is interrupted. So there is no separate task for a save that is committed but not applied.
+-- be interrupted at any time. Several saves of one process are several runs. A save is one run, or two runs: the commit, which saves the
+-- files, and the calls after the commit, which keep the saved files. If a call after the commit is interrupted, the first run has returned
+-- and the second is interrupted. So there is no separate task for a save that is committed but not applied.
 use Rattle.std.specs.Prelude.{◌≡◌, ◌⊎◌, ℕ, suc, List, [], ◌∷◌}
 use Rattle.sdbm_saves.specs.Disk.{Image}
 use Rattle.sdbm_saves.specs.Acts.{Act, seen_after, LeftAfter}
@@ -50,8 +50,8 @@ abbrev pub ReadAfter : Ending → List Act → Image → Image → Type 0
 ReadAfter returned acts seen c = c ≡ seen_after acts seen
 ReadAfter interrupted acts seen c = Killed acts seen c
 
--- An image that a crash may leave after a run: after its last call if it returned, otherwise at any time during its calls. Every image that
--- the run found counts as one that a crash might have left before the run.
+-- An image that a crash may leave after a run: after the last call if the run returned, otherwise at any time during the calls. Every image
+-- that the run found counts as an image that a crash might have left before the run.
 abbrev pub LeftByRun : Ending → List Act → Image → (Image → Type 0) → Image → Type 0
 LeftByRun returned acts seen may_leave c = LeftAfter acts seen (Found seen may_leave) c
 LeftByRun interrupted acts seen may_leave c = AnyMoment acts seen (Found seen may_leave) c
@@ -62,8 +62,8 @@ abbrev pub Leaves : Power → Ending → List Act → Image → (Image → Type 
 Leaves stayed ending acts seen may_leave next_seen next_leave = ReadAfter ending acts seen next_seen × ((c : Image) → next_leave c → LeftByRun ending acts seen may_leave c)
 Leaves lost ending acts seen may_leave next_seen next_leave = LeftByRun ending acts seen may_leave next_seen × ((c : Image) → next_leave c → c ≡ next_seen)
 
--- Each run keeps its promise, and the next run starts where it ended. A crash may leave `may_leave 0` before the first run, and `may_leave
--- n` after n runs.
+-- Each run keeps its promise, and the next run starts in the state that the run left. A crash may leave `may_leave 0` before the first run,
+-- and `may_leave n` after n runs.
 abbrev pub AreMade : List LogRun → Image → (ℕ → Image → Type 0) → Type 0
 AreMade [] seen may_leave = Unit {0}
 AreMade (run ∷ runs) seen may_leave =
@@ -74,20 +74,20 @@ abbrev pub IsOneOf : List ℕ × List ℕ → List (List ℕ × List ℕ) → Ty
 IsOneOf both [] = ⊥
 IsOneOf both (one ∷ more) = (both ≡ one) ⊎ IsOneOf both more
 
--- Each of the images represents one of the listed files and can be recovered.
+-- Each of the images can be recovered, and represents a pair of data files in the list.
 abbrev pub Mean : List (List ℕ × List ℕ) → (Image → Type 0) → Type 0
 Mean was images = (c : Image) → images c → IsOneOf (files_of c) was × CanRecover c
 
--- The files that may be found after a run that found one of `was`. A save that returned leaves the saved files. An interrupted save leaves
--- the saved files or the files that the run read. A run that saves nothing leaves the files that it read if it returned, otherwise one of
--- `was`.
+-- The files that may be found after a run, if the run found files in the list `was`. A save that returned leaves the saved files. An
+-- interrupted save leaves the saved files or the files that the run read. A run that saves nothing leaves the files that it read if it
+-- returned, otherwise files in `was`.
 abbrev pub After : Task → Ending → Image → List (List ℕ × List ℕ) → List (List ℕ × List ℕ)
 After keeps returned seen was = files_of seen ∷ []
 After keeps interrupted seen was = was
 After (saves both) returned seen was = both ∷ []
 After (saves both) interrupted seen was = both ∷ files_of seen ∷ []
 
--- After each run, every image that is found represents files that may be found then, and can be recovered.
+-- After each run, every image that is found can be recovered and represents files that may be found then.
 abbrev pub LeaveFiles : List LogRun → Image → (ℕ → Image → Type 0) → List (List ℕ × List ℕ) → Type 0
 LeaveFiles [] seen may_leave was = Unit {0}
 LeaveFiles (run ∷ runs) seen may_leave was =

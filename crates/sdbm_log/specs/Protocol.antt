@@ -1,11 +1,11 @@
--- The calls of a save in a log, of its checkpoint, and of opening the log. The calls of a list are made in order. If one of them fails, the
+-- The calls that open a log, save in a log, and empty or close a log. The calls of a list are made in order. If one of them fails, the
 -- files are recovered when they are opened again.
 use Rattle.std.specs.Prelude.{ℕ, zero, suc, ◌+◌, ◌-◌, List, [], ◌∷◌, ◌++◌, replicate}
 use Rattle.sdbm_saves.specs.declared.disk.DiskFile.TheVariants.{Pages, Directory, Redo}
 use Rattle.sdbm_saves.specs.Acts.{Act, write, resize, sync}
 use Rattle.sdbm_saves.specs.Redo.{file_of, offset_of, data_of, rest_of, new_length, count_of, changes_of}
 
--- the commit byte is set to 1 before the first record
+-- Sets the commit byte to 1 before the first record.
 abbrev pub mark_acts : ℕ → List Act
 mark_acts zero = write Redo 0 (1 ∷ []) ∷ []
 mark_acts (suc end) = []
@@ -37,6 +37,6 @@ clear_acts n = write Redo 4096 (replicate n 0) ∷ sync Redo ∷ []
 abbrev pub start_acts : ℕ → List Act
 start_acts len = resize Redo len ∷ write Redo 9 (replicate (len - 9) 0) ∷ write Redo 0 (0 ∷ 115 ∷ 100 ∷ 98 ∷ 109 ∷ 108 ∷ 111 ∷ 103 ∷ 49 ∷ []) ∷ sync Redo ∷ []
 
--- Syncs all three files, because bytes that are read after a kill may not be durable.
+-- Syncs all three files: after a kill, bytes that are read may not be durable yet.
 abbrev pub settle_acts : List Act
 settle_acts = sync Redo ∷ sync Pages ∷ sync Directory ∷ []

@@ -8,7 +8,7 @@ use Rattle.sdbm_log.specs.Protocol.{commit_acts, apply_acts, close_acts, clear_a
 use Rattle.sdbm_log.specs.declared.log.Log.{Log}
 use Rattle.sdbm_log.specs.declared.records.LogFiles.{LogFiles}
 
--- The log can take the record of a plan without being emptied: the plan shortens no file, and the record fits.
+-- The log can take the record of a plan without being emptied: the plan shortens no file, and the record and its number of changes fit.
 pub record CanTake (log : Log) (plan : List ℕ) : Type 0 where
   pub growing : IsGrowing plan
   pub room : log.end + (8 + length plan) ≤ log.room
@@ -28,7 +28,7 @@ pub record IsCleared (log next : Log) (plan : List ℕ) (acts : List Act) : Type
   pub end : next.end ≡ 0
   pub count : next.count ≡ 0
 
--- The log is closed and replaced by a longer log, because the old one is too short for the record.
+-- The log is closed and replaced by a longer log, because the old log is too short for the record.
 pub record IsStarted (log next : Log) (plan : List ℕ) (acts : List Act) : Type 0 where
   pub short : log.room < 8 + length plan
   pub started : acts ≡ close_acts ++ start_acts (4096 + next.room)

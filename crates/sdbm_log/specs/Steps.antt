@@ -31,8 +31,8 @@ pub record IsSave (plan : List ℕ) (commit apply : List Act) (end room count : 
   pub applies : Does apply (seen_after commit seen) (LeftAfter commit seen may_leave) (λ c. Holds (renewed_files plan seen) c)
       (λ s m. IsReady end room count s m × (files s ≡ renewed_files plan seen))
 
--- The promise of opening a log. A crash at any time leaves an image that it might have left before, or files that represent the same data.
--- Afterwards the data files are those that the image represented before, and the log is ready for a save.
+-- The promise of opening a log. A crash at any time leaves an image that it might have left before, or an image that represents the same
+-- files. Afterwards the data files are those that the image represented before, and the log is ready for a save.
 abbrev pub IsOpening : List Act → ℕ → ℕ → ℕ → Image → (Image → Type 0) → Type 0
 IsOpening acts end room count seen may_leave =
     Does acts seen may_leave (λ c. may_leave c ⊎ Holds (files_of seen) c) (λ s m. IsReady end room count s m × (files s ≡ files_of seen))

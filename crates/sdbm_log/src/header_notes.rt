@@ -23,12 +23,12 @@ const SIGNATURE: u64 = 3563595725229155443;
 pub struct Notes {
     /// The number of saves.
     pub saves: u64,
-    /// The hint that all records are applied, if they are.
+    /// The hint that all records are applied, if there is one.
     pub applied: Option<AppliedHint>,
 }
 
-/// A hint that all records of the log are applied to both data files. It holds for one boot, because a power failure can undo changes that
-/// were not synced.
+/// A hint that all records of the log are applied to both data files. The hint holds for one boot, because a power failure can undo changes
+/// that were not synced.
 #[derive(Clone, Copy, PartialEq, Eq)]
 pub struct AppliedHint {
     /// The end of the records, counted from the end of the header.
@@ -50,7 +50,7 @@ pub struct BootId {
     pub second: u64,
 }
 
-/// The state of a data file. It is different after the file is changed or replaced.
+/// The state of a data file. Changing or replacing the file changes the state.
 #[derive(Clone, Copy, PartialEq, Eq)]
 pub struct FileState {
     /// The number of the device.
@@ -86,7 +86,7 @@ impl Notes {
         }
     }
 
-    /// Returns the notes that these bytes represent, or `None` if they represent no notes.
+    /// Returns the notes that these bytes represent, or `None` if the bytes represent no notes.
     pub fn from_bytes(bytes: &[u8]) -> Option<Notes>
         ensures some { IfSome result (λ notes. notes_bytes notes ≡ bytes.now) }
         ensures read { (notes : Notes) → AreWords notes → notes_bytes notes ≡ bytes.now → result ≡ Some notes }
@@ -124,7 +124,7 @@ fn applied_words(saves: u64, applied: &AppliedHint) -> [u64; WORDS]
     ]
 }
 
-// Writes words over the first bytes, low byte first.
+// Writes words over the first bytes of `bytes`, low byte first.
 fn spell_words(words: &[u64], bytes: &mut [u8])
     requires { 8 * length words.now ≤ length bytes.old }
     ensures small { (i : ℕ) → get_or words.now i 0 < 2 ^ 64 }
@@ -135,7 +135,7 @@ fn spell_words(words: &[u64], bytes: &mut [u8])
     }
 }
 
-// Returns the only notes that may have these bytes. The caller checks whether they have these bytes.
+// Returns the only notes that these bytes can represent. The caller checks that the bytes do represent them.
 fn parse(bytes: &[u8]) -> Notes
     requires { length bytes.now ≡ 120 }
     ensures { (notes : Notes) → AreWords notes → notes_bytes notes ≡ bytes.now → result ≡ notes }

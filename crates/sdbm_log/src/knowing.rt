@@ -12,9 +12,9 @@ use std::hash::{BuildHasherDefault, FoldHasher};
 // A set of offsets in one data file.
 type Places = HashSet<usize, BuildHasherDefault<FoldHasher>, Global>;
 
-// Returns `true` if a plan knows the files. First collects all offsets at which some change does not have the file's byte, then removes
-// those at which another change has it. A log that changes the same bytes again and again has many such offsets, and a search through all
-// changes for each of them would be slow.
+// Returns `true` if a plan knows the files. First collects all offsets at which some change does not have the file's byte, then removes the
+// offsets at which another change has the byte. A log that changes the same bytes again and again has many of these offsets, and a search
+// through all changes for each offset would be slow.
 pub(crate) fn knows(alloc: Global, plan: &[u8], both: Contents<'_>) -> Result<bool, AllocError>
     requires { IsPlan plan.now }
     ensures { IfOk result (λ known. IsTrue known ↔ Knows plan.now (both.entry.pages.now, both.entry.directory.now)) }

@@ -3,7 +3,7 @@
 // The length of the header, in bytes.
 pub(crate) const HEADER: usize = 4096;
 
-/// The position of the next record in a log. Opening a log returns the first position, and each save returns the next one.
+/// The position of the next record in a log. Opening a log returns the first position, and each save returns the next position.
 #[derive(Clone, Copy, Debug, PartialEq, Eq)]
 pub struct Log {
     /// The end of the records, counted from the end of the header.

@@ -13,7 +13,7 @@ use std::alloc::{AllocError, Global};
 ///
 /// # Errors
 ///
-/// The error of the first call that fails; no later call is made. `Memory` if allocation fails.
+/// The error of the first call that fails, or `Memory` if allocation fails. No later call is made.
 pub fn make_steps<D: Disk>(
     alloc: Global,
     disk: &mut D,

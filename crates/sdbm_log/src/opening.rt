@@ -34,10 +34,10 @@ pub struct OpenSteps {
     pub log: Log,
 }
 
-/// Returns the steps that open a log of at least `room` bytes. The steps sync the files that were read, recover them if the commit byte of
-/// the redo file is 1, and make the redo file an empty log. A log of suitable length is reused; any other redo file is overwritten with
-/// zeros, so that the disk has room for the log. The bytes of the data files are needed only if the commit byte is 1. If a step fails, make
-/// no further step, and open the files again.
+/// Returns the steps that open a log with at least `room` bytes after the header. The steps sync the files that were read, recover them if
+/// the commit byte of the redo file is 1, and make the redo file an empty log. A log of suitable length is reused; any other redo file is
+/// overwritten with zeros, so that the disk has room for the log. The bytes of the data files are needed only if the commit byte is 1. If a
+/// step fails, make no further step, and open the files again.
 ///
 /// # Errors
 ///
@@ -95,7 +95,7 @@ fn steps_for(
     })
 }
 
-// Adds the steps that recover the files, and appends the plan that these steps apply to the buffer.
+// Adds the steps that recover the files, and appends to the buffer the plan that these steps apply.
 fn push_recover(
     steps: &mut Vec<Step>,
     bytes: &mut Vec<u8>,
@@ -116,7 +116,7 @@ fn push_recover(
     Ok(())
 }
 
-// Adds the steps that apply a plan of the redo file, and clear its commit byte.
+// Adds the steps that apply a plan of the redo file, and clear the commit byte.
 fn push_redo(steps: &mut Vec<Step>, plan: &[u8]) -> Result<(), AllocError>
     requires plan { IsPlan plan.now }
     requires short { length plan.now < 2 ^ 63 }
@@ -126,7 +126,7 @@ fn push_redo(steps: &mut Vec<Step>, plan: &[u8]) -> Result<(), AllocError>
     push_close(steps)
 }
 
-// Adds the steps that clear the commit byte of a log without records, if it is 1.
+// Adds the steps that clear the commit byte of a log without records, if this byte is 1.
 fn push_mark(steps: &mut Vec<Step>, redo: &[u8]) -> Result<(), AllocError>
     ensures { OnOk result ((bytes : List ℕ) → acts_of bytes steps.new.items ≡ acts_of bytes steps.old.items ++ (if get_or redo.now 0 0 == 1 then close_acts else [])) }
 {
@@ -136,7 +136,7 @@ fn push_mark(steps: &mut Vec<Step>, redo: &[u8]) -> Result<(), AllocError>
     push_close(steps)
 }
 
-// Adds the steps that make the redo file an empty log, and returns its room.
+// Adds the steps that make the redo file an empty log, and returns the room of the log.
 fn push_restart(steps: &mut Vec<Step>, redo: &[u8], room: usize) -> Result<usize, AllocError>
     requires small { room ≤ 1073741824 }
     ensures enough { IfOk result (λ is. room ≤ is) }
@@ -154,7 +154,7 @@ fn push_restart(steps: &mut Vec<Step>, redo: &[u8], room: usize) -> Result<usize
     Ok(redo.len() - HEADER)
 }
 
-// Returns `true` if a redo file is a log that can be reused: it has a signature and enough room, and is not longer than `MOST_BYTES`.
+// Returns `true` if a redo file is a log that can be reused: a commit byte of 0 or 1, a signature, enough room, at most `MOST_BYTES` bytes.
 fn is_reusable(redo: &[u8], room: usize) -> bool
     requires small { room ≤ 1073741824 }
     ensures { IsTrue result → (is_signed redo.now ≡ true) × ((get_or redo.now 0 0 ≤ 1) × ((4096 + room ≤ length redo.now) × (length redo.now ≤ 4000000000))) }

@@ -17,7 +17,7 @@ const SDBM: usize = 1835164787;
 
 const LOG1: usize = 828862316;
 
-/// The reason why an interrupted run cannot be recovered.
+/// The reason why the files cannot be recovered.
 #[derive(Clone, Copy, Debug, PartialEq, Eq)]
 pub enum LogFault {
     /// Out of memory.
@@ -48,7 +48,7 @@ pub fn is_log(redo: &[u8]) -> bool
     is_signed(redo)
 }
 
-/// Returns the number of bytes after the header of a redo file, up to the last nonzero byte.
+/// Returns the length of the bytes after the header of a redo file, without trailing zeros.
 pub(crate) fn used_room(redo: &[u8]) -> usize
     ensures inside { result ≤ length (records_of redo.now) }
     ensures rest { nonzero (drop result (records_of redo.now)) ≡ 0 }
@@ -112,8 +112,8 @@ pub struct LogFiles<'a> {
 ///
 /// # Errors
 ///
-/// `Foreign` if the redo file has no valid plan, or its plan does not know the data files; `Damaged` if a record is damaged. In both cases
-/// the files cannot be recovered. `NoMemory` if allocation fails.
+/// `Foreign` if a plan in the redo file is invalid, or if the plans do not know the data files. `Damaged` if a record is damaged in a way
+/// that no crash can cause. In both cases the files cannot be recovered. `NoMemory` if allocation fails.
 pub fn plan_of(alloc: Global, files: LogFiles<'_>) -> Result<Option<Vec<u8>>, LogFault>
     ensures some { IfOk result (λ found_plan. IfSome found_plan (λ plan. IsRedoPlan (image_in files.entry) plan.items × CanRecover (image_in files.entry))) }
     ensures plan { IfOk result (λ found_plan. IfSome found_plan (λ plan. IsPlan plan.items)) }
@@ -127,7 +127,7 @@ pub fn plan_of(alloc: Global, files: LogFiles<'_>) -> Result<Option<Vec<u8>>, Lo
     plan_of_log(alloc, files)
 }
 
-// Does the work of `plan_of` if the redo file is not a log.
+// Implements `plan_of` for a redo file that is not a log.
 fn old_plan(alloc: Global, files: LogFiles<'_>) -> Result<Option<Vec<u8>>, LogFault>
     requires { is_log files.redo.now ≡ false }
     ensures some { IfOk result (λ found_plan. IfSome found_plan (λ plan. IsRedoPlan (image_in files.entry) plan.items × CanRecover (image_in files.entry))) }
@@ -160,7 +160,7 @@ fn contents<'a>(files: LogFiles<'a>) -> Contents<'a>
     }
 }
 
-// Does the work of `plan_of` if the redo file is a log.
+// Implements `plan_of` for a redo file that is a log.
 fn plan_of_log(alloc: Global, files: LogFiles<'_>) -> Result<Option<Vec<u8>>, LogFault>
     requires { is_log files.redo.now ≡ true }
     ensures some { IfOk result (λ found_plan. IfSome found_plan (λ plan. IsRedoPlan (image_in files.entry) plan.items × CanRecover (image_in files.entry))) }
@@ -230,7 +230,7 @@ fn may_be_torn(rest: &[u8]) -> bool
     may_have_weight(rest) && may_have_size(rest)
 }
 
-// Returns `true` if the weight of a record is incomplete, or if at most that number of bytes after the weight are nonzero.
+// Returns `true` if the weight of a record is incomplete, or if the number of nonzero bytes after the weight is at most the weight.
 fn may_have_weight(rest: &[u8]) -> bool
     ensures { IsTrue result ↔ (nonzero (take 4 rest.now) ≡ 4 → nonzero (drop 4 rest.now) ≤ weight_at rest.now) }
 {
@@ -375,7 +375,7 @@ fn joined_plan<A: Allocator>(alloc: A, count: usize, log: &[u8]) -> Result<Vec<u
     Ok(plan)
 }
 
-// Joins a plan with the next one.
+// Joins a plan with the next plan.
 fn join<A: Allocator>(plan: &mut Vec<u8, A>, next: &[u8]) -> Result<(), AllocError>
     requires plan { 28 ≤ length plan.old.items }
     requires next { 28 ≤ length next.now }
@@ -386,7 +386,7 @@ fn join<A: Allocator>(plan: &mut Vec<u8, A>, next: &[u8]) -> Result<(), AllocErr
     Ok(())
 }
 
-// Updates the head of a plan to that of the joined plan.
+// Overwrites the head of a plan with the head of the joined plan.
 fn write_head<A: Allocator>(plan: &mut Vec<u8, A>, next: &[u8])
     requires plan { 28 ≤ length plan.old.items }
     requires next { 28 ≤ length next.now }

@@ -20,7 +20,7 @@ use std::alloc::{AllocError, Global};
 // The plans of a log have fewer changes than this in total.
 const CHANGE_LIMIT: usize = 1 << 32;
 
-// The room of a longer log is a multiple of this number of bytes.
+// If a log is replaced by a longer log, the new room is a multiple of this number of bytes.
 const PIECE: usize = 1 << 20;
 
 /// The steps of a save.
@@ -28,17 +28,18 @@ const PIECE: usize = 1 << 20;
 pub struct SaveSteps {
     /// The bytes that both lists write.
     pub bytes: Vec<u8>,
-    /// Commits the save. If one of these steps fails, the save may be committed or not.
+    /// The steps that commit the save. If one of them fails, the save may be committed or not.
     pub commit: Vec<Step>,
-    /// Applies the save to both data files. If one of these steps fails, the save is still committed.
+    /// The steps that apply the plan to both data files. If one of them fails, the save is still committed.
     pub apply: Vec<Step>,
     /// The log after all steps.
     pub log: Log,
 }
 
-/// Returns the steps that save a plan. The steps write a record after the existing records and sync once, which commits the save; then they
-/// apply the plan to both data files without a sync. If the log has no room for the record, or if a file gets shorter, the log is emptied
-/// first. If a file gets shorter, the log is emptied afterwards too. If a step fails, make no further step, and open the files again.
+/// Returns the steps that save a plan. The steps write a record after the existing records and sync once, which commits the save. Then the
+/// steps apply the plan to both data files without a sync. If the log has no room for the record, or if a file gets shorter, the log is
+/// emptied first, or replaced if it is too short. If a file gets shorter, the log is emptied afterwards too. If a step fails, make no
+/// further step, and open the files again.
 ///
 /// # Errors
 ///

@@ -12,20 +12,20 @@ use std::alloc::{AllocError, Global};
 /// A call on one of the three files. The bytes that calls write are in a separate buffer.
 #[derive(Clone, Copy, Debug, PartialEq, Eq)]
 pub enum Step {
-    /// Writes `len` bytes of the buffer, from `from` on, at this offset.
+    /// Writes `len` bytes of the buffer, from `from` on, at offset `at`.
     Write {
         file: DiskFile,
         at: usize,
         from: usize,
         len: usize,
     },
-    /// Writes zeros at this offset.
+    /// Writes `len` zeros at offset `at`.
     Zeros {
         file: DiskFile,
         at: usize,
         len: usize,
     },
-    /// Truncates a file, or extends it with zeros.
+    /// Truncates the file, or extends it with zeros.
     Resize {
         file: DiskFile,
         len: usize,
@@ -137,7 +137,7 @@ fn span_of(change: &[u8]) -> usize
     9 + (size + size)
 }
 
-// Returns the changes after the first one.
+// Returns the changes after the first change.
 fn rest_of(change: &[u8]) -> &[u8]
     requires { span_of change.now ≤ length change.now }
     ensures { result.now ≡ rest_of change.now }

@@ -11,7 +11,7 @@ use std::alloc::{AllocError, Global};
 use std::marker::Brand;
 use std::test::Fail;
 
-// Makes a plan that changes one of the four bytes of `.pag`, which was 0 before.
+// Makes a plan that changes the byte at offset `at` of a `.pag` of four bytes from 0 to `byte`.
 fn plan(alloc: Global, at: usize, byte: u8) -> Result<Vec<u8>, AllocError> {
     let mut plan = Vec::from_slice(alloc, b"sdbmred2")?;
     plan.extend_from_slice(&spelled(4))?;
@@ -36,7 +36,7 @@ fn record(alloc: Global, at: usize, byte: u8) -> Result<Vec<u8>, AllocError> {
     Ok(bytes)
 }
 
-// Makes the records of two saves. A crash has left the bytes of the second record before `cut`, except the byte at `hole`.
+// Makes the records of two saves. Of the second record, only the bytes before `cut` are written, without the byte at `hole`.
 fn log(alloc: Global, cut: usize, hole: usize) -> Result<Vec<u8>, AllocError> {
     let mut log = record(alloc, 1, 7)?;
     let second = record(alloc, 2, 9)?;
@@ -98,7 +98,7 @@ fn a_log_with_no_records_means_the_files(rt: HostRuntime) -> Result<(), Fail> {
     Ok(())
 }
 
-// Any part of both plans may already be applied to the data files.
+// Any part of the two plans may already be applied to the data files.
 #[test]
 fn records_mean_both_plans(rt: HostRuntime) -> Result<(), Fail> {
     let both = log(rt.alloc(), 99, 99)?;
@@ -109,7 +109,7 @@ fn records_mean_both_plans(rt: HostRuntime) -> Result<(), Fail> {
     Ok(())
 }
 
-// The last byte of a record is zero, so the record is complete without it.
+// The last byte of a record is zero, so the record is complete without this byte.
 #[test]
 fn a_torn_last_record_is_as_if_never_written(rt: HostRuntime) -> Result<(), Fail> {
     let second = record(rt.alloc(), 2, 9)?;
@@ -352,7 +352,7 @@ impl Memory {
         }
     }
 
-    // Saves a byte of the pages, which was 0, but makes only the first `count` steps of the save.
+    // Changes the byte at offset `at` of the pages from 0 to `byte`, but makes only the first `count` steps of the save.
     fn save(
         &mut self,
         alloc: Global,

@@ -13,7 +13,7 @@ use std::marker::Brand;
 ///
 /// # Errors
 ///
-/// `Memory`, or the error of the disk. Open the files again.
+/// `Memory` if allocation fails, otherwise the error of the disk. After an error, open the files again.
 pub fn close_log<D: Disk>(alloc: Global, disk: &mut D, log: Log) -> Result<(), DiskError>
     requires ready { IsReady log.end log.room log.count (D.seen disk.old) (D.may_leave disk.old) }
 

@@ -10,7 +10,7 @@ use sdbm_saves::DiskError;
 pub enum OpenFault {
     /// The files cannot be recovered, or allocation fails. No call was made.
     Files(LogFault),
-    /// A call of the disk failed. Open the files again.
+    /// A call of the disk failed, or the bytes that it writes could not be allocated. Open the files again.
     Disk(DiskError),
 }
 

@@ -53,7 +53,7 @@ impl DataBytes {
         Ok(DataBytes { pages, directory })
     }
 
-    // Applies a plan that keeps the lengths of the files.
+    // Applies a plan that does not change the lengths of the files.
     fn renew(&mut self, plan: &[u8])
         requires plan { IsPlan plan.now }
         requires pages_long { length self.old.pages.items ≡ new_length Pages plan.now }
@@ -65,7 +65,7 @@ impl DataBytes {
         lay_in(self.directory.as_mut_slice(), DiskFile::Directory, plan);
     }
 
-    // Returns `true` if a plan keeps the lengths of the files.
+    // Returns `true` if a plan does not change the lengths of the files.
     fn keeps_lengths(&self, plan: &[u8]) -> bool
         requires plan { IsPlan plan.now }
         ensures pages { IsTrue result → length self.now.pages.items ≡ new_length Pages plan.now }
@@ -85,8 +85,8 @@ pub struct Keeper {
 /// The outcome of a save in a log that stays open.
 #[derive(Clone, Copy, Debug, PartialEq, Eq)]
 pub enum NextSave {
-    /// The log has no room for the record, or a data file gets another length or may need new blocks of the disk. Nothing was done: close
-    /// the log and open it again.
+    /// The log has no room for the record, the plan is too long, or a data file gets another length or may need new blocks of the disk.
+    /// Nothing was done: close the log and open it again.
     Full,
     /// The save is durable, and the log is ready for the next save.
     Done,
@@ -94,12 +94,13 @@ pub enum NextSave {
     Pending(DiskError),
 }
 
-/// Saves a plan that knows the files of a database at rest. `redo` has the bytes of the redo file. The save opens a log of at least `room`
-/// bytes, which stays open. Returns the outcome and the log. After `Done`, the log is ready for the next save.
+/// Saves a plan that knows the current files; the commit byte of the redo file must not be 1. `redo` has the bytes of the redo file. The
+/// save opens a log with room for the plan and at least `room` bytes (at most 1 GiB), and leaves the log open. Returns the outcome and the
+/// log. After `Done`, the log is ready for the next save.
 ///
 /// # Errors
 ///
-/// `Memory`, or the error of the disk. The save may be committed or not: open the files again.
+/// `Memory` if allocation fails, otherwise the error of the disk. The save may be committed or not: open the files again.
 pub fn save_first<D: Disk>(
     alloc: Global,
     disk: &mut D,
@@ -137,7 +138,7 @@ pub fn save_first<D: Disk>(
 ///
 /// # Errors
 ///
-/// `Memory`, or the error of the disk. The save may be committed or not: open the files again.
+/// `Memory` if allocation fails, otherwise the error of the disk. The save may be committed or not: open the files again.
 pub fn save_next<D: Disk>(
     alloc: Global,
     disk: &mut D,
@@ -176,7 +177,7 @@ pub fn save_next<D: Disk>(
     }
 }
 
-// Returns `true` if a log has room for the record of a plan, and the plan needs no new blocks of the disk.
+// Returns `true` if a plan is short enough, needs no new blocks of the disk, and has a record that fits into the log.
 fn can_take(log: Log, plan: &[u8]) -> bool
     requires plan { IsPlan plan.now }
     ensures { IsTrue result → length plan.now < 3000000000 }
@@ -188,7 +189,7 @@ fn can_take(log: Log, plan: &[u8]) -> bool
     len <= log.room && log.end <= log.room - len
 }
 
-/// A disk whose log stays open. Unlike `KeptDisk`, it does not have the bytes of the data files.
+/// A disk whose log stays open, without the bytes of the data files that a `KeptDisk` has.
 #[derive(Drop)]
 pub struct LoggedDisk<D: Disk> {
     disk: D,
@@ -225,7 +226,7 @@ impl<D: Disk> LoggedDisk<D> {
     }
 }
 
-/// A disk whose log stays open from one save to the next.
+/// A disk whose log stays open from one save to the next, and the bytes of its data files.
 #[derive(Drop)]
 pub struct KeptDisk<D: Disk> {
     disk: D,

@@ -1,4 +1,4 @@
-//! Makes the steps of `sdbm_log` on a disk: opens a log, saves in it, and closes it.
+//! Performs the steps of `sdbm_log` on a disk: opens a log, saves in it, and closes it.
 #![tactic(auto)]
 
 mod closing;

@@ -19,7 +19,7 @@ use std::alloc::Global;
 // The length of the header of a log, in bytes.
 const HEADER: usize = 4096;
 
-// The minimum room of a new log in bytes, which allows later saves to reuse the log.
+// The least room in bytes of a log for one save. Most later saves can then reuse the log.
 const LEAST_ROOM: usize = 28_672;
 
 // A log with more room than this, in bytes, is removed after the save.
@@ -32,13 +32,13 @@ const LONGEST: usize = 1 << 30;
 /// save opens a log, commits the plan, applies it to both data files, and closes the log. If the plan may need new blocks of the disk, the
 /// save first checks whether the disk has room.
 ///
-/// `Done` means that the database is at rest again. The redo file then stays as an empty log that the next save can reuse, but a long log,
-/// or one that other users could not use, is removed. `Pending` means that the save is durable, but a call failed after the commit: open
-/// the files again, which finishes the save.
+/// `Done` means that the database is at rest again. The redo file then stays as an empty log that the next save can reuse; but the log is
+/// removed if it is long or other users could not use it. `Pending` means that the save is durable, but a call failed after the commit:
+/// open the files again, which finishes the save.
 ///
 /// # Errors
 ///
-/// `Memory`, or the error of the disk. The save may be committed or not: open the files again.
+/// `Memory` if allocation fails, otherwise the error of the disk. The save may be committed or not: open the files again.
 pub fn save_once<D: Disk>(
     alloc: Global,
     disk: &mut D,
@@ -73,12 +73,12 @@ pub fn save_once<D: Disk>(
     }
 }
 
-/// Opens a log for a save of this plan, with at least `least` bytes of room. The commit byte of the redo file must not be 1, and `redo` has
-/// the bytes of this file. If the plan may need new blocks of the disk, first checks whether the disk has room.
+/// Opens a log with room for this plan and at least `least` bytes (at most 1 GiB). The commit byte of the redo file must not be 1, and
+/// `redo` has the bytes of this file. If the plan may need new blocks of the disk, first checks whether the disk has room.
 ///
 /// # Errors
 ///
-/// `Memory`, or the error of the disk. Open the files again.
+/// `Memory` if allocation fails, otherwise the error of the disk. After an error, open the files again.
 pub fn open_for<D: Disk>(
     alloc: Global,
     disk: &mut D,
@@ -102,7 +102,7 @@ pub fn open_for<D: Disk>(
     open_rest(alloc, disk, left, room)
 }
 
-// Opens a log of at least `room` bytes over files at rest.
+// Opens a log of at least `room` bytes for files at rest.
 fn open_rest<D: Disk>(
     alloc: Global,
     disk: &mut D,
@@ -154,7 +154,7 @@ fn end_once<D: Disk>(alloc: Global, disk: &mut D, log: Log) -> LogSave
 ///
 /// # Errors
 ///
-/// `Memory`, or the error of the disk. Open the files again.
+/// `Memory` if allocation fails, otherwise the error of the disk. After an error, open the files again.
 pub fn close_kept<D: Disk>(alloc: Global, disk: &mut D, log: Log) -> Result<(), DiskError>
     requires ready { IsReady log.end log.room log.count (D.seen disk.old) (D.may_leave disk.old) }
 
@@ -201,7 +201,7 @@ fn remove<D: Disk>(disk: &mut D) -> Result<(), DiskError>
     disk.clear()
 }
 
-// Changes the room of a closed log to `room` bytes and writes zeros after its header.
+// Sets the room of a closed log to `room` bytes and writes `zeros` after the header.
 fn write_zeros<D: Disk>(disk: &mut D, room: usize, zeros: &[u8]) -> Result<(), DiskError>
     requires rest { IsAtRest (D.seen disk.old) (D.may_leave disk.old) }
     requires near { room ≤ 4000000000 }

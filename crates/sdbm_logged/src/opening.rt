@@ -15,12 +15,12 @@ use std::alloc::Global;
 use std::marker::Brand;
 
 /// Opens the log of files that were read. Syncs the files, recovers them if the commit byte of the redo file is 1, and makes the redo file
-/// an empty log of at least `room` bytes. The bytes of the data files are needed only if the commit byte is 1.
+/// an empty log with at least `room` bytes after the header. The bytes of the data files are needed only if the commit byte is 1.
 ///
 /// # Errors
 ///
-/// `Files` if the files cannot be recovered, or if the steps cannot be allocated; no call was made then. `Disk` if a call fails: open the
-/// files again.
+/// `Files` if the files cannot be recovered, or if the steps cannot be allocated; no call was made then. `Disk` if a call fails, or if the
+/// bytes that it writes cannot be allocated: open the files again.
 pub fn open_log<D: Disk>(
     alloc: Global,
     disk: &mut D,

@@ -1,4 +1,4 @@
-// Checks before a save whether the disk has room for the work after its commit.
+// Checks before a save whether the disk has room for the work after the commit.
 ghost use Rattle.std.specs.Prelude.{◌≡◌, ◌≤◌, ◌*◌, ◌^◌, ◌↔◌, [], length, All, IsTrue, OnOk, IfOk};
 ghost use Rattle.sdbm_saves.specs.Disk.{Through, LeavesOnly, HasCause};
 ghost use Rattle.sdbm_saves.specs.Redo.{span_of, IsPlan, files, StaysUnmarked};
@@ -6,16 +6,16 @@ ghost use Rattle.sdbm_log.specs.Log.{Holds, IsAtRest};
 
 use sdbm_saves::{Disk, DiskError, DiskFile, file_of, number, rest_of, was_of};
 
-/// The allocation unit of a file system, in bytes. If the real unit differs, the room that is tried is too small or too large.
+/// The assumed allocation unit of a file system, in bytes. If the real unit differs, the check tries too little or too much room.
 const DISK_BLOCK: usize = 4096;
 
-/// The greatest number of blocks that are tried. A longer redo file is never read.
+/// The greatest number of blocks that are tried: about the length of the longest redo file that can be read.
 const MOST: usize = 658_000;
 
-// Checks before a save whether the disk has room for it. If a committed save finds the disk full, the data files are half written, which
-// programs that do not know the log cannot repair. The check makes a new redo file that is large enough for the changes of the plan and for
-// a log of `len` bytes, writes a zero into each of its blocks, and removes the file. So the commit byte is never 1, and the data files are
-// not touched, even if the disk fails. Another program may take the room before the save. If no change needs a new block, nothing is done.
+// Checks before a save whether the disk has room. If a committed save finds the disk full, the data files are half written, and programs
+// that do not know the log cannot repair them. The check makes a new redo file that is large enough for the changes of the plan and for a
+// log of `len` bytes, writes a zero into each block, and removes the file. So the commit byte is never 1, and the data files are not
+// touched, even if the disk fails. Another program may take the room before the save. If no change needs a new block, nothing is done.
 // Returns the bytes that the redo file has afterwards.
 pub(crate) fn try_room<'a, D: Disk>(
     disk: &mut D,
@@ -87,8 +87,8 @@ fn fill<D: Disk>(disk: &mut D, blocks: usize) -> Result<(), DiskError>
     Ok(())
 }
 
-// Returns the number of new blocks that the changes of one file may need. The number is an estimate, because a page of zeros may be a hole
-// or not. No contract specifies the number or depends on it.
+// Returns the number of new blocks that the changes of one file may need. The number is an estimate: a page of zeros may be a hole or not.
+// No contract specifies the number or depends on it.
 fn new_blocks(plan: &[u8], file: DiskFile) -> usize
     requires { IsPlan plan.now }
 {
@@ -108,7 +108,7 @@ fn new_blocks(plan: &[u8], file: DiskFile) -> usize
     blocks
 }
 
-// Returns `true` if a change may need new blocks: it reaches past the end of its file, or it writes into a possible hole.
+// Returns `true` if a change may need new blocks: the change reaches past the end of its file, or writes into a possible hole.
 fn wants_room(plan: &[u8], change: &[u8]) -> bool
     requires header { 28 ≤ length plan.now }
     requires whole { span_of change.now ≤ length change.now }

@@ -11,7 +11,7 @@ use sdbm_saves::{Disk, DiskError};
 use std::alloc::Global;
 use std::marker::Brand;
 
-/// A plan must have fewer bytes than this.
+/// The least length in bytes of a plan that is too long to be saved.
 pub const PLAN_LIMIT: usize = 3_000_000_000;
 
 /// The outcome of a save that is committed.
@@ -23,11 +23,12 @@ pub enum LogSave {
     Pending(DiskError),
 }
 
-/// Saves a plan in an open log: commits it, which needs one sync, and applies it to both data files.
+/// Saves a plan in an open log: commits the plan with one sync, and applies it to both data files. A log without room for the plan is
+/// emptied or replaced first.
 ///
 /// # Errors
 ///
-/// `Memory`, or the error of the disk. The save may be committed or not: open the files again.
+/// `Memory` if allocation fails, otherwise the error of the disk. The save may be committed or not: open the files again.
 pub fn save_by<D: Disk>(
     alloc: Global,
     disk: &mut D,

@@ -5,7 +5,7 @@ ghost use Rattle.sdbm_log.specs.Log.{IsAtRest};
 
 use sdbm_saves::{Disk, DiskError, DiskFile};
 
-// Syncs all three files. After a kill, bytes that are read may not be durable.
+// Syncs all three files: after a kill, bytes that are read may not be durable yet.
 pub(crate) fn settle<D: Disk>(disk: &mut D) -> Result<(), DiskError>
     requires unmarked { get_or (D.seen disk.old).redo 0 0 ≢ 1 }
 

@@ -15,6 +15,6 @@ module _ {A : Type 0} where
   held_with_part (Small small) at ws = Small (small_with small at ws)
   held_with_part (Wide v) at ws = Wide (vec.with_items_from v at ws)
 
-  -- the result of writing `ws` over the bytes from the first one on
+  -- the result of writing `ws` over the bytes from index 0 on
   abbrev pub held_with_all : Held A → List ℕ → Held A
   held_with_all h = held_with_part h 0

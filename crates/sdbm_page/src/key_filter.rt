@@ -1,4 +1,4 @@
-//! A Bloom filter over keys. For most keys, it shows without a comparison that no equal key was added before.
+//! A Bloom filter over keys. For most keys, the filter shows without a comparison that no equal key was added before.
 ghost use Rattle.std.specs.Prelude.{◌≡◌, ◌≤◌, ◌*◌, ◌↔◌, ℕ, List, length, replicate, IsTrue};
 ghost use Rattle.sdbm_page.specs.Marks.{IsNoted, words_stirred, stirred, marks_of};
 
@@ -14,14 +14,14 @@ pub struct KeyFilter {
 }
 
 impl KeyFilter {
-    /// An empty filter.
+    /// Makes an empty filter.
     pub fn new() -> Self
         ensures { result.words ≡ replicate 256 0 }
     {
         KeyFilter { words: [0; 256] }
     }
 
-    /// Adds a key. Returns `true` if its bits were set already; otherwise no equal key was added before.
+    /// Adds a key. Returns `true` if all bits of the key were set already; otherwise no equal key was added before.
     pub fn note(&mut self, key: &[u8]) -> bool
         ensures told { IsTrue result ↔ IsNoted self.old.words key.now }
         ensures noted { IsNoted self.new.words key.now }

@@ -13,10 +13,11 @@ use sdbm_addr::PageSize;
 // The least number of keys for which the Bloom filter costs less than comparing each key with all others.
 const MARKED: usize = 16;
 
-// The greatest number of keys that may hit the filter. With more hits the filter saves little, so all keys are sorted instead.
+// The greatest number of keys that may need a comparison although the filter is used. With more, the filter saves little, so all keys are
+// sorted instead.
 const DOUBTED: usize = 16;
 
-/// Checks that all keys in bytes with a valid layout are distinct. The cost is at most that of sorting the keys.
+/// Returns `true` if all keys in bytes with a valid layout are distinct. In the worst case, the keys are sorted.
 pub fn has_distinct_keys(bytes: &[u8], size: PageSize, layout: Layout) -> bool
     requires long { length bytes.now ≡ page_bytes size }
     requires layout { IsLayout size bytes.now layout.count layout.low }
@@ -25,7 +26,7 @@ pub fn has_distinct_keys(bytes: &[u8], size: PageSize, layout: Layout) -> bool
     are_apart(bytes, layout.count)
 }
 
-// Checks that no two of the first `count` pairs have the same key.
+// Returns `true` if no two of the first `count` pairs have the same key.
 fn are_apart(bytes: &[u8], count: usize) -> bool
     requires inside { AreInside bytes.now count }
     requires few { count ≤ 2048 }
@@ -53,8 +54,8 @@ fn are_apart_one_by_one(bytes: &[u8], count: usize) -> bool
     true
 }
 
-// Checks that the keys are distinct, but compares a key with the keys before it only if it hits the filter. Returns `None` after too many
-// hits.
+// Checks that the keys are distinct. Compares a key with the keys before it only if the filter already has all bits of the key. Returns
+// `None` if more than `DOUBTED` keys need this comparison.
 fn are_apart_by_marks(bytes: &[u8], count: usize) -> Option<bool>
     requires { AreInside bytes.now count }
     ensures { IfSome result (λ told. IsTrue told ↔ AreApart bytes.now count) }

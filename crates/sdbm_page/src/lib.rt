@@ -63,8 +63,8 @@ pub fn spells_empty(bytes: &[u8], size: PageSize) -> bool
     number_at(bytes, 0) == 0
 }
 
-/// A page. The model is its size and the list of its pairs. The pairs always fit, and each pair is within the length limit. Callers that
-/// add pairs keep the keys distinct. Free bytes are zero.
+/// A page. The model is its size and the list of its pairs. The pairs always fit, and each pair is within the length limit. Free bytes are
+/// zero.
 #[derive(Drop)]
 pub struct Page<A: Allocator> {
     size: PageSize,
@@ -97,7 +97,7 @@ impl<A: Allocator> Page<A> {
     /// pass.
     ///
     /// # Errors
-    /// `Count`, `Offsets` or `DoubleKey`, the first that applies; otherwise `NoMemory` if allocation fails.
+    /// The first of `Count`, `Offsets` and `DoubleKey` that applies; otherwise `NoMemory` if allocation fails.
     pub fn from_bytes(alloc: A, bytes: &[u8], size: PageSize) -> Result<Self, PageFault>
         requires { length bytes.now ≡ page_bytes size }
         ensures size { IfOk result (λ page. page.size ≡ size) }
@@ -245,7 +245,7 @@ impl<A: Allocator> Page<A> {
 
 // Conversion from bytes.
 impl<A: Allocator> Page<A> {
-    // Makes a page from bytes with a valid layout; clears the free bytes. Keys may be equal.
+    // Makes a page from bytes with a valid layout, and clears its free bytes. Keys may be equal. Returns an error if allocation fails.
     fn cleared(alloc: A, bytes: &[u8], size: PageSize, layout: Layout) -> Result<Self, AllocError>
         requires long { length bytes.now ≡ page_bytes size }
         requires layout { IsLayout size bytes.now layout.count layout.low }

@@ -9,8 +9,8 @@ use crate::fields::key_in;
 // One more than the greatest number of keys on a wide page.
 const ROOM: usize = 2048;
 
-/// Checks that no two of the first `count` pairs have the same key: after sorting, equal keys are neighbors. The list of keys is on the
-/// stack; nothing is allocated.
+/// Returns `true` if no two of the first `count` pairs have the same key. Equal keys are neighbors after sorting. The list of keys is on
+/// the stack; nothing is allocated.
 pub fn are_apart_sorted(bytes: &[u8], count: usize) -> bool
     requires inside { AreInside bytes.now count }
     requires few { count ≤ 2048 }
@@ -26,7 +26,7 @@ pub fn are_apart_sorted(bytes: &[u8], count: usize) -> bool
     neighbors_differ(keys)
 }
 
-// Checks that no two neighbors in a sorted list are equal.
+// Returns `true` if no two neighbors in a sorted list are equal.
 fn neighbors_differ(keys: &[&[u8]]) -> bool
     requires { IsSorted (λ a b. slice_cmp nat_cmp a.now b.now) keys.now }
     ensures { IsTrue result ↔ AreUnlike (map (λ k. k.now) keys.now) }

@@ -1,11 +1,11 @@
-//! The last eight bytes of a key. One comparison of these bytes tells the key apart from most other keys.
+//! The last eight bytes of a key. A comparison of these bytes alone rules out most other keys.
 ghost use Rattle.std.specs.Prelude.{◌≡◌, ◌<◌, ◌≤◌, ℕ, length, slice_index, slice_range, IfSome};
 ghost use Rattle.std.specs.Str.{bytes_eq};
 ghost use Rattle.sdbm_page.specs.Tails.{IsTail};
 
 use byteorder::{ByteOrder, LittleEndian};
 
-/// Returns the number in the last eight bytes of a key, or `None` if the key is shorter.
+/// Returns the number in the last eight bytes of a key, or `None` if the key has fewer bytes.
 pub fn tail_of(key: &[u8]) -> Option<u64>
     ensures { IfSome result (IsTail key.now) }
 {

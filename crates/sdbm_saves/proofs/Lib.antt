@@ -1,3 +1,4 @@
+pub mod Counts
 pub mod Drafts
 pub mod Knowing
 pub mod Lists

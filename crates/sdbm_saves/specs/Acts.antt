@@ -1,4 +1,4 @@
--- The files after a list of recorded calls, and the images that a crash may leave then.
+-- The files after a list of recorded calls, and the images that a crash may leave after these calls.
 use Rattle.std.specs.Prelude.{◌≡◌, ◌≤◌, ℕ, List, [], ◌∷◌, ◌++◌, length, take, Result, Ok, Err}
 use Rattle.std.proofs.Common.{sym, subst, arith}
 use Rattle.std.proofs.lemmas.List.{take_all}
@@ -15,8 +15,7 @@ pub data Act : Type 0 where
   sync : DiskFile → Act
   clear : Act
 
--- The record after a call. A call that ran out of memory was not begun and is not added; every other call is added, even if the disk
--- failed.
+-- The record after a call. If memory ran out, the call was not begun and is not added; every other call is added, even if the disk failed.
 abbrev pub Notes : {T : Type 0} → Act → List Act → List Act → Result T DiskError → Type 0
 Notes act old new (Ok x) = new ≡ old ++ act ∷ []
 Notes act old new (Err Failed) = new ≡ old ++ act ∷ []
@@ -33,7 +32,7 @@ abbrev pub seen_after : List Act → Image → Image
 seen_after [] image = image
 seen_after (act ∷ acts) image = seen_after acts (acted act image)
 
--- the images that a crash may leave after a call, if `before` are those that it may leave before the call
+-- the images that a crash may leave after a call, if a crash may leave the images `before` before the call
 abbrev pub LeftBy : Act → Image → (Image → Type 0) → Image → Type 0
 LeftBy (write file at bytes) image before c = (d : Image) × before d × Within file (Torn at bytes) d c
 LeftBy (resize file len) image before c = (d : Image) × before d × Within file (TornLength len) d c

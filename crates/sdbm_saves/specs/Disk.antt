@@ -39,14 +39,14 @@ pub record Torn (at : ℕ) (bytes old new : List ℕ) : Type 0 where
   pub no_shorter : length old ≤ length new
   pub no_longer : length new ≤ max (length old) (at + length bytes)
 
--- The result of a change of length that a crash interrupts: the length is between the old and the new one. Bytes below the new length are
--- the old ones, with zeros after the old end; bytes above the new length are unspecified.
+-- The result of a change of length that a crash interrupts: a length between the old and the new length. Bytes below the new length are
+-- the old bytes, with zeros after the old end; bytes above the new length are unspecified.
 pub record TornLength (n : ℕ) (old new : List ℕ) : Type 0 where
   pub same : (i : ℕ) → i < n → get_or new i 0 ≡ get_or old i 0
   pub no_shorter : min n (length old) ≤ length new
   pub no_longer : length new ≤ max n (length old)
 
--- the result of a removal that a crash interrupts: the file still exists, or it is empty
+-- the result of a removal that a crash interrupts: the file is unchanged or empty
 abbrev pub Gone : List ℕ → List ℕ → Type 0
 Gone old new = (new ≡ old) ⊎ (new ≡ [])
 
@@ -55,7 +55,7 @@ pub record Within (file : DiskFile) (step : List ℕ → List ℕ → Type 0) (o
   pub stepped : step (content file old) (content file new)
   pub others : new ≡ put file (content file new) old
 
--- each image that a crash may leave now results by this step from an image that a crash might have left before
+-- each image in `new` results by this step from an image in `old`
 abbrev pub Follows : (Image → Image → Type 0) → (Image → Type 0) → (Image → Type 0) → Type 0
 Follows step old new = (c : Image) → new c → (d : Image) × old d × step d c
 
@@ -67,7 +67,7 @@ Only image outcomes = (c : Image) → outcomes c → c ≡ image
 abbrev pub IsKept : DiskFile → Image → (Image → Type 0) → Type 0
 IsKept file image outcomes = (c : Image) → outcomes c → content file c ≡ content file image
 
--- Time passes. A crash since time t might have left an image that it might have left before, or one that it may leave now.
+-- Time passes. Each image that a crash since time t might have left was possible before, or is an image that a crash may leave now.
 pub record Elapses (before now : ℕ) (past since : ℕ → Image → Type 0) (may_leave : Image → Type 0) : Type 0 where
   pub later : before ≤ now
   pub nothing_else : (t : ℕ) (c : Image) → t ≤ before → since t c → past t c ⊎ may_leave c
@@ -77,10 +77,10 @@ pub record Elapses (before now : ℕ) (past since : ℕ → Image → Type 0) (m
 pub record LeavesOnly {D : Type 0} (moment : D → ℕ) (left_since : D → ℕ → Image → Type 0) (old new : D) (P : Image → Type 0) : Type 0 where
   pub later : moment old ≤ moment new
   pub each : (c : Image) → left_since new (moment old) c → P c
-  -- the same since an earlier time t: an image that was possible before, or one that satisfies P
+  -- a crash since an earlier time t leaves an image that was possible before, or an image that satisfies P
   pub before : (t : ℕ) (c : Image) → t ≤ moment old → left_since new t c → left_since old t c ⊎ P c
 
--- A crash during or after this call leaves only images that result by the step from an image that a crash might have left before the call.
+-- A crash during or after this call leaves only results of the step on images that a crash might have left before the call.
 pub record Through {D : Type 0} (moment : D → ℕ) (left_since : D → ℕ → Image → Type 0) (may_leave : D → Image → Type 0) (step : Image → Image → Type 0) (old new : D) : Type 0 where
   pub crash : Follows step (may_leave old) (may_leave new)
   pub moments : LeavesOnly moment left_since old new (λ c. (d : Image) × may_leave old d × step d c)

@@ -56,7 +56,7 @@ Puts at old new before after =
 abbrev pub ReadsAt : ℕ → List ℕ → ℕ → List ℕ → Type 0
 ReadsAt at old size file = (i : ℕ) → i < size → get_or old i 0 ≡ get_or file (at + i) 0
 
--- `after` is `before` and more changes, which write the new bytes over the old ones at an offset of a file and contain the old bytes
+-- `after` is `before` and more changes; these write the new bytes over the old bytes at an offset of a file, and contain the old bytes
 pub record HasPut (pages directory : ℕ) (both : List ℕ × List ℕ) (file : DiskFile) (at : ℕ) (old new : List ℕ) (few : ℕ) (before : List ℕ) (many : ℕ) (after : List ℕ) : Type 0 where
   pub changes : AreChanges pages directory both many after
   pub put : (x : List ℕ) → Puts at old new (replayed file few before x) (replayed file many after x)

@@ -1,4 +1,4 @@
--- The knowledge that a save has of a database's files if it did not read all pages.
+-- The bytes that a save knows of a database's files if it did not read all pages.
 use Rattle.std.specs.Prelude.{◌≡◌, ◌≢◌, ℕ, ◌+◌, ◌-◌, ◌*◌, ◌/◌, ◌<◌, ◌≤◌, List, [], length, get_or, Contains}
 use Rattle.sdbm_addr.specs.declared.PageSize.{PageSize}
 use Rattle.sdbm_addr.specs.Pairs.{page_bytes}
@@ -51,8 +51,8 @@ pub record HasPages (db : Database) (numbers : List ℕ) (whole : ℕ) (old new 
 abbrev pub ReadPages : PageSize → List ℕ → List ℕ → List ℕ → Type 0
 ReadPages size numbers pages pag = (j i : ℕ) → j < length numbers → i < page_bytes size → get_or pages (j * page_bytes size + i) 0 ≡ get_or pag (get_or numbers j 0 * page_bytes size + i) 0
 
--- `after` is `before` and more changes, which write the listed pages of the database and contain their old bytes; no change in `before`
--- writes to `.pag`
+-- `after` is `before` and more changes; these write the listed pages of the database, and contain the old bytes of the pages; no change in
+-- `before` writes to `.pag`
 pub record HasPutPages (db : Database) (numbers : List ℕ) (pages directory : ℕ) (both : List ℕ × List ℕ) (few : ℕ) (before : List ℕ) (many : ℕ) (after : List ℕ) : Type 0 where
   pub changes : AreChanges pages directory both many after
   pub file : HasPages db numbers pages both.0 (replayed Pages many after (resized pages both.0))

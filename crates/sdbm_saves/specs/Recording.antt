@@ -22,6 +22,6 @@ part_pages part size = resized part.len (replicate (part.number * page_bytes siz
 abbrev pub part_image : FoundPart → Image
 part_image found = record { pages = part_pages found.part found.size; directory = found.part.directory.now; redo = found.redo.now }
 
--- the encoding of an image, which a ghost field needs
+-- the encoding of images; a ghost field that has an image needs it
 abbrev pub coded_image : Coded Image
 coded_image = code_by ((List ℕ × List ℕ) × List ℕ) (coded× (coded× (coded_list coded_ℕ) (coded_list coded_ℕ)) (coded_list coded_ℕ)) (λ image. ((image.pages, image.directory), image.redo)) (λ p. record { pages = p.0.0; directory = p.0.1; redo = p.1 }) (λ _. refl)

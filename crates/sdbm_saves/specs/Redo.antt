@@ -1,9 +1,9 @@
--- The format and the meaning of a redo file. The file has a commit byte (mark), which is 1 if the save is committed, and the plan of the
--- save. A plan has an eight-byte signature, the new lengths of the pages and the directory, their old lengths, the number of changes, and
--- the changes; nothing follows the last change. A change has a file (0 for the pages, otherwise the directory), an offset, a length, the
--- new bytes, and the old bytes; bytes past the end of a file count as zeros. Numbers have four bytes, little-endian. This is a redo log
--- with the blocks before and after: one write commits it, and it may be replayed any number of times (Gray and Reuter, Transaction
--- Processing 1993, chapters 9 and 10).
+-- The format and the meaning of a redo file with a single save (specs/Log.antt of sdbm_log defines a log of saves). The file has a commit
+-- byte (mark), which is 1 if the save is committed, and the plan of the save. A plan has an eight-byte signature, the new lengths of the
+-- pages and the directory, their old lengths, the number of changes, and the changes; nothing follows the last change. A change has a file
+-- (0 for the pages, otherwise the directory), an offset, a length, the new bytes, and the old bytes; bytes past the end of a file count as
+-- zeros. Numbers have four bytes, little-endian. This is a redo log with old and new bytes: one write commits a plan, and the plan may be
+-- applied any number of times (Gray and Reuter, Transaction Processing 1993, chapters 9 and 10).
 use Rattle.std.specs.Prelude.{◌<◌, ◌≡◌, ◌≢◌, ◌⊎◌, ℕ, zero, suc, ◌+◌, ◌*◌, ◌≤◌, List, [], ◌∷◌, length, take, drop, get_or, if◌then◌else◌, ◌==◌, min, max}
 use Rattle.sdbm_saves.specs.declared.disk.DiskFile.{DiskFile}
 use Rattle.sdbm_saves.specs.declared.disk.DiskFile.TheVariants.{Pages, Directory, Redo}
@@ -119,7 +119,7 @@ pub record IsChangeOf (plan change : List ℕ) : Type 0 where
   pub counted : index < count_of plan
   pub is : change ≡ rest_after index (changes_of plan)
 
--- The change covers this offset of the file, and `byte` is its new byte or its old byte there.
+-- The change covers this offset of the file, and `byte` is the new or the old byte of the change at this offset.
 pub record Offers (change : List ℕ) (file : DiskFile) (at byte : ℕ) : Type 0 where
   pub touches : file_of change ≡ file
   pub index : ℕ
@@ -154,13 +154,13 @@ pub record Knows (plan : List ℕ) (both : List ℕ × List ℕ) : Type 0 where
   pub directory : IsBetween (old_length Directory plan) (new_length Directory plan) (length both.1)
   pub bytes : (change : List ℕ) → IsChangeOf plan change → KnowsBlock plan change (data_in both (file_of change))
 
--- An interrupted save can be recovered. If the commit byte is 1, a complete plan follows that knows the files; otherwise there is nothing
--- to recover.
+-- An interrupted save can be recovered: if the commit byte is 1, the bytes after it are a plan that knows the files. Otherwise there is
+-- nothing to recover.
 abbrev pub CanEnd : Image → Type 0
 CanEnd image = mark_of image ≡ 1 → IsPlan (drop 1 image.redo) × Knows (drop 1 image.redo) (files image)
 
--- The images have the same redo file, and the plan has the same result on both. If the plan knows the files of `old`, it knows those of
--- `new`.
+-- The images have the same redo file, and the plan has the same result on both. If the plan knows the files of `old`, it also knows the
+-- files of `new`.
 pub record Alike (plan : List ℕ) (old new : Image) : Type 0 where
   pub redo : new.redo ≡ old.redo
   pub same : renewed_files plan new ≡ renewed_files plan old

@@ -10,8 +10,8 @@ use crate::spans::changed_span;
 use sdbm_files::BLOCK;
 use std::alloc::{AllocError, Allocator};
 
-// Adds a change for each block of `new` that differs from the old bytes at `from`. `old` may be shorter than `new`: the missing bytes are
-// zeros.
+// Adds a change for each block of `new` that differs from `old`; both begin at offset `from` of the file. `old` may be shorter than `new`:
+// the missing bytes are zeros.
 pub(crate) fn draft_bytes<A: Allocator + Copy>(
     alloc: A,
     draft: &mut Draft<A>,
@@ -48,8 +48,8 @@ pub(crate) fn draft_bytes<A: Allocator + Copy>(
     Ok(())
 }
 
-// Adds one change if the block at `at` differs from `known`. The change covers only the part that differs. `known` may be shorter than the
-// block: the missing bytes are zeros.
+// Adds one change if the block at `at` differs from `known`, its old bytes. The change covers only the `changed_span` of the block. `known`
+// may be shorter than the block: the missing bytes are zeros.
 pub(crate) fn draft_block<A: Allocator>(
     alloc: A,
     draft: &mut Draft<A>,
@@ -84,7 +84,7 @@ pub(crate) fn draft_block<A: Allocator>(
     Ok(())
 }
 
-// Returns `true` if `old` from `at` on equals `block`. Bytes past the end of `old` count as zeros.
+// Returns `true` if `old` contains `block` at offset `at`. Bytes past the end of `old` count as zeros.
 pub(crate) fn reads_as(old: &[u8], at: usize, block: &[u8]) -> bool
     requires { at + length block.now < 2 ^ 63 }
     ensures { IsTrue result ↔ ((i : ℕ) → i < length block.now → get_or block.now i 0 ≡ get_or old.now (at + i) 0) }
@@ -102,7 +102,7 @@ fn is_same(one: &[u8], other: &[u8]) -> bool
     one == other
 }
 
-// Returns `true` if `block` is `kept` padded with zeros.
+// Returns `true` if `block` is `kept`, padded with zeros.
 fn is_padded(kept: &[u8], block: &[u8]) -> bool
     ensures { IsTrue result ↔ ((i : ℕ) → i < length block.now → get_or block.now i 0 ≡ get_or kept.now i 0) }
 {

@@ -1,4 +1,4 @@
-// A log of the calls to the system's files.
+// A log of the system calls on the three files.
 ghost use Rattle.std.specs.Prelude.{◌≡◌, ◌++◌, ◌∷◌, [], length, OnOk, IfOk, OnErr};
 ghost use Rattle.sdbm_saves.specs.Acts.{write, resize, sync, clear};
 
@@ -6,7 +6,7 @@ use crate::DiskFile;
 use std::alloc::{AllocError, Global};
 use std::mem;
 
-/// The number of calls for which a log has room from the start: those of a save up to its commit byte, or of a recovery without a plan.
+/// The number of calls for which a new log has room: enough for the commit of a save that needs no new blocks of the disk.
 const FIRST_CALLS: usize = 16;
 
 // A call that was begun. A sync is logged only after it succeeded.
@@ -27,8 +27,7 @@ pub enum Call {
     Clear,
 }
 
-/// A log of calls for a `Host`. Memory for the first calls, and for a write of one byte, is allocated at the start, so a save cannot run
-/// out of memory between printing its answers and writing its commit byte.
+/// A log of calls for a `Host`. A new log already has memory for the first `FIRST_CALLS` calls, and for the bytes of a write of one byte.
 #[derive(Drop)]
 pub struct CallLog {
     alloc: Global,

@@ -13,11 +13,11 @@ pub enum DiskFile {
     Pages,
     /// `.dir`, the directory.
     Directory,
-    /// `.redo`, the commit byte (mark) and the plan of a save.
+    /// `.redo`, the redo file: a commit byte (mark), then the plan of a single save or a log of plans.
     Redo,
 }
 
-/// The reason why a disk call failed, or an operation that makes such calls.
+/// The reason why a disk call, or an operation that makes disk calls, failed.
 #[derive(Clone, Copy, Debug, PartialEq, Eq)]
 pub enum DiskError {
     /// Out of memory. Some of the work may have been done.
@@ -36,9 +36,9 @@ impl From<AllocError> for DiskError {
 
 /// A device with the three files. A crash may happen at any time.
 ///
-/// `seen` is the image that reads return. `may_leave` holds for each image that a crash may leave now: writes reach the disk in any order
-/// and in part, except those that were synced. `left_since` holds for each image that a crash might have left at any time since a given
-/// time, even during a call.
+/// `seen` is the image that reads return. `may_leave` holds for each image that a crash may leave now: writes that are not synced reach the
+/// disk in any order and in part. `left_since` holds for each image that a crash might have left at any time since a given time, even
+/// during a call.
 pub trait Disk {
     /// The image that reads return.
     ghost seen: { Self → Image };
@@ -64,8 +64,8 @@ pub trait Disk {
         ensures time { Elapses (moment self.old) (moment self.new) (left_since self.old) (left_since self.new) (may_leave self.new) }
         ensures cause { HasCause (has_failed self.old) (has_failed self.new) result };
 
-    /// Truncates the file, or extends it with zeros. Until this file is synced, a crash may leave a length between the old and the new one,
-    /// and any bytes past the new one.
+    /// Truncates the file, or extends it with zeros. Until this file is synced, a crash may leave any length between the old and the new
+    /// length, and any bytes past the new length.
     fn resize(&mut self, file: DiskFile, len: usize) -> Result<(), DiskError>
         ensures resized { OnOk result (seen self.new ≡ put file (resized len (content file (seen self.old))) (seen self.old)) }
         ensures crash { Follows (Within file (TornLength len)) (may_leave self.old) (may_leave self.new) }
@@ -80,19 +80,19 @@ pub trait Disk {
         ensures time { Elapses (moment self.old) (moment self.new) (left_since self.old) (left_since self.new) (may_leave self.new) }
         ensures cause { HasCause (has_failed self.old) (has_failed self.new) result };
 
-    /// Removes the redo file, which then reads as empty. Until the next sync of the redo file, a crash may leave the old one.
+    /// Removes the redo file, which then reads as empty. Until the next sync of the redo file, a crash may leave the old file.
     fn clear(&mut self) -> Result<(), DiskError>
         ensures cleared { OnOk result (seen self.new ≡ put Redo [] (seen self.old)) }
         ensures crash { Follows (Within Redo Gone) (may_leave self.old) (may_leave self.new) }
         ensures time { Elapses (moment self.old) (moment self.new) (left_since self.old) (left_since self.new) (may_leave self.new) }
         ensures cause { HasCause (has_failed self.old) (has_failed self.new) result };
 
-    /// Returns `true` if an empty redo file may stay, because all users who may change the data files can use it.
+    /// Returns `true` if an empty redo file may stay, because all users who may change the data files can use the redo file.
     fn keeps_redo(&self) -> bool;
 
-    /// An image that a crash may leave now is one that a crash might have left since any earlier time.
+    /// If a crash may leave an image now, a crash might have left the image since any earlier time.
     ghost counts_now: { (disk : Self) (t : ℕ) (c : Image) → t ≤ moment disk → may_leave disk c → left_since disk t c };
 
-    /// An image that a crash might have left since now is one that a crash may leave now.
+    /// If a crash might have left an image since now, a crash may leave the image now.
     ghost only_now: { (disk : Self) (c : Image) → left_since disk (moment disk) c → may_leave disk c };
 }

@@ -1,4 +1,4 @@
-// The files that a run read, for contracts only.
+// A ghost value for the files that a run read.
 ghost use Rattle.std.specs.Prelude.{◌≡◌};
 ghost use Rattle.sdbm_saves.specs.Disk.{Image};
 ghost use Rattle.sdbm_saves.specs.Recording.{coded_image, image_of};

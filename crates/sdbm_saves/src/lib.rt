@@ -4,6 +4,7 @@
 
 mod blocks;
 mod call_log;
+mod counting;
 mod disk;
 mod drafting;
 mod ghost_image;

@@ -6,6 +6,7 @@ ghost use Rattle.sdbm_saves.specs.Parts.{IsMarkedIn};
 ghost use Rattle.sdbm_addr.specs.Pairs.{page_bytes};
 
 use crate::blocks::draft_bytes;
+use crate::counting::count_marked;
 use crate::drafting::{Draft, assemble};
 use crate::part::{MOST, draft_parts};
 use crate::planning::LIMIT;
@@ -13,7 +14,7 @@ use crate::{DiskFile, SavePlanFault};
 use sdbm_files::Image;
 use std::alloc::Allocator;
 
-/// The bytes that are read for a save if it is known which pages may have changed since the last read or save.
+/// The old bytes that a save needs if the pages that may have changed since the last read or save are known.
 #[derive(Clone, Copy)]
 pub struct Marked<'a> {
     /// The bytes of `.dir`.
@@ -26,9 +27,9 @@ pub struct Marked<'a> {
     pub pages: &'a [u8],
 }
 
-/// Plans a save for a database that differs from its files only on the listed pages and in the directory. The time is proportional to the
-/// size of the listed pages and the directory. If the numbers ascend, the plan equals that of `plan_read`. Returns `None` if the files are
-/// already those of the database. Allocates the plan and one block.
+/// Plans a save for a database that differs from its files only on the listed pages and in the directory. Compares only these pages and
+/// the directory. If the numbers ascend, the plan equals that of `plan_read`. Returns `None` if the files are already those of the
+/// database. Allocates the plan, up to three times while it is made.
 ///
 /// # Errors
 ///
@@ -45,7 +46,7 @@ pub fn plan_marked<A: Allocator + Copy>(
     ensures none { IfOk result (λ plan. IsNone plan → (pag : List ℕ) → IsMarkedIn old.entry image.now pag → AreFilesFor image.now pag old.entry.directory.now) }
     ensures too_long { IfErr result (λ fault. fault ≡ TooLong → (2 ^ 22 < length old.entry.numbers.now) ⊎ ((pag : List ℕ) → IsMarkedIn old.entry image.now pag → IsTooLong image.now pag old.entry.directory.now)) }
 {
-    let count = image.page_count();
+    let count = count_marked(old, image);
     let pages = count as usize * image.page_size().bytes();
     let directory = image.directory_bytes();
     if pages >= LIMIT || directory.len() >= LIMIT {

@@ -47,7 +47,7 @@ pub fn lay_in(laid: &mut [u8], file: DiskFile, plan: &[u8])
     }
 }
 
-// Applies a change if it changes this file.
+// Applies the first change in `change` if it is a change of this file.
 fn lay_change(laid: &mut [u8], file: DiskFile, change: &[u8])
     requires data { file ≢ Redo }
     requires whole { span_of change.now ≤ length change.now }

@@ -17,10 +17,10 @@ use crate::{DiskFile, SavePlanFault};
 use sdbm_files::Image;
 use std::alloc::{AllocError, Allocator};
 
-/// The greatest number of pages of a file that has fewer than 2^32 bytes.
+/// The number of small pages in 2^32 bytes. A list of more pages is too long.
 pub(crate) const MOST: usize = 4194304;
 
-/// The bytes of a database's files that are known if only one page was read. Bytes of the page past the end of the file count as zeros.
+/// The bytes of a database's files that are known if only one page was read. Bytes past the end of `.pag` count as zeros.
 #[derive(Clone, Copy)]
 pub struct Part<'a> {
     /// The bytes of `.dir`.
@@ -33,10 +33,10 @@ pub struct Part<'a> {
     pub page: &'a [u8],
 }
 
-/// Plans a save if only one page was read. The plan writes the listed pages that changed; before the save, each of them is the page that
-/// was read, or all zeros. All other pages stay unchanged. The plan also writes the blocks of 1,024 bytes of the directory that differ.
-/// `.pag` grows if necessary and never shrinks. Each change has its old bytes next to the new ones, so the plan knows the old files.
-/// Returns `None` if nothing changes. Allocates the plan and the listed pages.
+/// Plans a save if only one page was read. The plan changes only the listed pages and the directory. Before the save, each listed page is
+/// the page that was read, or all zeros. Each changed block of 1,024 bytes is one change. `.pag` grows if necessary and never shrinks. Each
+/// change has its old bytes next to the new ones, so the plan knows the old files. Returns `None` if nothing changes. Allocates two copies
+/// of the plan, and the listed pages.
 ///
 /// # Errors
 ///
@@ -113,7 +113,7 @@ fn pages_before<A: Allocator + Copy>(
     Ok(pages)
 }
 
-// Returns the old bytes of page `number`: those that were read, or zeros.
+// Returns the old bytes of page `number`: the page that was read, or zeros.
 fn page_before<'a>(old: Part<'a>, number: u32, zeros: &'a [u8]) -> &'a [u8]
     ensures own { number ≡ old.entry.number → result.now ≡ old.entry.page.now }
     ensures other { number ≢ old.entry.number → result.now ≡ zeros.entry.now }

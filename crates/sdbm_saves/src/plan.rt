@@ -1,4 +1,4 @@
-// The plan of a save: the bytes of a redo file after the commit byte. specs/Redo.antt defines the format.
+// Reads the plan of a save. specs/Redo.antt defines the format.
 ghost use Rattle.std.specs.Prelude.{◌≡◌, ◌≢◌, ◌*◌, ◌<◌, ◌≤◌, ◌^◌, ◌+◌, ◌↔◌, length, take, drop, get_or, IsTrue, IfSome, IsNone, IfOk};
 ghost use Rattle.sdbm_saves.specs.Disk.{resized};
 ghost use Rattle.sdbm_saves.specs.Redo.{number_at, file_of, span_of, rest_of, signature, Fits, IsPlan};
@@ -11,7 +11,7 @@ pub(crate) const MARKED: u8 = 1;
 /// The first bytes of every plan.
 pub(crate) const SIGNATURE: [u8; 8] = *b"sdbmred2";
 
-/// Reads four bytes as a little-endian number.
+/// Returns the number in the four bytes from `at` on, little-endian.
 #[tactic(auto, unfolding(crate::specs::Redo::number_at))]
 pub fn number(bytes: &[u8], at: usize) -> usize
     requires { at + 4 ≤ length bytes.now }
@@ -88,8 +88,8 @@ pub fn is_plan(plan: &[u8]) -> bool
     rest.is_empty()
 }
 
-/// Returns the plan of a redo file whose commit byte is 1: the bytes after the commit byte. Returns `None` if there is no redo file, or if
-/// a save was interrupted before its commit.
+/// Returns the bytes after the commit byte of a redo file, or `None` if the commit byte is not 1 or the file is empty. If the file has a
+/// single save, these bytes are its plan.
 pub fn plan_in(redo: &[u8]) -> Option<&[u8]>
     ensures some { IfSome result (λ plan. (get_or redo.now 0 0 ≡ 1) × (plan.now ≡ drop 1 redo.now)) }
     ensures none { IsNone result → get_or redo.now 0 0 ≢ 1 }
@@ -100,7 +100,7 @@ pub fn plan_in(redo: &[u8]) -> Option<&[u8]>
     }
 }
 
-// Truncates the bytes, or extends them with zeros.
+// Returns a copy of the bytes, truncated or extended with zeros to `len` bytes.
 pub(crate) fn resized<A: Allocator>(
     alloc: A,
     old: &[u8],

@@ -4,7 +4,7 @@ ghost use Rattle.sdbm_saves.specs.declared.planning.SavePlanFault.TheVariants.{N
 
 use std::alloc::AllocError;
 
-/// Files have fewer bytes than this, so an offset fits in four bytes.
+/// The least length in bytes of a file that is too long: offsets must fit in four bytes.
 pub(crate) const LIMIT: usize = 4294967296;
 
 /// The reason why a save cannot be planned.

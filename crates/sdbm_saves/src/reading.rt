@@ -26,10 +26,10 @@ pub struct ReadFiles<'a, A: Allocator> {
     pub directory: &'a [u8],
 }
 
-/// Plans a save that turns the old files into the files that `Image::write` writes for the database. The plan writes the blocks of 1,024
-/// bytes that differ, those of the directory first. Bytes past the end of a file count as zeros, so a page of zeros is not written into a
-/// hole. Each change has its old bytes next to the new ones, so the plan knows the old files. Returns `None` if the old files are already
-/// those of the database. Allocates the plan and one block.
+/// Plans a save that turns the old files into the files that `Image::write` writes for the database. The plan has one change for each block
+/// of 1,024 bytes that differs, first in the directory, then in the pages. Bytes past the end of a file count as zeros, so a page of zeros
+/// is not written into a hole. Each change has its old bytes next to the new ones, so the plan knows the old files. Returns `None` if the
+/// old files are already those of the database. Allocates the plan, up to three times while it is made.
 ///
 /// # Errors
 ///
@@ -63,7 +63,7 @@ pub fn plan_kept<A: Allocator + Copy>(
     plan_pages(alloc, OldPages::Kept(old.pages), old.directory, image)
 }
 
-/// Makes a plan that changes neither file. Its record sets the commit byte of a log before the first save.
+/// Makes a plan that changes neither file. Saving this plan in a new log sets the commit byte of the log before the first change.
 ///
 /// # Errors
 ///
@@ -117,7 +117,7 @@ impl<'a, A: Allocator + Copy> OldPages<'a, A> {
     }
 }
 
-// Borrows a block like `OldPages::block`, from bytes in memory.
+// Borrows a block of bytes in memory, like `OldPages::block`.
 fn block_in(bytes: &[u8], index: usize) -> &[u8]
     requires { index ≤ 2 ^ 22 }
     ensures { IsBlock bytes.now index result.now }
@@ -126,7 +126,7 @@ fn block_in(bytes: &[u8], index: usize) -> &[u8]
     &tail[..tail.len().min(BLOCK)]
 }
 
-// Plans the save for both kinds of old pages.
+// Plans a save like `plan_read`, from either kind of old pages.
 fn plan_pages<A: Allocator + Copy>(
     alloc: A,
     old: OldPages<'_, A>,

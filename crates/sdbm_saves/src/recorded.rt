@@ -42,8 +42,8 @@ pub struct FoundRead<'a> {
     pub redo: &'a [u8],
 }
 
-/// The three files, as far as a run read them. Pages that were not read count as zeros: a plan that knows the image with zeros also knows
-/// every file that has the bytes that were read (`plan_part`).
+/// The three files, as far as a run read them. Pages that were not read count as zeros. This is sound for plans of `plan_part`: a plan that
+/// knows this image also knows every file with the bytes that were read.
 pub trait Before {
     ghost image: { Self → Image };
 }
@@ -71,8 +71,8 @@ impl Before for FoundPart<'_> {
 }
 
 /// The system calls on the three files, with a record of the calls that were begun and the syncs that succeeded. No contract specifies the
-/// effect of a call on a file. The trusted assumption is that each call does what the `Disk` method of the same name specifies. `CallLog`
-/// is such a record.
+/// effect of a call on a file. The trusted assumption is that each call does what the `Disk` method of the same name specifies. A `CallLog`
+/// can store the record.
 pub trait Host {
     /// The calls, oldest first.
     ghost calls: { Self → List Act };
@@ -120,8 +120,8 @@ pub struct Recorded<H: Host, P: Past, F: Before> {
 }
 
 impl<H: Host, P: Past, F: Before> Recorded<H, P, F> {
-    /// Makes a disk of the three files that were read. `P` holds for the images that a crash might have left before. The bytes need not be
-    /// durable.
+    /// Makes a disk of the three files that were read. `P` holds for the images that a crash might have left before. The bytes that were
+    /// read need not be durable.
     pub fn new(host: H, found: F) -> Self
         requires { H.calls host ≡ [] }
         ensures seen { (⟦<Recorded<H, P, F> as Disk>⟧).seen result ≡ F.image found }

@@ -4,7 +4,7 @@ ghost use Rattle.sdbm_saves.specs.Drafts.{AreOutside};
 
 use crate::blocks::reads_as;
 
-// The length in bytes of a part of a block. Changes begin and end between two parts, so a change may also contain bytes that do not differ.
+// The length in bytes of a part of a block. A change consists of whole parts, so it may also contain bytes that do not differ.
 const PART: usize = 128;
 
 /// A range of bytes in a block.
@@ -15,8 +15,8 @@ pub(crate) struct Span {
 }
 
 /// Returns the span of a block that a change has to write, from the first part that differs to the last. If all old bytes of this span are
-/// zeros, the result is the whole block. So if a change has only zeros as old bytes, it covers a whole block that was all zeros and may be
-/// a hole. Bytes past the end of `known` are zeros.
+/// zeros, the result is the whole block. A change whose old bytes are all zeros therefore covers a whole block, which may be a hole. Bytes
+/// past the end of `known` are zeros.
 pub(crate) fn changed_span(known: &[u8], block: &[u8]) -> Span
     requires short { length block.now < 2 ^ 32 }
     ensures outside { AreOutside known.now block.now result.start result.end (length block.now) }

@@ -27,7 +27,7 @@ pub record LooksSmall (kind : KeyBytes) (dir : List ℕ) (n : ℕ) (page : List 
   pub written : IsWritten page
   pub part : IsSmallPart kind dir (8 * n) (take 1024 page)
 
--- wide page n is the first one that is not all zeros
+-- wide page n is the first wide page that is not all zeros
 pub record IsFirstWritten (pag : List ℕ) (n : ℕ) : Type 0 where
   pub low : n < most_pages Wide
   pub inside : (n + 1) * 8192 ≤ length pag

@@ -1,4 +1,4 @@
-//! Copies pages out of a `.pag` that was read in blocks.
+//! Copies pages of a `.pag` that was read in pieces.
 ghost use Rattle.std.specs.Prelude.{◌≡◌, ◌<◌, ◌≤◌, ◌+◌, ◌*◌, ◌-◌, ◌++◌, length, replicate, IfOk, OnOk};
 ghost use Rattle.sdbm_addr.specs.declared.PageSize.TheVariants.{Wide};
 ghost use Rattle.sdbm_addr.specs.Files.{page_at};
@@ -7,7 +7,7 @@ ghost use Rattle.sdbm_files.specs.Limits.{most_pages};
 use sdbm_files::{BLOCK, ReadPages};
 use std::alloc::{AllocError, Allocator};
 
-/// Copies wide page `number`.
+/// Copies wide page `number`, or returns an error if allocation fails.
 pub fn copy_page<A: Allocator + Copy>(
     alloc: A,
     pag: &ReadPages<A>,

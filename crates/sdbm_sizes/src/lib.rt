@@ -49,8 +49,8 @@ pub fn page_looks_small<A: Allocator + Copy>(
     is_small_part(alloc, dir, kind, 8 * number, first)
 }
 
-// Returns `true` if some database with small pages has this directory and this page. The page is tested first: a wide page seldom reads as
-// a small one, so the directory is seldom read.
+// Returns `true` if some database with small pages has this directory and this page. Tests the page first: a wide page seldom reads as a
+// small page, so the directory is seldom read.
 fn is_small_part<A: Allocator + Copy>(
     alloc: A,
     dir: &[u8],
@@ -84,8 +84,8 @@ fn is_small_page<A: Allocator + Copy>(alloc: A, page: &[u8]) -> Result<bool, All
     }
 }
 
-/// Returns `true` if the bytes of a `.pag` look small: the first wide page that is not all zeros looks small. The result is `true` for
-/// every database with small pages and at most 1 GiB, unless all whole wide pages of its file are zeros.
+/// Returns `true` if the first wide page of a `.pag` that is not all zeros looks small. The result is `true` for every database with small
+/// pages and at most 1 GiB, unless all whole wide pages of its `.pag` are zeros.
 ///
 /// # Errors
 /// `AllocError` if allocation fails.
@@ -107,7 +107,7 @@ pub fn bytes_look_small<A: Allocator + Copy>(
     Ok(false)
 }
 
-/// Like `bytes_look_small`, for a `.pag` that was read in blocks.
+/// Like `bytes_look_small`, for a `.pag` that was read in pieces.
 ///
 /// # Errors
 /// `AllocError` if allocation fails.

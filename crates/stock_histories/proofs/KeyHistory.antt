@@ -9,11 +9,11 @@ use Rattle.store_cmd.specs.Answers.{saves, removes}
 use Rattle.stock_programs.specs.Lengths.{short_code}
 use Rattle.stock_histories.specs.Turns.{Turn, NeverFalls}
 
--- The record after a run on it, or on a blank if it is missing.
+-- The record after a run on it, or on a blank if there is no record.
 abbrev pub left_at : Option (List ℕ) → Outcome → Option (List ℕ)
 left_at r o = cond (saves o.code) (Some o.bytes) (cond (removes o.code) None r)
 
--- A run is given the record, or zeros if it is missing.
+-- A run gets the record, or zeros if there is no record.
 abbrev pub IsGiven : Option (List ℕ) → List ℕ → Type 0
 IsGiven r given = (r ≡ Some given) ⊎ ((r ≡ None) × ((n : ℕ) × (given ≡ replicate n 0)))
 
@@ -51,7 +51,7 @@ pub kept : (program : List Insn) (P : Option (List ℕ) → Type 0) (step : (r r
 kept program P step r r' [] h p = subst (λ (x : Option (List ℕ)). P x) (sym h) p
 kept program P step r r' (t ∷ ts) h p = kept program P step h.0 r' ts h.1.1 (step r h.0 t h.1.0 p)
 
--- The same if each turn has a property too.
+-- The same if each turn has another property.
 pub kept_by : (program : List Insn) (P : Option (List ℕ) → Type 0) (Q : Turn → Type 0)
     (step : (r r' : Option (List ℕ)) (t : Turn) → RunsTo program r t r' → Q t → P r → P r')
     → (r r' : Option (List ℕ)) (ts : List Turn) → KeyHistory program r ts r' → AllByRecursion Q ts → P r → P r'
@@ -66,7 +66,7 @@ is_one code = code == 1
 pub saved : (r : Option (List ℕ)) (o : Outcome) → o.code ≡ 1 → left_at r o ≡ Some o.bytes
 saved r o e = rw e refl
 
--- A code other than 1 and 2 changes nothing.
+-- The codes 0, 3 and 4 change nothing.
 pub unchanged : (r : Option (List ℕ)) (o : Outcome) → o.code ≡ 0 → left_at r o ≡ r
 unchanged r o e = rw e refl
 

@@ -1,4 +1,4 @@
--- No more is taken out of a token bucket than was in it and flowed in: the record has the time at which it is full.
+-- The costs taken from a token bucket are at most its capacity plus the inflow: the record has the time at which it is full.
 use Rattle.std.proofs.Common.{ℕ, ◌≡◌, inl, inr, ◌+◌, ◌-◌, ◌<◌, ◌≤◌, ◌==◌, ◌^◌, refl, sym, ap, ◌∙◌, subst, List, [], ◌∷◌, ◌++◌, cond, false, length, Option, Some, arith}
 use Rattle.std.specs.List.{AllByRecursion}
 use Rattle.std.specs.FinMap as map

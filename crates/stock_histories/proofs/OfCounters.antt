@@ -23,7 +23,7 @@ once bytes long = record {
   number_is = read_written bytes 0 (next (number_at 0 bytes)) (omega arith) (omega arith);
 }
 
--- the bytes that a run is given of a counter
+-- the bytes that a run on a counter gets
 seen : (r : Option (List ℕ)) (given : List ℕ) (n : ℕ) → Shows r n → IsGiven r given → (8 ≤ length given) × (number_at 0 given ≡ n)
 seen r given n h (inl is) = subst (λ (v : List ℕ). (8 ≤ length v) × (number_at 0 v ≡ n)) (same_Some _ _ (sym h.is ∙ is)) (h.long, h.number_is)
 seen r given n h (inr none) = let no : Some h.value ≡ None = sym h.is ∙ none.0 in absurd cc

@@ -37,7 +37,7 @@ after_end bytes end long = record {
   token_is = read_after bytes 8 16 end (omega arith) (omega arith);
 }
 
--- The record's token is not below this one; if it is this one, so is the owner.
+-- The record's token is at least this one; if they are equal, so are the owners.
 record IsPast (r : Option (List ℕ)) (who new : ℕ) : Type 0 where
   value : List ℕ
   is : r ≡ Some value
@@ -76,7 +76,7 @@ token_given r r' t s gives =
       | inr (inr (inr (inr (inr g)))) ↦ let c : s.outcome.code ≡ 4 = g.code_is in absurd (omega arith)
     ]
 
--- the same of the bytes that a run is given
+-- the same for the bytes that a run gets
 record IsPastIn (given : List ℕ) (who new : ℕ) : Type 0 where
   low : new ≤ token given
   same : token given ≡ new → owner given ≡ who

@@ -25,7 +25,7 @@ record Holds (r : Option (List ℕ)) (who end : ℕ) : Type 0 where
 obeyed : (r r' : Option (List ℕ)) (t : Turn) (s : RunsTo lease r t r') → Leases s.given t.argument s.env s.outcome
 obeyed r r' t s = leases.obeys s.given t.argument s.env s.outcome s.input s.ends
 
--- a grant is held
+-- a granted lease is held
 written : (bytes : List ℕ) (who end : ℕ) → 16 ≤ length bytes → who < 2 ^ 64 → end < 2 ^ 64 → Holds (Some (with_lease bytes who end)) who end
 written bytes who end long w e =
     let same : length (with_number bytes 0 who) ≡ length bytes = length_written bytes 0 who (omega arith) in
@@ -50,7 +50,7 @@ granted_holds r r' t s one = elim (obeyed r r' t s) [
   | inr (inr (inr b)) ↦ let c : s.outcome.code ≡ 4 = b.code_is in let d : t.code ≡ s.outcome.code = s.code_is in absurd (omega arith)
 ]
 
--- the bytes that a run is given of a lease that is held
+-- the bytes that a run on a held lease gets
 record Seen (given : List ℕ) (who end : ℕ) : Type 0 where
   long : 16 ≤ length given
   owner_is : owner given ≡ who
@@ -62,12 +62,12 @@ seen r given who end h (inl is) =
     subst (λ (v : List ℕ). Seen v who end) same (record { long = h.long; owner_is = h.owner_is; until_is = h.until_is })
 seen r given who end h (inr none) = let no : Some h.value ≡ None = sym h.is ∙ none.0 in absurd cc
 
--- while it lasts another asker may not take it
+-- while a lease lasts, another asker may not take it
 may_not : (bytes argument : List ℕ) (now who end : ℕ) → Seen bytes who end → now < end → asker argument ≢ who → MayTake bytes argument now → ⊥
 may_not bytes argument now who end s before other (inl over) = let u : until bytes ≡ end = s.until_is in omega arith
 may_not bytes argument now who end s before other (inr own) = other (sym own ∙ s.owner_is)
 
--- and it is unchanged, unless the owner is granted it again or gives it back
+-- a lasting lease is unchanged, unless its owner renews it or gives it back
 stays : (r r' : Option (List ℕ)) (t : Turn) (who end : ℕ) → RunsTo lease r t r' → Holds r who end → t.now < end
     → (Grants who t → ⊥) → KeepsLease who t → Holds r' who end
 stays r r' t who end s h before not_granted keeps =
@@ -115,7 +115,7 @@ both_ways t who = elim (cases_eq t.code 1) [
       ]
 ]
 
--- The owner holds the lease until its last end, or that is not after these times.
+-- The owner holds the lease until `end`, or `end` is not after `from`.
 abbrev Waits : Option (List ℕ) → ℕ → ℕ → ℕ → Type 0
 Waits r from who end = Holds r who end ⊎ (end ≤ from)
 

@@ -1,4 +1,4 @@
--- A window admits at most its number: the record counts the runs that it has admitted.
+-- A window admits at most the named number of runs: the record counts the admitted runs.
 use Rattle.std.proofs.Common.{ℕ, ◌≡◌, inl, inr, ◌+◌, ◌-◌, ◌<◌, ◌≤◌, ◌==◌, ◌^◌, refl, sym, ap, ◌∙◌, subst, List, [], ◌∷◌, ◌++◌, replicate, length, cond, false, Option, Some, None, arith}
 use Rattle.std.specs.List.{AllByRecursion}
 use Rattle.std.specs.FinMap as map
@@ -13,7 +13,7 @@ use Rattle.stock_histories.specs.LimitLaw.{Names, HasBegun, BeginsWindow, admitt
 use Rattle.stock_histories.proofs.KeyHistory.{IsGiven, RunsTo, KeyHistory, halves, times_after, kept, saved, is_one, unchanged, unchanged_if_short, given_is}
 use Rattle.stock_histories.proofs.Projected.{cut_at}
 
--- The record has a window that began at this time, and has admitted this many.
+-- The record has a window that began at this time, and has admitted this number of runs.
 record Window (r : Option (List ℕ)) (start count : ℕ) : Type 0 where
   value : List ℕ
   is : r ≡ Some value
@@ -68,7 +68,7 @@ stays_begun r r' t s h =
 
 -- ---- the first run of a window
 
--- in a window that lasts a run is not the first, after the length of a window
+-- once the time is at least the window length, a run in a lasting window is not its first
 not_first : (r : Option (List ℕ)) (given argument : List ℕ) (now word length number : ℕ) → HasBegun r → IsGiven r given → window argument ≡ length
     → most argument ≡ number → length ≤ now → Lasts given argument now → admitted given < most argument → word ≡ most argument - (admitted given + 1) → word + 1 ≡ number → ⊥
 not_first r given argument now word length number h (inl is) w n late lasts below word_is first = let some : 1 ≤ admitted given = h given is in omega arith
@@ -95,7 +95,7 @@ opens r r' t length number s h names begins late =
 
 -- ---- the runs of a window
 
--- the bytes that a run is given of a window
+-- the bytes that a run in a window gets
 seen : (r r' : Option (List ℕ)) (t : Turn) (start count : ℕ) (s : RunsTo rate_limit r t r') → Window r start count → (began s.given ≡ start) × (admitted s.given ≡ count)
 seen r r' t start count s w =
     subst (λ (v : List ℕ). (began v ≡ start) × (admitted v ≡ count)) (given_is r w.value s.given w.is s.is_given) (w.began_is, w.admitted_is)

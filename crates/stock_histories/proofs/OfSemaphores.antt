@@ -13,7 +13,7 @@ use Rattle.stock_histories.specs.SemaphoreLaw.{holders_in, acquired_in, released
 use Rattle.stock_histories.proofs.KeyHistory.{IsGiven, RunsTo, KeyHistory, saved, is_one, unchanged, unchanged_if_short}
 use Rattle.stock_histories.proofs.Projected.{projected}
 
--- a run is given the holders of the record, or none
+-- a run gets the number of holders in the record, or 0
 seen : (r : Option (List ℕ)) (given : List ℕ) → IsGiven r given → holders given ≡ holders_in r
 seen r given (inl is) = ap holders_in (sym is)
 seen r given (inr none) = ap holders none.1.1 ∙ read_zeros none.1.0 0 ∙ ap holders_in (sym none.0)

@@ -19,15 +19,15 @@ IsWithinBounds low high r = (value : List ℕ) → r ≡ Some value → 8 ≤ le
 abbrev pub NamesWithin : ℕ → ℕ → Turn → Type 0
 NamesWithin low high t = (low ≤ floor t.argument) × (ceiling t.argument ≤ high)
 
--- If the bounded counter alone changes a key, each run names a floor and a ceiling within some bounds, and the number was within these at
--- the start, it is within them at the end.
+-- If the bounded counter alone changes a key, each run names a floor and a ceiling within some bounds, and the number starts within these
+-- bounds, then it ends within them.
 abbrev pub StaysBetween : Type 0 → Type 0
 StaysBetween A =
     (size : PageSize) (kind : KeyBytes) (m m' : Map) (es : List (Entry A)) (key : List ℕ) (low high : ℕ)
     → IsAlone bounded_counter size kind m es m' key → AllByRecursion (NamesWithin low high) (turns_of key es)
     → IsWithinBounds low high (map.get m key) → IsWithinBounds low high (map.get m' key)
 
--- The same for bounded add, whose runs name one bound.
+-- The run of a bounded add names a bound of at most `high`.
 abbrev pub NamesBelow : ℕ → Turn → Type 0
 NamesBelow high t = bound t.argument ≤ high
 

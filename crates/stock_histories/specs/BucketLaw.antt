@@ -1,4 +1,4 @@
--- The law on token buckets: no more is taken out than was in the bucket and flowed in.
+-- The law on token buckets: the costs taken are at most the capacity plus the inflow.
 use Rattle.std.specs.Prelude.{ℕ, ◌≡◌, ◌+◌, ◌≤◌, ◌==◌, cond, List, [], ◌∷◌, ◌++◌}
 use Rattle.std.specs.List.{AllByRecursion}
 use Rattle.sdbm_addr.specs.declared.KeyBytes.{KeyBytes}
@@ -12,13 +12,13 @@ use Rattle.stock_histories.specs.Turns.{Turn, turns_of, IsAlone, NeverFalls}
 abbrev pub NamesCapacity : ℕ → Turn → Type 0
 NamesCapacity room t = capacity t.argument ≡ room
 
--- The sum of the costs that were taken out.
+-- The sum of the costs taken.
 abbrev pub poured_in : List Turn → ℕ
 poured_in [] = 0
 poured_in (t ∷ ts) = cond (t.code == 1) (cost t.argument) 0 + poured_in ts
 
--- If the token bucket alone changes a key, times never fall, and each run names the same capacity: from one run that takes a cost to a later
--- time, no more is taken in all than the capacity and the time between.
+-- If the token bucket alone changes a key, times never fall, and each run names the same capacity: from a run that takes a cost to any
+-- later time, the costs taken add up to at most the capacity plus the time between.
 abbrev pub PoursAtMost : Type 0 → Type 0
 PoursAtMost A =
     (size : PageSize) (kind : KeyBytes) (m m' : Map) (es : List (Entry A)) (key : List ℕ) (room end : ℕ)

@@ -12,8 +12,8 @@ use Rattle.stock_histories.specs.Turns.{Turn, turns_of, IsAlone}
 abbrev pub GivesToken : Turn → Type 0
 GivesToken t = (t.code ≡ 1) × (t.word ≢ 0)
 
--- If the fenced lease alone changes a key: no token is lower than an earlier one, and two owners never have the same. So the token of
--- another owner is greater than every earlier one. Times may fall.
+-- If the fenced lease alone changes a key: no token is lower than an earlier one, and two owners never have the same one. So a new
+-- owner's token is greater than every earlier one. Times may fall.
 abbrev pub TokensRise : Type 0 → Type 0
 TokensRise A =
     (size : PageSize) (kind : KeyBytes) (m m' : Map) (es : List (Entry A)) (key : List ℕ)

@@ -1,4 +1,4 @@
--- The law on leases: two owners never hold a lease at one time.
+-- The law on leases: two owners never hold a lease at the same time.
 use Rattle.std.specs.Prelude.{ℕ, ◌≡◌, ◌≢◌, ◌≤◌, ◌==◌, ◌&&◌, cond, List, [], ◌∷◌, ◌++◌}
 use Rattle.std.specs.List.{AllByRecursion}
 use Rattle.std.specs.FinMap as map
@@ -13,11 +13,11 @@ use Rattle.stock_histories.specs.Turns.{Turn, turns_of, IsAlone, NeverFalls}
 abbrev pub Grants : ℕ → Turn → Type 0
 Grants who t = (t.code ≡ 1) × (asker t.argument ≡ who)
 
--- This owner does not give the lease back.
+-- The turn does not give this owner's lease back.
 abbrev pub KeepsLease : ℕ → Turn → Type 0
 KeepsLease who t = asker t.argument ≡ who → t.code ≢ 2
 
--- The end of this owner's lease after these turns: the word of the last grant to the owner, whether it is later or earlier than the one before.
+-- The end of this owner's lease after these turns: the word of the owner's last grant, even if an earlier grant ends later.
 abbrev pub last_end : ℕ → ℕ → List Turn → ℕ
 last_end who end [] = end
 last_end who end (t ∷ ts) = last_end who (cond ((t.code == 1) && (asker t.argument == who)) t.word end) ts

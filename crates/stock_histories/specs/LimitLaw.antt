@@ -1,4 +1,4 @@
--- The law on rate limits: a window admits at most its number.
+-- The law on rate limits: a window admits at most the named number of runs.
 use Rattle.std.specs.Prelude.{ℕ, ◌≡◌, ◌+◌, ◌<◌, ◌≤◌, ◌==◌, cond, List, [], ◌∷◌, ◌++◌, Option, Some}
 use Rattle.std.specs.List.{AllByRecursion}
 use Rattle.std.specs.FinMap as map
@@ -9,7 +9,7 @@ use Rattle.store_cmd.specs.declared.Entry.{Entry}
 use Rattle.stock_programs.specs.RateLimit.{rate_limit, admitted, window, most}
 use Rattle.stock_histories.specs.Turns.{Turn, turns_of, IsAlone, NeverFalls}
 
--- The run names this length of a window, and this number for each.
+-- The run names this window length and this number of runs.
 abbrev pub Names : ℕ → ℕ → Turn → Type 0
 Names length number t = (window t.argument ≡ length) × (most t.argument ≡ number)
 
@@ -18,17 +18,17 @@ abbrev pub admitted_in : List Turn → ℕ
 admitted_in [] = 0
 admitted_in (t ∷ ts) = cond (t.code == 1) 1 0 + admitted_in ts
 
--- The turn is the first that its window admits: its word says that the rest of the number is left.
+-- The turn is the first that its window admits: its word, the number of runs left, is one less than the number.
 abbrev pub BeginsWindow : ℕ → Turn → Type 0
 BeginsWindow number t = (t.code ≡ 1) × (t.word + 1 ≡ number)
 
--- The window of the record, if there is one, has admitted a run, as in each record that the program wrote.
+-- The record, if there is one, has admitted a run, as has every record that the program wrote.
 abbrev pub HasBegun : Option (List ℕ) → Type 0
 HasBegun r = (value : List ℕ) → r ≡ Some value → 1 ≤ admitted value
 
 -- If the rate limit alone changes a key, times never fall, and each run names the same length and number: from the first admitted run of a
--- window on, and as long as the window lasts, at most the number is admitted, the first included. A blank is a window that began at 0, so
--- the times are those of a clock that is past the length of a window.
+-- window until the window ends, at most that number of runs is admitted, including the first. A blank is a window that began at time 0, so
+-- the first run's time must be at least the window length.
 abbrev pub AdmitsAtMost : Type 0 → Type 0
 AdmitsAtMost A =
     (size : PageSize) (kind : KeyBytes) (m m' : Map) (es : List (Entry A)) (key : List ℕ) (length number : ℕ)

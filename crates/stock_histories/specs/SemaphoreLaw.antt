@@ -1,4 +1,4 @@
--- The law on semaphores: never more holders than permits.
+-- The law on semaphores: there are never more holders than permits.
 use Rattle.std.specs.Prelude.{ℕ, ◌≡◌, ◌+◌, ◌≤◌, ◌==◌, ◌&&◌, not, cond, List, [], ◌∷◌, Option, Some, None}
 use Rattle.std.specs.List.{AllByRecursion}
 use Rattle.std.specs.FinMap as map
@@ -9,12 +9,12 @@ use Rattle.store_cmd.specs.declared.Entry.{Entry}
 use Rattle.stock_programs.specs.Semaphore.{semaphore, holders, wanted, permits}
 use Rattle.stock_histories.specs.Turns.{Turn, turns_of, IsAlone}
 
--- The number of holders; none if there is no record.
+-- The number of holders; 0 if there is no record.
 abbrev pub holders_in : Option (List ℕ) → ℕ
 holders_in None = 0
 holders_in (Some value) = holders value
 
--- The numbers of turns that took a permit, and that gave one back.
+-- The number of turns that took a permit, and of turns that gave one back.
 abbrev pub acquired_in : List Turn → ℕ
 acquired_in [] = 0
 acquired_in (t ∷ ts) = cond ((t.code == 1) && not (wanted t.argument == 0)) 1 0 + acquired_in ts
@@ -27,8 +27,8 @@ released_in (t ∷ ts) = cond ((t.code == 1) && (wanted t.argument == 0)) 1 0 + 
 abbrev pub NamesPermits : ℕ → Turn → Type 0
 NamesPermits number t = permits t.argument ≤ number
 
--- If the semaphore alone changes a key, and each run names at most a number of permits: the holders are those at the start and the runs
--- that took a permit, without those that gave one back; and they are never more than the number if they were not at the start.
+-- If the semaphore alone changes a key, and each run names at most a number of permits: the holders at the end are those at the start
+-- plus the permits taken minus those given back, and are at most that number if they are so at the start.
 abbrev pub NeverMore : Type 0 → Type 0
 NeverMore A =
     (size : PageSize) (kind : KeyBytes) (m m' : Map) (es : List (Entry A)) (key : List ℕ) (number : ℕ)

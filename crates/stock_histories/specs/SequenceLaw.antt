@@ -8,7 +8,7 @@ use Rattle.stock_programs.specs.Numbers.{number_at}
 use Rattle.stock_programs.specs.Sequence.{sequence}
 use Rattle.stock_histories.specs.Turns.{Turn, turns_of, IsAlone}
 
--- If the sequence alone changes a key, the numbers of the messages that are taken rise from each to the next. So no number is taken twice.
+-- If the sequence alone changes a key, the numbers of the taken messages rise. So no number is taken twice.
 abbrev pub TakesOnce : Type 0 → Type 0
 TakesOnce A =
     (size : PageSize) (kind : KeyBytes) (m m' : Map) (es : List (Entry A)) (key : List ℕ)

@@ -35,7 +35,7 @@ abbrev pub turns_of : {A : Type 0} → List ℕ → List (Entry A) → List Turn
 turns_of key [] = []
 turns_of key (e ∷ es) = option_to_list (turn_in key e.session e.command e.reply) ++ turns_of key es
 
--- The times of the turns never fall, and are not before a first time.
+-- The times of the turns never fall, and none is before `from`.
 abbrev pub NeverFalls : ℕ → List Turn → Type 0
 NeverFalls from [] = Unit {0}
 NeverFalls from (t ∷ ts) = (from ≤ t.now) × NeverFalls t.now ts
@@ -54,7 +54,7 @@ abbrev pub RunsAlone : {A : Type 0} → List Insn → List ℕ → List (Entry A
 RunsAlone program key [] = Unit {0}
 RunsAlone program key (e ∷ es) = OnlyRuns program key e.command × RunsAlone program key es
 
--- The bytes of an argument are below 256, and times below 2 ^ 64. Each command of the library is so.
+-- The bytes of an argument are below 256, and times below 2 ^ 64. Every command of the library meets this.
 abbrev pub HasWords : {A : Type 0} → Command A → Type 0
 HasWords (Fetch own) = Unit {0}
 HasWords (Store own value mode) = Unit {0}
@@ -62,12 +62,12 @@ HasWords (Delete own) = Unit {0}
 HasWords (Run own its argument blank now) = AreBytes argument × (now < 2 ^ 64)
 HasWords Count = Unit {0}
 
--- The same of all entries and the numbers of their sessions.
+-- The same for all entries; session numbers are below 2 ^ 64, too.
 abbrev pub HaveWords : {A : Type 0} → List (Entry A) → Type 0
 HaveWords [] = Unit {0}
 HaveWords (e ∷ es) = HasWords e.command × ((e.session < 2 ^ 64) × HaveWords es)
 
--- The value of the key, if any, is bytes and no longer than a record may be.
+-- The key's value, if any, consists of bytes and is no longer than a record may be.
 abbrev pub IsRecord : Option (List ℕ) → Type 0
 IsRecord r = (value : List ℕ) → r ≡ Some value → AreBytes value × (length value ≤ record_limit)
 

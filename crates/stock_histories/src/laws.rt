@@ -15,7 +15,7 @@ pub fn counters_lose_no_run<A: Allocator>()
     ensures { LosesNoRun A }
 {}
 
-/// Two owners never hold a lease at one time.
+/// Two owners never hold a lease at the same time.
 pub fn leases_never_overlap<A: Allocator>()
     ensures { NeverOverlap A }
 {}
@@ -25,12 +25,12 @@ pub fn tokens_rise<A: Allocator>()
     ensures { TokensRise A }
 {}
 
-/// A bounded counter never leaves the bounds within which its runs name floor and ceiling.
+/// A bounded counter stays within bounds that hold its start and every run's floor and ceiling.
 pub fn bounded_counters_stay_between<A: Allocator>()
     ensures { StaysBetween A }
 {}
 
-/// The number of bounded add is never above the greatest bound that its runs name.
+/// A bounded add stays within a bound if it starts within it and no run names a higher bound.
 pub fn bounded_sums_stay_below<A: Allocator>()
     ensures { StaysBelow A }
 {}
@@ -45,12 +45,12 @@ pub fn semaphores_hold<A: Allocator>()
     ensures { NeverMore A }
 {}
 
-/// No more is taken out of a token bucket than was in it and flowed in.
+/// The costs taken from a token bucket are at most its capacity plus the inflow.
 pub fn token_buckets_hold<A: Allocator>()
     ensures { PoursAtMost A }
 {}
 
-/// A window of a rate limit admits at most its number.
+/// A window of a rate limit admits at most the named number of runs.
 pub fn rate_limits_hold<A: Allocator>()
     ensures { AdmitsAtMost A }
 {}

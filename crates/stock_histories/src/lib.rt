@@ -1,4 +1,4 @@
-//! Laws over whole histories of a key that runs of one stock program alone change.
+//! Laws about the history of a key that only runs of one stock program change.
 //!
 //! The programs and the theorem on each are in `stock_programs`.
 #![tactic(auto)]

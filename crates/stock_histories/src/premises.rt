@@ -22,9 +22,9 @@ use std::alloc::Allocator;
 use store_cmd::{Command, KeptEntry, Program, Reply, Trail};
 
 /// Tests the premises of the laws on the trail of a closed store: only runs of this program change the key, the times of its
-/// runs never fall, and the value at the start has at most 8,008 bytes, as in every file. Fetches, counts and commands on other
-/// keys are allowed. The closed store guarantees that the history is legal. Allocates nothing; time is linear in the pairs and
-/// entries.
+/// runs never fall, and the value at the start, if any, has at most 8,008 bytes (always so in files). Fetches, counts and
+/// commands on other keys are allowed. The closed store guarantees that the history is legal. Allocates nothing; time is
+/// linear in the pairs and entries.
 pub fn has_premises<A: Allocator>(trail: &Trail<A>, program: &Code<A>, key: &[u8]) -> bool
     ensures tested { IsTrue result ↔ (RunsAlone program.now key.now trail.now.entries.items × (NeverFalls 0 (turns_of key.now trail.now.entries.items) × IsRecord (map.get (map.from_entries {R = key_cmp} trail.now.opening) key.now))) }
     ensures words { IsTrue result → HaveWords trail.now.entries.items }
@@ -39,7 +39,7 @@ pub fn has_premises<A: Allocator>(trail: &Trail<A>, program: &Code<A>, key: &[u8
     opens_with_record(trail.opening.as_slice(), key)
 }
 
-/// Tests whether only runs of this program change the key in the entries of a trail. Allocates nothing.
+/// Tests whether only runs of this program change the key in these entries. Allocates nothing.
 pub fn is_alone<A: Allocator>(entries: &[KeptEntry<A>], program: &Code<A>, key: &[u8]) -> bool
     ensures alone { IsTrue result ↔ RunsAlone program.now key.now entries.now }
     ensures words { IsTrue result → HaveWords entries.now }
@@ -81,7 +81,7 @@ pub fn opens_with_record<A: Allocator>(pairs: &[(Bytes<A>, Bytes<A>)], key: &[u8
     true
 }
 
-// Returns true if the bytes may be a record.
+// Returns true if the bytes are no longer than a record may be.
 fn is_record(bytes: &[u8]) -> bool
     ensures { IsTrue result ↔ (AreBytes bytes.now × (length bytes.now ≤ record_limit)) }
 {
@@ -123,12 +123,12 @@ fn is_of<A: Allocator>(prog: &Program<A>, program: &Code<A>) -> bool
     *prog.verified().code() == *program
 }
 
-// The bytes of a slice are below 256.
+// Lemma: the bytes of a slice are below 256.
 fn take_bytes(bytes: &[u8])
     ensures { AreBytes bytes.now }
 {}
 
-// The time of an entry that is a run on the key.
+// Returns the time of an entry, or `None` if it is not an answered run on the key.
 fn time_in<A: Allocator>(entry: &KeptEntry<A>, key: &[u8]) -> Option<u64>
     ensures { result ≡ option_map (λ t. t.now) (turn_in key.now entry.now.session entry.now.command entry.now.reply) }
 {

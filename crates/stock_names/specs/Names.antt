@@ -34,7 +34,7 @@ name_of_stock stocks.RateLimit = codes "rate_limit"
 name_of_stock stocks.Semaphore = codes "semaphore"
 name_of_stock stocks.TokenBucket = codes "token_bucket"
 
--- The code of a program. Its meaning is proved.
+-- The code of a program. `stock_programs` proves its meaning.
 abbrev pub code_of_stock : Stock → List Insn
 code_of_stock stocks.Counter = counter
 code_of_stock stocks.BoundedAdd = bounded_add
@@ -60,7 +60,7 @@ abbrev pub word_named : List ℕ → ProgramWord
 word_named [] = words.File
 word_named (c ∷ name) = cond (nat_eq c 64) (of_name (stock_named name)) words.File
 
--- A file has a code: it is the program image, or a text that denotes the code.
+-- The file is the image of the code (`true`), or a text that denotes the code (`false`).
 abbrev pub IsFileOf : Bool → List Insn → List ℕ → Type 0
 IsFileOf true code file = IsImage code file
 IsFileOf false code file = Denotes file code

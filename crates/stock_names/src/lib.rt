@@ -27,7 +27,7 @@ pub enum Stock {
     CompareAndSet,
     /// Takes a message if its number is greater than the last one's.
     Sequence,
-    /// Gives a key to one owner at a time, until an end.
+    /// Leases a key to one owner at a time, until an end time.
     Lease,
     /// A lease with a token that rises with each new owner.
     FencedLease,
@@ -35,7 +35,7 @@ pub enum Stock {
     RateLimit,
     /// Takes and gives back permits.
     Semaphore,
-    /// Takes a cost out of a bucket that fills as time goes by.
+    /// Takes a cost from a bucket that refills over time.
     TokenBucket,
 }
 
@@ -53,7 +53,7 @@ pub const ALL: [Stock; 10] = [
     Stock::TokenBucket,
 ];
 
-/// The names of all stock programs, as a fault lists them.
+/// The names of all stock programs, as an error message lists them.
 pub const NAMES: &str =
     "counter, bounded_add, bounded_counter, compare_and_set, sequence, lease, fenced_lease, rate_limit, semaphore, token_bucket";
 
@@ -85,7 +85,7 @@ pub fn read_word(word: &[u8]) -> ProgramWord
 }
 
 impl Stock {
-    /// Name of the program, as in `examples/NAME.s`. It is found by this name.
+    /// Returns the program's name, as in `examples/NAME.s`. `named` finds the program by it.
     pub fn name(self) -> &'static str
         ensures name { result.now ≡ name_of_stock self }
         ensures own { stock_named result.now ≡ Some self }
@@ -104,7 +104,7 @@ impl Stock {
         }
     }
 
-    /// The program with a name. `None` if no program has this name.
+    /// Returns the program with this name, or `None` if no program has it.
     #[tactic(auto, unfolding(crate::specs::Names::stock_named))]
     pub fn named(name: &[u8]) -> Option<Stock>
         ensures { result ≡ stock_named name.now }
@@ -135,7 +135,7 @@ impl Stock {
         }
     }
 
-    /// Makes the program image: the bytes of the code, 8 a unit (RFC 9669, section 3).
+    /// Makes the program image: the bytes of the code, 8 per unit (RFC 9669, section 3).
     ///
     /// # Errors
     /// `AllocError` if an allocation fails.
@@ -145,7 +145,7 @@ impl Stock {
         encode(alloc, &self.code(alloc)?)
     }
 
-    /// Makes a text of the program, one instruction a line. The assembler turns it back into the same code.
+    /// Makes a text of the program, one instruction per line. The assembler turns it back into the same code.
     ///
     /// # Errors
     /// `AllocError` if an allocation fails.
@@ -155,7 +155,7 @@ impl Stock {
         disassemble(alloc, &self.code(alloc)?)
     }
 
-    /// Makes the contents of a file of the program: its image, or its text.
+    /// Makes a program file: the image if `is_image`, otherwise the text.
     ///
     /// # Errors
     /// `AllocError` if an allocation fails.

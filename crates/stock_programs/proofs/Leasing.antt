@@ -150,7 +150,7 @@ module _ (bytes argument : List ℕ) (env : Env) (i : IsInput bytes argument env
         let wrapped : nat_le env.now ((term argument + env.now) % 2 ^ 64 % 2 ^ 64) ≡ false = lt-leb _ _ (omega arith) in
         simp (t.in_record, t.still, small (term argument) n.term_fits, small env.now n.now_fits, wanted, wrapped)
 
-  -- a path of m steps to it
+  -- a path of m steps to `take`
   record Way (m : ℕ) : Type 0 where
     r2 : Value
     leads : (stack : List ℕ) (word : ℕ) → walk m lease (begin stack word bytes argument env) ≡ Some (at_take stack word r2)

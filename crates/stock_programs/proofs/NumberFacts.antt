@@ -114,7 +114,7 @@ pub length_written : (bytes : List ℕ) (p x : ℕ) → p + 8 ≤ length bytes �
 unfolding with_number
 length_written bytes p x low = written_length 8 p bytes (bytes_low_first 0 8 x) low (length-bytes_low_first 0 8 x)
 
--- The start of other bytes has their numbers.
+-- The numbers in the first n bytes stay if other bytes follow.
 pub read_taken : (bytes rest : List ℕ) (n p : ℕ) → n ≤ length bytes → p + 8 ≤ n → number_at p (take n bytes ++ rest) ≡ number_at p bytes
 unfolding number_at
 read_taken bytes rest n p low inside = same_number 0 8 p (take n bytes ++ rest) bytes (λ k l m. byte_before n k bytes rest low (omega arith))

@@ -191,7 +191,7 @@ module _ (bytes argument : List ℕ) (env : Env) (i : IsInput bytes argument env
           test_2,
         )
 
-  -- a path of m steps to it
+  -- a path of m steps to `take`
   record Way (m start : ℕ) : Type 0 where
     leads : (stack : List ℕ) (word : ℕ) → walk m token_bucket (begin stack word bytes argument env) ≡ Some (at_take stack word start)
     is : start ≡ start_at bytes env.now

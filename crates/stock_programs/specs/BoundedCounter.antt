@@ -51,7 +51,7 @@ bounded_counter =
 
 -- ---- the argument
 
--- The amount in 64 bits: from 2 ^ 63 on it is negative.
+-- The amount in two's complement: 2 ^ 63 and above are negative.
 abbrev pub amount : List ℕ → ℕ
 amount argument = number_at 0 argument
 
@@ -67,7 +67,7 @@ ceiling argument = number_at 16 argument
 abbrev pub SumIs : ℕ → ℕ → ℕ → Type 0
 SumIs number amount sum = ((amount < 2 ^ 63) × (number + amount ≡ sum)) ⊎ ((2 ^ 63 ≤ amount) × (number ≡ sum + (2 ^ 64 - amount)))
 
--- A sum may replace the number: it is from the floor to the ceiling.
+-- The sum is at least the floor and at most the ceiling.
 pub record IsWithin (bytes argument : List ℕ) (sum : ℕ) : Type 0 where
   pub is : SumIs (number_at 0 bytes) (amount argument) sum
   pub low : floor argument ≤ sum

@@ -26,7 +26,7 @@ counter =
     ∷ Exit
     ∷ []
 
--- The number is one more, modulo 2 ^ 64.
+-- The number is greater by 1, modulo 2 ^ 64.
 pub record IsCounted (bytes argument : List ℕ) (o : Outcome) : Type 0 where
   pub long : HasLengths 8 0 bytes argument
   pub code_is : o.code ≡ 1

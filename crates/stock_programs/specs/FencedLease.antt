@@ -75,7 +75,7 @@ with_owner bytes who new = with_number (with_number bytes 0 who) 16 new
 
 -- ---- the answers
 
--- The lease has ended. The asker has it now, with a token that is greater than all before.
+-- The lease has ended. The asker has it now, with a token greater than all earlier ones.
 pub record IsTaken (bytes argument : List ℕ) (now : ℕ) (o : Outcome) : Type 0 where
   pub long : HasLengths 24 16 bytes argument
   pub ended : until bytes ≤ now
@@ -95,7 +95,7 @@ pub record IsRenewed (bytes argument : List ℕ) (now : ℕ) (o : Outcome) : Typ
   pub word_is : o.word ≡ token bytes
   pub bytes_are : o.bytes ≡ with_number bytes 8 (end_of now (term argument))
 
--- The lease is over, and the token stays in the record.
+-- The asker ends the lease, and the token stays in the record.
 pub record IsFreed (bytes argument : List ℕ) (now : ℕ) (o : Outcome) : Type 0 where
   pub long : HasLengths 24 16 bytes argument
   pub may : MayTake bytes argument now

@@ -58,7 +58,7 @@ owner bytes = number_at 0 bytes
 abbrev pub until : List ℕ → ℕ
 until bytes = number_at 8 bytes
 
--- The record with another lease.
+-- The record with another owner and end.
 abbrev pub with_lease : List ℕ → ℕ → ℕ → List ℕ
 with_lease bytes who end = with_number (with_number bytes 0 who) 8 end
 
@@ -71,7 +71,7 @@ term argument = number_at 8 argument
 
 -- ---- the answers
 
--- The end of a lease that is granted now: after its term, but at most the last time that 8 bytes can hold.
+-- The end of a lease granted now: `now` plus the term, at most 2 ^ 64 - 1.
 abbrev pub end_of : ℕ → ℕ → ℕ
 end_of now n = min (now + n) (2 ^ 64 - 1)
 
@@ -88,7 +88,7 @@ pub record IsGranted (bytes argument : List ℕ) (now : ℕ) (o : Outcome) : Typ
   pub word_is : o.word ≡ end_of now (term argument)
   pub bytes_are : o.bytes ≡ with_lease bytes (asker argument) (end_of now (term argument))
 
--- The pair is deleted.
+-- The lease is given back: code 2 deletes the pair.
 pub record IsGivenBack (bytes argument : List ℕ) (now : ℕ) (o : Outcome) : Type 0 where
   pub long : HasLengths 16 16 bytes argument
   pub may : MayTake bytes argument now

@@ -11,7 +11,7 @@ pub record HasLengths (record_size argument_size : ℕ) (bytes argument : List �
 abbrev pub short_code : ℕ
 short_code = 4
 
--- The record or the argument is shorter, and the run changes nothing.
+-- The record or the argument is too short, and the run changes nothing.
 pub record IsShort (record_size argument_size : ℕ) (bytes argument : List ℕ) (o : Outcome) : Type 0 where
   pub short : (length bytes < record_size) ⊎ (length argument < argument_size)
   pub code_is : o.code ≡ short_code

@@ -4,7 +4,7 @@ use Rattle.bpf_insn.specs.declared.insn.Insn.{Insn}
 use Rattle.bpf_helpers.specs.declared.values.Env.{Env}
 use Rattle.bpf_helpers.specs.Runs.{Outcome, Ends, IsInput}
 
--- Every run of the program ends, on each record, argument and environment that a run may have, and its outcome obeys the relation.
+-- Every run of the program on a valid record, argument and environment ends, and its outcome obeys the relation.
 pub record Means (program : List Insn) (Relation : List ℕ → List ℕ → Env → Outcome → Type 0) : Type 0 where
   pub obeys : (bytes argument : List ℕ) (env : Env) (o : Outcome) → IsInput bytes argument env → Ends program bytes argument env o
       → Relation bytes argument env o

@@ -7,6 +7,6 @@ use Rattle.bpf_helpers.specs.Machine.{splice}
 unfoldable pub number_at : ℕ → List ℕ → ℕ
 number_at place bytes = little_number 8 (drop place bytes)
 
--- The bytes after a number was written at this place.
+-- The bytes after writing a number at this place.
 unfoldable pub with_number : List ℕ → ℕ → ℕ → List ℕ
 with_number bytes place number = splice bytes place (little_bytes 8 number)

@@ -1,4 +1,4 @@
--- The rate limit: in each window of time at most a number of runs are admitted.
+-- The rate limit: each window of time admits at most a given number of runs.
 use Rattle.std.specs.Prelude.{ℕ, ◌≡◌, ◌⊎◌, ◌+◌, ◌-◌, ◌<◌, ◌≤◌, pos, List, [], ◌∷◌}
 use Rattle.bpf_insn.specs.declared.insn.Width.TheVariants.{W64}
 use Rattle.bpf_insn.specs.declared.insn.Size.TheVariants.{Double}
@@ -60,7 +60,7 @@ began bytes = number_at 0 bytes
 abbrev pub admitted : List ℕ → ℕ
 admitted bytes = number_at 8 bytes
 
--- The length of a window in time, and the number of runs that it admits.
+-- The length of a window, in units of time, and the number of runs that it admits.
 abbrev pub window : List ℕ → ℕ
 window argument = number_at 0 argument
 
@@ -74,11 +74,11 @@ pub record Lasts (bytes argument : List ℕ) (now : ℕ) : Type 0 where
   pub after : began bytes ≤ now
   pub within : now - began bytes < window argument
 
--- It is over, or it began later than now.
+-- The window is over, or it began later than now.
 abbrev pub IsOver : List ℕ → List ℕ → ℕ → Type 0
 IsOver bytes argument now = (now < began bytes) ⊎ (window argument ≤ now - began bytes)
 
--- One more run in a window that is not over. The reply word is the number of further runs that the window admits.
+-- A further run in a window that is not over. The reply word is the number of further runs that the window admits.
 pub record IsAdmitted (bytes argument : List ℕ) (now : ℕ) (o : Outcome) : Type 0 where
   pub long : HasLengths 16 16 bytes argument
   pub lasts : Lasts bytes argument now

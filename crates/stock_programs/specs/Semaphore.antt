@@ -1,4 +1,4 @@
--- The semaphore: the record holds the number of holders, which is at most the number of permits.
+-- The semaphore: the record holds the number of holders. A run takes a permit or gives one back.
 use Rattle.std.specs.Prelude.{ℕ, ◌≡◌, ◌≢◌, ◌⊎◌, ◌+◌, ◌-◌, ◌<◌, ◌≤◌, pos, List, [], ◌∷◌}
 use Rattle.bpf_insn.specs.declared.insn.Width.TheVariants.{W64}
 use Rattle.bpf_insn.specs.declared.insn.Size.TheVariants.{Double}
@@ -49,7 +49,7 @@ semaphore =
 abbrev pub holders : List ℕ → ℕ
 holders bytes = number_at 0 bytes
 
--- Not 0 if a permit is wanted; 0 gives one back.
+-- Nonzero to take a permit, 0 to give one back.
 abbrev pub wanted : List ℕ → ℕ
 wanted argument = number_at 0 argument
 
@@ -74,7 +74,7 @@ pub record IsReleased (bytes argument : List ℕ) (o : Outcome) : Type 0 where
   pub word_is : o.word ≡ holders bytes - 1
   pub bytes_are : o.bytes ≡ with_number bytes 0 (holders bytes - 1)
 
--- No permit is free, or there is no holder who could give one back.
+-- No permit is free, or there is no holder to give one back.
 pub record IsDenied (bytes argument : List ℕ) (o : Outcome) : Type 0 where
   pub long : HasLengths 8 16 bytes argument
   pub denied : ((wanted argument ≢ 0) × (permits argument ≤ holders bytes)) ⊎ ((wanted argument ≡ 0) × (holders bytes ≡ 0))

@@ -37,13 +37,13 @@ sequence =
     ∷ Exit
     ∷ []
 
--- A message is a number and 16 bytes of text.
+-- The size of a message in bytes: a number of 8, and a text of 16.
 abbrev pub message_size : ℕ
 message_size = 24
 
 -- ---- the answers; the reply word is the number of the message in the record
 
--- The new message has a greater number, and replaces the other.
+-- The new message has a greater number, and replaces the old one.
 pub record IsNewer (bytes argument : List ℕ) (o : Outcome) : Type 0 where
   pub long : HasLengths message_size message_size bytes argument
   pub newer : number_at 0 bytes < number_at 0 argument
@@ -51,7 +51,7 @@ pub record IsNewer (bytes argument : List ℕ) (o : Outcome) : Type 0 where
   pub word_is : o.word ≡ number_at 0 argument
   pub bytes_are : o.bytes ≡ take message_size argument ++ drop message_size bytes
 
--- Its number is at most that of the message in the record.
+-- The new message's number is at most that of the one in the record.
 pub record IsOld (bytes argument : List ℕ) (o : Outcome) : Type 0 where
   pub long : HasLengths message_size message_size bytes argument
   pub old : number_at 0 argument ≤ number_at 0 bytes

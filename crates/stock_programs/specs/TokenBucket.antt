@@ -58,7 +58,7 @@ token_bucket =
 abbrev pub full_at : List ℕ → ℕ
 full_at bytes = number_at 0 bytes
 
--- The cost and the capacity, as the time for this amount to flow in.
+-- The cost and the capacity, each as the time in which it flows in.
 abbrev pub cost : List ℕ → ℕ
 cost argument = number_at 0 argument
 
@@ -67,11 +67,11 @@ capacity argument = number_at 8 argument
 
 -- ---- the answers
 
--- The time at which the bucket is full, now at the earliest.
+-- The time at which the bucket is full, but not before now.
 abbrev pub start_at : List ℕ → ℕ → ℕ
 start_at bytes now = max (full_at bytes) now
 
--- The cost is taken out. The reply word is the rest.
+-- The cost is taken. The reply word is the amount left.
 pub record IsPoured (bytes argument : List ℕ) (now : ℕ) (o : Outcome) : Type 0 where
   pub long : HasLengths 8 16 bytes argument
   pub enough : start_at bytes now + cost argument ≤ now + capacity argument
@@ -80,7 +80,7 @@ pub record IsPoured (bytes argument : List ℕ) (now : ℕ) (o : Outcome) : Type
   pub word_is : o.word ≡ now + capacity argument - (start_at bytes now + cost argument)
   pub bytes_are : o.bytes ≡ with_number bytes 0 (start_at bytes now + cost argument)
 
--- There is too little. The reply word is the time to wait.
+-- The bucket holds too little now. The reply word is the time to wait.
 pub record IsTooLittle (bytes argument : List ℕ) (now : ℕ) (o : Outcome) : Type 0 where
   pub long : HasLengths 8 16 bytes argument
   pub possible : cost argument ≤ capacity argument
@@ -89,7 +89,7 @@ pub record IsTooLittle (bytes argument : List ℕ) (now : ℕ) (o : Outcome) : T
   pub word_is : o.word ≡ start_at bytes now + cost argument - (now + capacity argument)
   pub bytes_are : o.bytes ≡ bytes
 
--- There is never enough: the cost is above the capacity, or the time would be past the last one.
+-- The cost can never be taken: it is above the capacity, or the new time does not fit in 64 bits.
 pub record IsNever (bytes argument : List ℕ) (now : ℕ) (o : Outcome) : Type 0 where
   pub long : HasLengths 8 16 bytes argument
   pub never : (capacity argument < cost argument) ⊎ (2 ^ 64 ≤ start_at bytes now + cost argument)

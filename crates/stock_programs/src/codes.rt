@@ -1,4 +1,4 @@
-//! The programs as codes, one instruction a line. Each code is proved to be the list of its program in `specs/`.
+//! The codes of the programs, one instruction per line. Each is proved equal to its program's list in `specs/`.
 ghost use Rattle.std.specs.Prelude.{◌≡◌, ◌≤◌, ◌*◌, length, IfOk};
 ghost use Rattle.std.specs.List.{AllByRecursion};
 ghost use Rattle.bpf_insn.specs.Spelling.{HasSpelling};
@@ -18,7 +18,7 @@ use bpf_insn::Operand::{Imm, Reg};
 use bpf_insn::{Code, Insn, Op, Size, Test, Width};
 use std::alloc::{AllocError, Allocator};
 
-// The instructions on 64 bits, with their operands in the order of the assembler.
+// 64-bit instructions, with their operands in the order of the assembler.
 macro_rules! alu {
     ($op:ident, $dst:expr, $src:expr) => {
         Insn::Alu { op: Op::$op, width: Width::W64, dst: $dst, src: $src }

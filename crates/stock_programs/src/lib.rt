@@ -1,7 +1,7 @@
-//! Stock programs, whose meaning is proved: their codes, and a theorem on each.
+//! The stock programs: their codes, and a theorem on the meaning of each.
 //!
-//! `..._code` makes a code, which is the one of the text in `examples/`. `..._means` states what every run of it does. The instructions and
-//! the relations are in `specs/`. Laws over whole histories of a key are not here but in `stock_histories`.
+//! `..._code` makes the code of the text in `examples/`. `..._means` states the effect of every run. The instructions and the relations are
+//! in `specs/`. Laws about the history of a key are in `stock_histories`.
 #![tactic(auto)]
 
 mod codes;

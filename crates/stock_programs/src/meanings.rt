@@ -1,4 +1,4 @@
-//! The theorem on each program: every run of it ends, and obeys the relation that `specs/` gives in the words of its user.
+//! The theorem on each program: every run ends and obeys the program's relation in `specs/`.
 ghost use Rattle.stock_programs.specs.Meaning.{Means};
 ghost use Rattle.stock_programs.specs.Counter.{counter, Counts};
 ghost use Rattle.stock_programs.specs.BoundedAdd.{bounded_add, AddsBounded};

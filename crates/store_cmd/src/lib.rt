@@ -169,7 +169,7 @@ pub fn check_run(
 }
 
 impl<A: Allocator + Copy> Command<A> {
-    /// Clones the command. Returns an error if out of memory.
+    /// Clones the command. Returns an error if out of memory or if the program's owner count is at its maximum.
     pub fn try_clone(&self, alloc: A) -> Result<Self, AllocError>
         ensures { IfOk result (λ copy. copy ≡ self.now) }
     {
@@ -231,7 +231,7 @@ impl<A: Allocator + Copy> Reply<A> {
 }
 
 impl<A: Allocator + Copy> Trail<A> {
-    /// Clones the trail. Returns an error if out of memory.
+    /// Clones the trail. Returns an error if out of memory or if an owner count is at its maximum.
     pub fn try_clone(&self, alloc: A) -> Result<Self, AllocError>
         ensures opening { IfOk result (λ copy. copy.opening ≡ self.now.opening) }
         ensures entries { IfOk result (λ copy. copy.entries.items ≡ self.now.entries.items) }
@@ -243,7 +243,7 @@ impl<A: Allocator + Copy> Trail<A> {
     }
 }
 
-// Clones both slices of bytes.
+// Clones both byte strings.
 fn clone_both<A: Allocator + Copy>(
     alloc: A,
     one: &Bytes<A>,

@@ -56,8 +56,7 @@ impl<A: Allocator> SharedCommand<A> {
     }
 }
 
-/// An answered command as a trail and its session store it, modelled as an `Entry`. The trail and the session share the
-/// command.
+/// An answered command, modelled as an `Entry`. The trail and the session each store one, and share its command.
 #[derive(Drop)]
 pub struct KeptEntry<A: Allocator> {
     session: u64,
@@ -119,8 +118,8 @@ impl<A: Allocator> KeptEntry<A> {
         self.reply == other.reply
     }
 
-    /// Clones the entry and adds an owner to its command. Returns an error if there is no memory for the reply or if the owner
-    /// count is at its maximum.
+    /// Clones the entry and adds an owner to its command. Returns an error if there is no memory for the reply or if the
+    /// command's owner count is at its maximum.
     pub fn try_clone(&self, alloc: A) -> Result<Self, AllocError>
     where
         A: Copy,

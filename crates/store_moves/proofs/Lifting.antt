@@ -230,7 +230,7 @@ module _ (A : Type 0) (db : Database) (ok : IsDatabase db) (session : ℕ) (key 
   abbrev command : Command A
   command = Run key program argument blank now
 
-  -- on the value of its key
+  -- a run on the value of its key
   module _ (value : List ℕ) (leads : n ≡ leads_to db key) (there : map.get (map_of db) key ≡ Some value) (on_page : value_of (pairs_at db n) key ≡ Some value) where
     says : (o : Outcome) (b r : Bool) → saves o.code ≡ b → removes o.code ≡ r → does_change {A = A} (map.contains_key (map_of db) key) (reply.Ran o.code o.word) ≡ (b || r)
     says o b r s d =
@@ -297,11 +297,11 @@ module _ (A : Type 0) (db : Database) (ok : IsDatabase db) (session : ℕ) (key 
         clash some = true≢false (sym some ∙ ap is_some is)
     there_leads (Some o) is = ran_leads o is (saves o.code) (removes o.code) refl refl
 
-  -- on neither a value nor a blank: the key is missing
+  -- a run on neither a value nor a blank: the key is missing
   nothing_leads : blank ≡ None → map.get (map_of db) key ≡ None → LeadsTo {A = A} db session command n (record { reply = reply.Missing; change = None })
   nothing_leads is_none absent = record { may = tt; move = λ e. record { changes = (record { absent = absent; blank_is = is_none; map_is = refl }, refl); kind = refl; size = refl }; beside = same_beside db n; changes = refl }
 
-  -- on a blank that is not stored
+  -- a run on a blank that is not stored
   module _ (len : ℕ) (is_blank : blank ≡ Some len) (absent : map.get (map_of db) key ≡ None) where
     unsaved_leads : (o : Outcome) → outcome_anew session program argument now len ≡ Some o → saves o.code ≡ false → LeadsTo {A = A} db session command n (record { reply = reply.Ran o.code o.word; change = None })
     unsaved_leads o is unsaved = record {
@@ -332,7 +332,7 @@ module _ (A : Type 0) (db : Database) (ok : IsDatabase db) (session : ℕ) (key 
         ends_here : EndsOn session program argument now (value_of (pairs_at db n) key) blank → is_some (outcome_anew session program argument now len) ≡ true
         ends_here e = subst (λ (b : Option ℕ). EndsOn session program argument now None b) is_blank (subst (λ (x : Option (List ℕ)). EndsOn session program argument now x blank) nowhere e)
 
--- on a blank that is stored
+-- a run on a blank that is stored
 module _ (A : Type 0) (db : Database) (ok : IsDatabase db) (session : ℕ) (key : List ℕ) (program : List Insn) (argument : List ℕ) (blank : Option ℕ) (now h : ℕ) (deep : IsDepth db.splits (hash_of db.kind key) h) where
   abbrev run_here : Command A
   run_here = Run key program argument blank now

@@ -13,8 +13,8 @@ use Rattle.store_cmd.specs.Moves.{Moves}
 use Rattle.store_moves.specs.Works.{works, key_of, HasEnd}
 use Rattle.store_moves.specs.Leads.{IsPlaceOf, changed_by, state_of}
 
--- A command about a key that is not a run, or a run that ends. The entry has the command's result on the page of its place, and
--- the change is installed.
+-- A command about a key; if it is a run, the run ends. The reply is the command's result on the page of its place, and the
+-- change is installed.
 pub record IsOnPage {A : Type 0} (db : Database) (e : Entry A) (db' : Database) : Type 0 where
   pub place : Place
   pub leads : IsPlaceOf db (key_of e.command) place
@@ -37,7 +37,7 @@ IsExactFor (Delete key) db e db' = IsOnPage db e db'
 IsExactFor (Run key program argument blank now) db e db' = IsOnPage db e db'
 IsExactFor Count db e db' = (e.reply ≡ reply.Count (map.len (map_of db))) × (db' ≡ db)
 
--- One entry whose command has valid sizes. It installs these pages and bits and no others, and is one move.
+-- An entry whose command has valid sizes. Its effect is exactly that of `IsExactFor`, and is one move.
 pub record Acts {A : Type 0} (db : Database) (e : Entry A) (db' : Database) : Type 0 where
   pub small : IsSmall db.size e.command
   pub exact : IsExactFor e.command db e db'

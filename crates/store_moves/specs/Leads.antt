@@ -28,7 +28,7 @@ abbrev pub MayChange : Database → ℕ → Option PageChange → Type 0
 MayChange db number None = Unit {0}
 MayChange db number (Some change) = IsInstallable db number change.leaf change.twins change.bits
 
--- True if a reply says that the database has changed. The first argument is true if the key existed: without it, a run that
+-- True if a reply says that the database has changed. The first argument is true if the key existed; if not, a run that
 -- removes the pair changes nothing.
 abbrev pub does_change : {A : Type 0} → Bool → Reply A → Bool
 does_change there Stored = true
@@ -59,8 +59,8 @@ IsSameBeside old number new = (key : List ℕ) (place : Place) → IsPlaceOf old
 abbrev pub FillsNone : Database → Database → Type 0
 FillsNone old new = (n : ℕ) → pairs_at old n ≡ [] → pairs_at new n ≡ []
 
--- A command's result on a page may be installed and leaves the other places unchanged. It has a change if and only if its reply
--- says so. Installing it is one move; for a run, only if the run ends.
+-- A command's result on a page may be installed and leaves the other places unchanged. The result has a change if and only if
+-- its reply says so. Installing it is one move, provided that a run ends.
 pub record LeadsTo {A : Type 0} (db : Database) (session : ℕ) (command : Command A) (number : ℕ) (result : PageResult A) : Type 0 where
   pub may : MayChange db number result.change
   pub move : HasEnd (pairs_at db number) session command → Moves (state_of db) (record { session = session; command = command; reply = result.reply }) (state_of (changed_by db number result.change))

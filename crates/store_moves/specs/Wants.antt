@@ -1,4 +1,4 @@
--- The commands that need memory.
+-- The commands that may need memory.
 use Rattle.std.specs.Prelude.{◌≡◌, ℕ, true}
 use Rattle.sdbm_addr.specs.Database.{Database, pairs_at}
 use Rattle.sdbm_dir.specs.declared.Place.{Place}

@@ -31,7 +31,7 @@ takes_memory Exists = false
 takes_memory Crowded = false
 takes_memory (Count n) = false
 
--- True if a command needs memory only if it changes its page.
+-- True if a command allocates only to change its page.
 abbrev pub is_change : {A : Type 0} → Command A → Bool
 is_change (commands.Fetch key) = false
 is_change (commands.Store key value mode) = true
@@ -55,7 +55,7 @@ stored_on site pairs key value mode = stored_unless (is_kept mode (value_of pair
 abbrev pub run_by : {A : Type 0} → Site → List Pair → RunInput A → PageResult A
 run_by site pairs input = run_on site.kind (page_on site pairs) site.place.depth input.session input.key.now input.program.now.code input.arg.now input.time (value_of pairs input.key.now) input.blank
 
--- the run is on nothing, or ends
+-- the run ends, or has nothing to run on
 abbrev pub EndsBy : {A : Type 0} → List Pair → RunInput A → Type 0
 EndsBy pairs input = EndsOn input.session input.program.now.code input.arg.now input.time (value_of pairs input.key.now) input.blank
 

@@ -128,7 +128,7 @@ run_on kind page h session key program argument now (Some value) blank = ran_on 
 run_on kind page h session key program argument now None (Some len) = ran_anew kind page key h (outcome_anew session program argument now len)
 run_on kind page h session key program argument now None None = record { reply = Missing; change = None }
 
--- the run is on nothing, or ends
+-- the run ends, or has nothing to run on
 abbrev pub EndsOn : ℕ → List Insn → List ℕ → ℕ → Option (List ℕ) → Option ℕ → Type 0
 EndsOn session program argument now (Some value) blank = is_some (outcome_there session program argument now value) ≡ true
 EndsOn session program argument now None (Some len) = is_some (outcome_anew session program argument now len) ≡ true

@@ -30,8 +30,8 @@ use store_cmd::{Command, Entry, Reply};
 /// must accept the command for the page size of the database.
 ///
 /// # Errors
-/// `AllocError` if out of memory. This never happens if the reply would be `Missing`, `Exists`, `Crowded` or a `Count`. The
-/// database is unchanged, and the command is returned.
+/// `AllocError` if out of memory; never if the reply would be `Missing`, `Exists`, `Crowded` or a `Count`. The command is
+/// returned, and the database is unchanged.
 pub fn act<A: Allocator + Copy>(
     alloc: A,
     image: &mut Image<A>,
@@ -72,11 +72,29 @@ pub fn act_store<A: Allocator + Copy>(
     ensures none { result ≡ false → image.new ≡ image.old }
 {
     let place = image.place(key);
+    act_store_at(image, place, key, value, mode)
+}
+
+/// Like `act_store`, if the caller has looked up the place of the key.
+pub fn act_store_at<A: Allocator + Copy>(
+    image: &mut Image<A>,
+    place: Place,
+    key: &[u8],
+    value: &[u8],
+    mode: Mode,
+) -> bool
+    requires small { length key.now + length value.now ≤ pair_limit image.old.size }
+    requires place { IsPlaceOf image.old key.now place }
+    requires database { IsDatabase image.old }
+    ensures done { result ≡ true → (session : ℕ) → Acts {A = A} image.old (record { session = session; command = Store key.now value.now mode; reply = Stored }) image.new }
+    ensures fills { result ≡ true → FillsNone image.old image.new }
+    ensures none { result ≡ false → image.new ≡ image.old }
+{
     store_in_place(image, place, key, value, mode)
 }
 
 /// Executes a run as `act` does, if that needs no memory, and returns how its program ended. Returns `None`, and leaves the
-/// database unchanged, if the key is missing, its value is longer than 256 bytes, the program removes the pair, or it saves its
+/// database unchanged, if the key is missing, its value is longer than 256 bytes, or the program removes the pair or saves its
 /// record on a shared page. A page without pairs stays without pairs. `check_run` must accept the run for the page size of the
 /// database.
 pub fn act_run<A: Allocator + Copy>(image: &mut Image<A>, input: &RunInput<'_, A>) -> Option<Ended>
@@ -86,6 +104,22 @@ pub fn act_run<A: Allocator + Copy>(image: &mut Image<A>, input: &RunInput<'_, A
     ensures none { IfNone result (image.new ≡ image.old) }
 {
     let place = image.place(input.key);
+    act_run_at(image, place, input)
+}
+
+/// Like `act_run`, if the caller has looked up the place of the key.
+pub fn act_run_at<A: Allocator + Copy>(
+    image: &mut Image<A>,
+    place: Place,
+    input: &RunInput<'_, A>,
+) -> Option<Ended>
+    requires small { IsSmall image.old.size (command_of input.now) }
+    requires place { IsPlaceOf image.old input.now.key.now place }
+    requires database { IsDatabase image.old }
+    ensures done { IfSome result (λ ended. Acts image.old (record { session = input.now.session; command = command_of input.now; reply = Ran ended.code ended.word }) image.new) }
+    ensures fills { IfSome result (λ _. FillsNone image.old image.new) }
+    ensures none { IfNone result (image.new ≡ image.old) }
+{
     run_input_in_place(image, place, input)
 }
 
@@ -149,7 +183,7 @@ fn act_by_run<A: Allocator + Copy>(
     work_and_put(alloc, image, place, session, command)
 }
 
-// Computes a session's command on its page and installs the result.
+// Computes the result of a session's command on its page, and installs it.
 fn work_and_put<A: Allocator + Copy>(
     alloc: A,
     image: &mut Image<A>,
@@ -190,8 +224,8 @@ pub fn key_in<A: Allocator>(command: &Command<A>) -> &[u8]
 /// (`Image::place`).
 ///
 /// # Errors
-/// `AllocError` if there is no memory for the found value, for the changed pages, or for the page on which a program runs. This
-/// never happens if the reply would be `Missing`, `Exists` or `Crowded`.
+/// `AllocError` if there is no memory for the found value, for the changed pages, or for the page on which a program runs;
+/// never if the reply would be `Missing`, `Exists` or `Crowded`.
 pub fn work_at<A: Allocator + Copy>(
     alloc: A,
     image: &Image<A>,

@@ -1,5 +1,5 @@
-//! Stores and runs that are executed in place, on a page that is not shared and not copied: stores that need no split, and runs
-//! on short records.
+//! Executes commands in place, on a page that is neither shared nor copied: stores that need no split, and runs on short
+//! records.
 ghost use Rattle.std.specs.Prelude.{◌≡◌, ◌+◌, ◌≤◌, ℕ, length, true, false, IfSome, IfNone};
 ghost use Rattle.sdbm_addr.specs.Database.{IsDatabase, pairs_at};
 ghost use Rattle.sdbm_addr.specs.Pairs.{pair_limit};
@@ -106,7 +106,7 @@ pub fn run_in_place<A: Allocator + Copy>(
 }
 
 /// Executes a run without allocating, and returns how its program ended. Returns `None`, and leaves the database unchanged, if
-/// the key is missing, its value is longer than 256 bytes, the program removes the pair, or it saves its record on a shared
+/// the key is missing, its value is longer than 256 bytes, or the program removes the pair or saves its record on a shared
 /// page; use `work_at` and `put_in` then. A page without pairs stays without pairs. `check_run` must accept the run for the
 /// page size of the database, and the place must be that of its key (`Image::place`).
 pub fn run_input_in_place<A: Allocator + Copy>(
@@ -137,8 +137,8 @@ pub fn run_input_in_place<A: Allocator + Copy>(
     None
 }
 
-// Copies the value of the key into the start of `bytes` and runs the program on it. Returns `None` if the key has no pair on
-// the page or its value is longer than `bytes`.
+// Copies the value of the key into the start of `bytes` and runs the program on the copy. Returns `None` if the key has no
+// pair on the page or its value is longer than `bytes`.
 fn run_copied<A: Allocator + Copy>(
     image: &Image<A>,
     number: u32,

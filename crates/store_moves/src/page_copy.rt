@@ -29,7 +29,7 @@ impl<A: Allocator> Model for PageCopy<A> {
 }
 
 impl<A: Allocator> PageCopy<A> {
-    /// Takes a snapshot of the page with a number, without allocating.
+    /// Takes a snapshot of the page with this number, without allocating.
     ///
     /// # Errors
     /// `AllocError` if the page's owner count is at its maximum.

@@ -7,7 +7,7 @@ use sdbm_files::Image;
 use sdbm_page::Page;
 use std::alloc::Allocator;
 
-/// The page with a number, if it has pairs.
+/// Returns the page with a number, or `None` if it has no pairs.
 pub(crate) fn page_at<A: Allocator + Copy>(image: &Image<A>, number: u32) -> Option<&Page<A>>
     ensures pairs { pairs_lent result ≡ pairs_at image.now number }
     ensures size { IfSome result (λ page. page.now.size ≡ image.now.size) }

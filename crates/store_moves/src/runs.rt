@@ -128,7 +128,7 @@ fn run_anew<A: Allocator + Copy>(
     Ok(as_ran(stored, ran(ended)))
 }
 
-// Turns the result of storing a record into that of its run: the reply is the run's, unless the store is crowded.
+// Turns the result of storing a record into the run's result: the reply is the run's, or `Crowded` if nothing was stored.
 fn as_ran<A: Allocator>(stored: Worked<A>, reply: Reply<A>) -> Worked<A>
     ensures { IsWorked (as_ran reply (option_map change_of stored.change)) result }
 {

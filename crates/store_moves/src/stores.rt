@@ -11,7 +11,7 @@ use sdbm_split::{PlanFault, plan_store};
 use std::alloc::{AllocError, Allocator};
 use store_cmd::Reply;
 
-// The reply to a store, and the plan for it.
+// Computes the reply to a store, and its plan.
 pub(crate) fn store_in<A: Allocator + Copy>(
     alloc: A,
     page: Option<&Page<A>>,

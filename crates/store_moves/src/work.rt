@@ -19,8 +19,8 @@ use store_cmd::{Command, Reply};
 /// database of this hash kind, and the page must be the one at that place. Nothing is modified.
 ///
 /// # Errors
-/// `AllocError` if there is no memory for the found value, for the changed pages, or for the page on which a program runs. This
-/// never happens if the reply would be `Missing`, `Exists` or `Crowded`.
+/// `AllocError` if there is no memory for the found value, for the changed pages, or for the page on which a program runs;
+/// never if the reply would be `Missing`, `Exists` or `Crowded`.
 pub fn work_on<A: Allocator + Copy>(
     alloc: A,
     page: Option<&Page<A>>,

@@ -11,13 +11,6 @@ use Rattle.sdbm_addr.specs.Database.{Database, IsDatabase, pairs_at}
 use Rattle.sdbm_saves.specs.declared.part.Part.{Part}
 use Rattle.store_parts.specs.Parts.{IsOpenedPage}
 
--- an existing page has pairs
-pub pairs_there : (db : Database) → IsDatabase db → (n : ℕ) (page : Option (Bor Content)) → option_map (λ (p : Bor Content). p.now.pairs) page ≡ map.get db.pages n → is_some page ≡ true → pairs_at db n ≢ []
-pairs_there db ok n None is there none = let clash : false ≡ true = there in cc
-pairs_there db ok n (Some page) is there none =
-    let same : pairs_at db n ≡ page.now.pairs = ap (λ (o : Option (List Pair)). unwrap_or o []) (sym is) in
-    (ok.pages n page.now.pairs (sym is)).0 (sym same ∙ none)
-
 -- the postconditions of opening a page, as one record
 pub opened_as : (part : Part) (kind : KeyBytes) (size : PageSize) (opened : Option Database) → IfSome opened (λ db. SpellsDirectory part.directory.now db.splits) → IfSome opened (λ db. db.kind ≡ kind) → IfSome opened (λ db. db.size ≡ size)
     → IfSome opened (λ db. Spells size part.page.now (pairs_at db part.number)) → IfSome opened (λ db. (n : ℕ) → n ≢ part.number → pairs_at db n ≡ []) → IfSome opened (IsOpenedPage part kind size)

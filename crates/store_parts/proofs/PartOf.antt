@@ -14,10 +14,12 @@ use Rattle.sdbm_page.proofs.Spelled.{spelled_once}
 use Rattle.sdbm_split.specs.Planned.{PageChange}
 use Rattle.sdbm_files.specs.Installed.{marked}
 use Rattle.sdbm_files.proofs.PagesInBytes.{page_reads}
+use Rattle.sdbm_files.proofs.SomePages.{zeros_spell}
 use Rattle.sdbm_files.proofs.WriteLemmas.{empty_page, length-first_pages, page_of_first}
 use Rattle.sdbm_saves.specs.Saves.{AreFilesFor}
 use Rattle.sdbm_saves.specs.Parts.{ReadsPage, IsReadSo, IsPartOf}
 use Rattle.sdbm_saves.specs.declared.part.Part.{Part}
+use Rattle.sdbm_saves.proofs.Counts.{past_end}
 use Rattle.store_moves.specs.Leads.{MayChange, changed_by}
 use Rattle.store_moves.proofs.Parts.{IsAlikeAt, IsChangedAlike, pairs_alike, pairs_beside}
 use Rattle.store_parts.specs.Parts.{AreWhole, EndsWithPairs, IsOpenedPart}
@@ -27,10 +29,6 @@ use Rattle.store_parts.specs.Parts.{AreWhole, EndsWithPairs, IsOpenedPart}
 whole_pages : (size : PageSize) (long count n : ℕ) → long ≡ count * page_bytes size → long ≤ n * page_bytes size → count ≤ n
 whole_pages Small long count n is le = omega (arith, is, le)
 whole_pages Wide long count n is le = omega (arith, is, le)
-
-past_end : (size : PageSize) (long count n i : ℕ) → long ≡ count * page_bytes size → count ≤ n → long ≤ n * page_bytes size + i
-past_end Small long count n i is le = omega (arith, is, le)
-past_end Wide long count n i is le = omega (arith, is, le)
 
 counted : (size : PageSize) (long count : ℕ) → long ≡ count * page_bytes size → long / page_bytes size ≡ count
 counted Small long count is = omega (arith, is)
@@ -59,20 +57,6 @@ same_or n m = at (eqb n m) refl
 
 -- ---- what the whole file spells
 
--- zeros spell the page without pairs
-bare_page : (size : PageSize) → IsPage size []
-bare_page Small = record { distinct = tt; laid = record { fits = omega arith; small = tt } }
-bare_page Wide = record { distinct = tt; laid = record { fits = omega arith; small = tt } }
-
-zeros_spell : (size : PageSize) → Spells size (bytes_of_page size []) []
-unfolding bytes_of_page
-zeros_spell size = record {
-  free = replicate (free_bytes size []) 0;
-  is = refl;
-  long = ap (λ (l : List ℕ). length l) (empty_page size) ∙ length-replicate (page_bytes size) 0;
-  page = bare_page size;
-}
-
 -- if a page reads as the bytes that spell some pairs, it has those pairs
 pub read_is : (db : Database) (dir pag : List ℕ) → SpellsDatabase db dir pag → (n : ℕ) (page : List ℕ) (pairs : List Pair) → Spells db.size page pairs → ReadsPage db.size pag n page → pairs_at db n ≡ pairs
 read_is db dir pag s n page pairs spells reads = at (nat_lt n s.count) refl
@@ -93,7 +77,7 @@ read_is db dir pag s n page pairs spells reads = at (nat_lt n s.count) refl
         ∙ sym (get_or_past pag (n * page_bytes db.size + i) 0 (past_end db.size (length pag) s.count n i s.pages.long past)) ∙ reads i inside) in
         s.pages.past n past ∙ spelled_once db.size page [] pairs (subst (λ (l : List ℕ). Spells db.size l []) zeros (zeros_spell db.size)) spells
 
--- so a page of zeros has none
+-- a page of zeros has no pairs
 zeros_bare : (db : Database) (dir pag : List ℕ) → SpellsDatabase db dir pag → (n : ℕ) → ReadsPage db.size pag n [] → pairs_at db n ≡ []
 zeros_bare db dir pag s n reads =
     read_is db dir pag s n (bytes_of_page db.size []) [] (zeros_spell db.size)
@@ -106,7 +90,7 @@ module _ (db : Database) (ok : IsDatabase db) (pag : List ℕ) (written : ArePag
   behind : (n : ℕ) → length pag ≤ n * page_bytes db.size → pairs_at db n ≡ []
   behind n le = written.counted.past n (whole_pages db.size (length pag) written.count n long_pag le)
 
-  -- each page reads as its own bytes, including those past the end
+  -- each page, including those past the end, reads as its own bytes
   own_reads : (n : ℕ) → ReadsPage db.size pag n (bytes_of_page db.size (pairs_at db n))
   own_reads n i below = at (nat_lt n written.count) refl
     where

@@ -27,7 +27,7 @@ pub record IsOpenedPage (part : Part) (kind : KeyBytes) (size : PageSize) (db : 
   pub page : Spells size part.page.now (pairs_at db part.number)
   pub others : (n : ℕ) → n ≢ part.number → pairs_at db n ≡ []
 
--- `IsOpenedPage`, if the page that was read is that of the key
+-- `IsOpenedPage`, and the page that was read is the key's
 pub record IsOpenedPart (key : List ℕ) (part : Part) (kind : KeyBytes) (size : PageSize) (db : Database) : Type 0 where
   pub database : IsDatabase db
   pub known : IsOpenedPage part kind size db
@@ -54,8 +54,8 @@ pub record AreWhole (part : Part) (numbers : List ℕ) (db : Database) (pag : Li
   pub spells : SpellsDatabase db part.directory.now pag
   pub read : IsReadSo part numbers db.size pag
 
--- A plan turns the files into those of the database that has to be saved. Without a plan, they already are these files. There
--- is no plan if no database has to be saved.
+-- The plan turns the files into those of the database to save; without a plan, they already are these files. If there is no
+-- database to save, there is no plan.
 abbrev pub SavesAs : Option Database → Option (Vec ℕ) → List ℕ → List ℕ → Type 0
 SavesAs None plan pag dir = plan ≡ None
 SavesAs (Some after) None pag dir = AreFilesFor after pag dir
@@ -68,8 +68,8 @@ pub record IsServed (part : Part) (kind : KeyBytes) (size : PageSize) (entry : E
   pub acts : Acts before entry after
   pub planned : IsPlannedPart part after numbers plan
 
--- On the whole database the command has the same reply. If a save has left the files, the plan turns these into the files of
--- the whole database after the command.
+-- On the whole database the command has the same reply. If the files are as a save leaves them, the plan turns them into
+-- those of the whole database after the command.
 pub record IsSameOnWhole (part : Part) (entry : Entry Global) (plan : Option (Vec ℕ)) (db : Database) (pag : List ℕ) : Type 0 where
   pub after : Database
   pub acts : Acts db entry after

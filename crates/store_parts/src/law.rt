@@ -9,9 +9,9 @@ ghost use Rattle.sdbm_saves.specs.declared.part.Part.{Part};
 ghost use Rattle.store_cmd.specs.declared.Entry.{Entry};
 ghost use Rattle.store_parts.specs.Parts.{AreWhole, IsSameOnWhole, IsServed};
 
-/// The law, as the contract of this function, which does nothing. Take a command about a key, on the database that `open_part`
-/// opened from one page. On every whole database with that page, the command has the same reply. If a save has left the whole
-/// files, the plan of `plan_after` turns these into the files after the command.
+/// States the law in its contract; does nothing. A command about a key, on the database that `open_part` opened from one page,
+/// has the same reply on every whole database with that page. If the whole files are as a save leaves them, the plan of
+/// `plan_after` turns them into the files after the command.
 pub fn same_on_whole()
     ensures { (part : Part) (kind : KeyBytes) (size : PageSize) (entry : Entry Global) (before after : Database) (numbers : List ℕ) (plan : Option (Vec ℕ)) → IsServed part kind size entry before after numbers plan
         → (db : Database) (pag : List ℕ) → db.kind ≡ kind → db.size ≡ size → AreWhole part numbers db pag → IsSameOnWhole part entry plan db pag }

@@ -21,7 +21,16 @@ pub fn open_part(
     requires page { length part.page.now ≡ page_bytes size }
     ensures { IfSome result (IsOpenedPart key.now part.entry kind size) }
 {
-    let image = opened_page(alloc, part, kind, size)?;
+    open_next_part(&Image::empty(alloc, kind, size), key, part)
+}
+
+/// Like `open_part`, with the way of hashing keys and the page size of `known`. If the directory is that of `known`, copies it
+/// instead of checking it again.
+pub fn open_next_part(known: &Image<Global>, key: &[u8], part: Part<'_>) -> Option<Image<Global>>
+    requires page { length part.page.now ≡ page_bytes known.now.size }
+    ensures { IfSome result (IsOpenedPart key.now part.entry known.now.kind known.now.size) }
+{
+    let image = opened_page(known, part)?;
     if image.place(key).page != part.number {
         return None;
     }
@@ -32,27 +41,21 @@ pub fn open_part(
     Some(image)
 }
 
-// The database of the page that was read.
-fn opened_page(
-    alloc: Global,
-    part: Part<'_>,
-    kind: KeyBytes,
-    size: PageSize,
-) -> Option<Image<Global>>
-    requires page { length part.page.now ≡ page_bytes size }
-    ensures { IfSome result (IsOpenedPage part.entry kind size) }
+// Opens the page that was read as a database.
+fn opened_page(known: &Image<Global>, part: Part<'_>) -> Option<Image<Global>>
+    requires page { length part.page.now ≡ page_bytes known.now.size }
+    ensures { IfSome result (IsOpenedPage part.entry known.now.kind known.now.size) }
 {
-    let (dir, number, page) = (part.directory, part.number, part.page);
-    let Ok(opened) = Image::open_page(alloc, dir, number, page, kind, size) else {
+    let Ok(opened) = known.reopen_page(part.directory, part.number, part.page) else {
         return None;
     };
     opened
 }
 
-/// The plan that saves a database of which only one page was read, and the numbers of the pages that it may write. In the file,
-/// all of these pages except the page that was read must be zeros. The plan is `None` if the files do not change. Returns
-/// `None` if allocation fails or if one page is not enough: the page that was read is the last of the file and has no pairs, or
-/// `.pag` would exceed `PAG_LIMIT`.
+/// Plans the save of `after`, the database of `open_part` after a command. Returns the numbers of the pages that the plan may
+/// write, and the plan (`None` if the files do not change). In the file, these pages must be zeros, except the page that was
+/// read. Returns `None` if allocation fails or if one page is not enough: the page that was read is the last of the file and
+/// has no pairs, or `.pag` would exceed `PAG_LIMIT`.
 pub fn plan_after(
     alloc: Global,
     part: Part<'_>,
@@ -79,23 +82,16 @@ fn ends_bare(part: Part<'_>, after: &Image<Global>) -> bool
     ensures { result ≡ false → EndsWithPairs part.entry after.now }
 {
     let pages = part.len / after.page_size().bytes();
-    pages == part.number as usize + 1 && !has_pairs(after, part.number)
+    pages == part.number as usize + 1 && !after.has_pairs(part.number)
 }
 
-// Returns `true` if the page with this number has pairs.
-fn has_pairs(image: &Image<Global>, number: u32) -> bool
-    ensures { result ≡ true → pairs_at image.now number ≢ [] }
-{
-    image.page(number).is_some()
-}
-
-// The number of the page that was read, and those of the pages that have pairs.
+// Returns the number of the page that was read, and the numbers of all pages with pairs.
 fn numbers_of(number: u32, after: &Image<Global>) -> Result<Vec<u32>, AllocError>
     ensures first { IfOk result (λ numbers. Contains numbers.items number) }
     ensures covers { IfOk result (λ numbers. (n : ℕ) → pairs_at after.now n ≢ [] → Contains numbers.items n) }
 {
     let mut numbers = after.page_numbers()?;
-    if has_pairs(after, number) {
+    if after.has_pairs(number) {
         return Ok(numbers);
     }
     numbers.insert(0, number)?;

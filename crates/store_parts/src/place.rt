@@ -6,9 +6,8 @@ use sdbm_addr::{KeyBytes, PageSize, hash, mask};
 use sdbm_page::Page;
 use std::alloc::Global;
 
-/// The number of the page to which a key leads by the bits of a directory, which may be any bytes. The time is linear in the
-/// depth of the place and independent of the number of bytes. `open_part` checks that the bytes are a directory and that the
-/// key leads there.
+/// Returns the number of the page to which a key leads by the bits of a directory. The bytes may be invalid: `open_part`
+/// checks that they are a directory and that the key leads there. Takes time linear in the depth of the place.
 pub fn page_of(directory: &[u8], kind: KeyBytes, key: &[u8]) -> u32 {
     let hash = hash(key, kind);
     let mut bit = 0usize;
@@ -22,7 +21,7 @@ pub fn page_of(directory: &[u8], kind: KeyBytes, key: &[u8]) -> u32 {
     hash & mask(31)
 }
 
-// Returns `true` if a bit of some bytes is set. Bits past the end are not set.
+// Returns `true` if the bit is set. Bits past the end are not set.
 fn is_set(bytes: &[u8], bit: usize) -> bool {
     match bytes.get(bit / 8) {
         Some(byte) => (*byte >> (bit % 8)) & 1 == 1,
@@ -31,7 +30,7 @@ fn is_set(bytes: &[u8], bit: usize) -> bool {
 }
 
 /// Returns `true` if a page has pairs and each of its keys leads to it by the bits of a directory. This detects a directory
-/// that was lost or belongs to another database. Returns `false` if allocation fails.
+/// that was lost or belongs to another database. Returns `false` also if the page is invalid or allocation fails.
 pub fn has_own_pairs(
     alloc: Global,
     directory: &[u8],

@@ -55,7 +55,7 @@ pub calls_more : {A : Type 0} (n : ℕ) (xs : List (Entry A)) (i : ℕ) (d : Ent
 calls_more {A} n xs i d h y_s =
     ap (calls_of n) (take_more xs i d h) ∙ (filter-append (λ (e : Entry A). e.session == n) (take i xs) (slice_index_or xs i d ∷ []) ∙ rw y_s refl)
 
--- the trail has an entry of the session after `at` of its calls that is not the next call: the calls differ
+-- if the session's entry after `at` equal ones is not its next call, the calls differ
 pub calls_apart : {A : Type 0} (n : ℕ) (xs made : List (Entry A)) (i at : ℕ) (d : Entry A) → i < length xs → at ≤ length made → calls_of n (take i xs) ≡ take at made → ((slice_index_or xs i d).session == n) ≡ true → slice_get made at ≢ Some (slice_index_or xs i d) → calls_of n xs ≢ made
 calls_apart {A} n xs made i at d within few same its_own other whole =
     let p : Entry A → Bool = λ e. e.session == n in
@@ -66,7 +66,7 @@ calls_apart {A} n xs made i at d within few same its_own other whole =
     let seam : made ≡ take at made ++ x ∷ rest = parts ∙ append_assoc (take at made) (x ∷ []) rest in
     other (ap (λ ys. slice_get ys at) seam ∙ (ap (slice_get (take at made ++ x ∷ rest)) (sym (length-take-le at made few)) ∙ slice_get-behind (take at made) x rest))
 
--- the trail has fewer of them
+-- if the trail has fewer entries of the session, the calls differ
 pub calls_short : {A : Type 0} (n : ℕ) (xs made : List (Entry A)) (at : ℕ) → at < length made → calls_of n xs ≡ take at made → calls_of n xs ≢ made
 calls_short {A} n xs made at few same whole =
     let l : length made ≡ at = ap length (sym whole ∙ same) ∙ length-take-le at made (omega arith) in
@@ -85,7 +85,7 @@ calls_whole {A} n xs made i at over few same = (λ h. whole ∙ take_all at made
   by_test here true is = refl
   by_test here false is = absurd (calls_short n xs made at (omega (arith, eqb-false at (length made) is)) whole here)
 
--- the trail has one more of them
+-- if the entry is the session's next call, one more call is equal
 pub calls_next : {A : Type 0} (n : ℕ) (xs made : List (Entry A)) (i at : ℕ) (d : Entry A) → i < length xs → calls_of n (take i xs) ≡ take at made → ((slice_index_or xs i d).session == n) ≡ true → slice_get made at ≡ Some (slice_index_or xs i d) → (calls_of n (take (i + 1) xs) ≡ take (at + 1) made) × (at + 1 ≤ length made)
 calls_next {A} n xs made i at d within same its_own here =
     let x = slice_index_or xs i d in

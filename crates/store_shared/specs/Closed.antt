@@ -86,7 +86,7 @@ pub record IsFollowed {A : Type 0} (entries : List (Entry A)) (calls : CallsStat
 abbrev pub AreFollowed : {A : Type 0} → List (Entry A) → List (CallsState A) → List ℕ → Type 0
 AreFollowed {A} entries handed counts = (k : ℕ) (d : CallsState A) → k < length handed → IsFollowed entries (slice_index_or handed k d) (slice_index_or counts k 0)
 
--- below index n, each count is the number of all calls
+-- below index n, each count is the number of calls handed in
 abbrev pub AreWhole : {A : Type 0} → List (CallsState A) → List ℕ → ℕ → Type 0
 AreWhole {A} handed counts n = (k : ℕ) (d : CallsState A) → k < n → slice_index_or counts k 0 ≡ length (slice_index_or handed k d).calls
 
@@ -115,7 +115,7 @@ IsCloseFault s made opened handed Opening = AreOwn made handed × (Covers s.entr
 abbrev pub IsRefusedClose : {A : Type 0} → Opened → List (CallsState A) → CloseFault → Type 0
 IsRefusedClose {A} opened handed fault = (s : DeskState A) × ((made : ℕ) × IsCloseFault s made opened handed fault)
 
--- No fault except perhaps `Stranger`: a number that no session has is allowed here, with an empty list of calls.
+-- The calls may close the store. A number that no session has is allowed here, with an empty list of calls.
 pub record MayClose {A : Type 0} (s : DeskState A) (opened : Opened) (handed : List (CallsState A)) : Type 0 where
   pub distinct : AreDistinct handed
   pub covers : Covers s.entries handed

@@ -8,8 +8,8 @@ use Rattle.store_shared.specs.declared.serving.AnsweredCall.{AnsweredCall}
 use Rattle.store_cmd.specs.Command.{IsSmall}
 use Rattle.store_shared.specs.Shared.{SessionState, with_call, IsReplyTo, IsRefusal}
 
--- The outcome of a call. If it is answered, its size was valid and the session has one call more. If it is refused, the session
--- is unchanged.
+-- The outcome of a call. If the call is answered, its size was valid and the session has one more call. If it is refused, the
+-- session is unchanged.
 abbrev pub IsCall : {A : Type 0} → SessionState A → Command A → Result (Reply A) Refusal → SessionState A → Type 0
 IsCall s command (Ok reply) s' = (s' ≡ with_call s command reply) × (IsSmall s.size command × IsReplyTo s.number command reply)
 IsCall s command (Err refusal) s' = (s' ≡ s) × IsRefusal s.size command refusal

@@ -16,7 +16,7 @@ use Rattle.store_shared.specs.Shared.{IsReplyTo, IsNotForSize}
 abbrev pub short_limit : ℕ
 short_limit = 256
 
--- a run of a program that is longer than that
+-- a run of a program of more than `short_limit` units
 abbrev pub IsLong : {A : Type 0} → Command A → Type 0
 IsLong (Fetch key) = ⊥
 IsLong (Store key value mode) = ⊥
@@ -35,8 +35,8 @@ IsTriedStep session command (Ended (Ok stepped)) = IsStepped session command ste
 IsTriedStep session command (Ended (Err refusal)) = IsNotForSize refusal
 IsTriedStep session command (Busy refused) = refused ≡ command
 
--- the outcome of a look-up: a look at this command of this session, a refusal for a reason other than size, or the command
--- itself
+-- the outcome of taking a `Look`: a look for this command of this session, a refusal for a reason other than size, or the
+-- command itself
 abbrev pub IsLooked : {A : Type 0} → ℕ → Command A → Looking A → Type 0
 IsLooked session command (looking.Looked look) = (look.session ≡ session) × (look.command ≡ command)
 IsLooked session command (looking.Refused refusal) = IsNotForSize refusal

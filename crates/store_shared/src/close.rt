@@ -23,11 +23,11 @@ pub enum CloseFault {
     Missing(u64),
     /// The calls of this session differ from its calls in the trail.
     Torn(u64),
-    /// The trail's opening, the hash kind or the page size differs from that with which the store was opened.
+    /// The trail's opening, the hash kind or the page size is not the one with which the store was opened.
     Opening,
 }
 
-/// Returns the fault with which these calls fail to close a store, if there is one. `made` is the number of its sessions.
+/// Returns the fault that prevents these calls from closing the store, if any. `made` is the number of the store's sessions.
 pub(crate) fn close_fault<A: Allocator + Copy>(
     alloc: A,
     desk: &Desk<A>,
@@ -53,8 +53,8 @@ pub(crate) fn close_fault<A: Allocator + Copy>(
     None
 }
 
-// The first session that is missing or whose calls are torn. A fast pass first checks whether there is one. If that pass fails,
-// a slow comparison follows: it searches the list of calls for each entry, and all entries for each session.
+// Returns the fault of the first session whose calls are missing or torn. A fast pass first compares all calls. If it fails, a
+// slow comparison follows: it searches the list of calls for each entry, and all entries for each session.
 fn first_apart<A: Allocator + Copy>(
     alloc: A,
     made: u64,
@@ -85,7 +85,7 @@ fn is_among<A: Allocator>(number: u64, handed: &[Calls<A>]) -> bool
     handed.iter().any(|calls| number == calls.number())
 }
 
-// The first number in the list that no session has, or that occurs earlier in the list.
+// Returns the fault of the first number in the list that no session has or that is repeated.
 #[tactic(auto, using(crate::proofs::CloseLemmas::Here))]
 fn first_strange<A: Allocator>(handed: &[Calls<A>], made: u64) -> Option<CloseFault>
     ensures none { IfNone result (AreOwn made handed.now) }

@@ -51,7 +51,7 @@ pub(crate) fn make_all<R: Wait, A: Allocator + Copy, G: Gate>(
     }
 }
 
-// Makes a call. If one step can answer the call, uses the lock that is already held.
+// Makes a call. Releases the lock first if one step cannot answer the call.
 fn make<'s, R: Wait, A: Allocator + Copy, G: Gate>(
     rt: &R,
     store: &'s Store<A, G>,

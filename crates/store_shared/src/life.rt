@@ -1,4 +1,4 @@
-//! The life of a store: open it, make sessions, close it.
+//! Opens a store, makes its sessions, and closes it.
 ghost use Rattle.std.specs.Prelude.{◌≡◌, IfOk, IfErr, OnOk, []};
 ghost use Rattle.std.specs.List.{All};
 ghost use Rattle.std.specs.FinMap as map;
@@ -40,7 +40,7 @@ impl<A: Allocator + Copy, G: Gate> Store<A, G> {
     /// entries. Never blocks.
     ///
     /// # Errors
-    /// `AllocError` if there is no memory for a copy of all pairs in a separate block. Image and gate are returned unchanged.
+    /// `AllocError` if there is no memory for a copy of all pairs. Image and gate are returned unchanged.
     pub fn open(
         alloc: A,
         image: Image<A>,
@@ -102,8 +102,8 @@ impl<A: Allocator + Copy, G: Gate> Store<A, G> {
 
     /// Closes the store and returns its database and trail, if the calls handed in are those of the trail. Every session has
     /// ended by then, since each borrows the store. The time is linear in the entries and in the pairs of the opening, and
-    /// quadratic in the sessions. The memory is two numbers a session. If this memory is not available, or if the store does
-    /// not close, the time is proportional to the number of entries times the number of sessions.
+    /// quadratic in the sessions. The memory is two numbers per session. If this memory is not available, or if the store
+    /// does not close, the time is proportional to the number of entries times the number of sessions.
     ///
     /// # Errors
     /// On any error, the store and the calls are returned, and the store can be closed again. Checked in this order:
@@ -111,7 +111,7 @@ impl<A: Allocator + Copy, G: Gate> Store<A, G> {
     ///   repeated.
     /// - `Missing` with the session of the first entry whose session handed in no calls.
     /// - `Torn` with the first session in the list whose calls differ from its calls in the trail.
-    /// - `Opening` if the trail's opening, the hash kind or the page size differs from that with which the store was opened.
+    /// - `Opening` if the trail's opening, the hash kind or the page size is not the one with which the store was opened.
     pub fn close(
         self,
         calls: Vec<Calls<A>, A>,

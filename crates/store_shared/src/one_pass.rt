@@ -7,8 +7,8 @@ use crate::session::Calls;
 use std::alloc::{AllocError, Allocator};
 use store_cmd::KeptEntry;
 
-/// Returns true if every entry is the next call of its session among the calls handed in, and no call is left over. Also
-/// returns false if memory runs out. Uses memory for two numbers a session, and time linear in the entries.
+/// Returns true if every entry is the next call of its session among the calls handed in, and no call is left over. Returns
+/// false also if memory runs out. Uses memory for two numbers per session, and time linear in the entries.
 #[tactic(auto, using(crate::proofs::OnePass::agree_all))]
 pub(crate) fn all_agree<A: Allocator + Copy>(
     alloc: A,
@@ -29,7 +29,7 @@ pub(crate) fn all_agree<A: Allocator + Copy>(
     are_whole(handed, counts.as_slice())
 }
 
-// The index of each session's calls in the list, by the session's number; 0 if none were handed in.
+// Maps each session's number to the index of its calls in the list, or to 0 if none were handed in.
 fn places_of<A: Allocator>(
     alloc: A,
     made: u64,

@@ -1,6 +1,6 @@
 //! Calls that take no ticket. A short command is one step of the desk, under one hold of the lock. A long program runs without
-//! the lock, on a snapshot of the page of its key. Its result is put in if the page is unchanged; otherwise the call takes a
-//! ticket.
+//! the lock, on a snapshot of the page of its key. Its result is installed if the page is unchanged; otherwise the call takes
+//! a ticket.
 ghost use Rattle.std.specs.Prelude.{◌≡◌, ◌↔◌, IsTrue, IfOk, IfErr};
 ghost use Rattle.store_moves.specs.Works.{HasKey};
 ghost use Rattle.store_shared.specs.Shared.{entry_of, IsReplyTo, IsNotForSize};
@@ -13,8 +13,8 @@ use std::alloc::Allocator;
 use std::sync::{MutexGuard, Wait};
 use store_cmd::{Command, KeptEntry, Refusal, SharedCommand};
 
-// The longest program, in units, that runs under the lock. A ticket would hold the lock for longer than a run of such a
-// program.
+// The longest program, in units, that runs under the lock. Running such a program takes less time than a ticket holds the
+// lock.
 const SHORT_PROGRAM: usize = 256;
 
 /// The outcome of a step, and the lock under which it was made.
@@ -31,7 +31,7 @@ enum TriedStep<A: Allocator> {
     Busy(SharedCommand<A>),
 }
 
-// The outcome of looking a command up: a look, a refusal, or the command itself if it needs a ticket.
+// The outcome of taking a `Look`: the look, a refusal, or the command itself if it needs a ticket.
 #[derive(Drop)]
 enum Looking<A: Allocator> {
     Looked(Look<A>),
@@ -39,7 +39,7 @@ enum Looking<A: Allocator> {
     Barred(SharedCommand<A>),
 }
 
-// The outcome of a call without a ticket: its reply, or the command itself if it needs one.
+// The outcome of a call without a ticket: its reply, or the command itself if it needs a ticket.
 #[derive(Drop)]
 enum Passing<A: Allocator> {
     Passed(ReplyPair<A>),
@@ -78,7 +78,7 @@ pub(crate) fn is_long<A: Allocator>(command: &Command<A>) -> bool
     }
 }
 
-// Answers a command under one hold of the lock. Waits while a ticket that is in its way holds its page.
+// Answers a command under one hold of the lock. Waits while a conflicting ticket holds the page.
 fn by_step<R: Wait, A: Allocator + Copy, G: Gate>(
     rt: &R,
     store: &Store<A, G>,
@@ -167,8 +167,8 @@ fn step_on<A: Allocator + Copy>(
     }
 }
 
-// Answers a command under two short holds of the lock, and computes it in between. Takes a ticket instead if the page is held
-// or has changed in the meantime.
+// Answers a command under two short holds of the lock, and computes its result in between. Takes a ticket instead if the page
+// is held or has changed in the meantime.
 fn by_look<R: Wait, A: Allocator + Copy, G: Gate>(
     rt: &R,
     store: &Store<A, G>,
@@ -188,7 +188,7 @@ fn by_look<R: Wait, A: Allocator + Copy, G: Gate>(
     }
 }
 
-// Looks a command up, computes it, and puts it in.
+// Takes a `Look` for a command, computes it, and installs the result.
 fn pass<R: Wait, A: Allocator + Copy, G: Gate>(
     rt: &R,
     store: &Store<A, G>,
@@ -206,7 +206,7 @@ fn pass<R: Wait, A: Allocator + Copy, G: Gate>(
     }
 }
 
-// Looks a command up, under a hold of the lock.
+// Takes a `Look` for a command, under the lock.
 fn look<R: Wait, A: Allocator + Copy, G: Gate>(
     rt: &R,
     store: &Store<A, G>,
@@ -224,7 +224,7 @@ fn look<R: Wait, A: Allocator + Copy, G: Gate>(
     }
 }
 
-// Computes a look without the lock, and puts its result in.
+// Computes a `Look` without the lock, and installs its result.
 fn work<R: Wait, A: Allocator + Copy, G: Gate>(
     rt: &R,
     store: &Store<A, G>,
@@ -242,7 +242,7 @@ fn work<R: Wait, A: Allocator + Copy, G: Gate>(
     }
 }
 
-// Puts a computed look in on a desk.
+// Installs the result of a look on a desk.
 fn put_on<A: Allocator + Copy>(desk: &mut Desk<A>, seen: Seen<A>) -> Result<Passing<A>, Refusal>
     ensures ok { IfOk result (IsPassed seen.session seen.command) }
     ensures refused { IfErr result IsNotForSize }

@@ -1,4 +1,4 @@
-//! Answers the calls of a session by tickets. Such a call takes the lock twice: to request the command, and to commit its
+//! Answers the calls of a session by tickets. Each call takes the lock twice: to request the command, and to commit its
 //! result.
 ghost use Rattle.std.specs.Prelude.{◌≡◌, ◌≢◌, IfOk, IfErr, OnOk, ℕ};
 ghost use Rattle.store_cmd.specs.declared.Reply.TheVariants as replies;
@@ -124,7 +124,7 @@ fn ask_on<A: Allocator + Copy>(
     }
 }
 
-// The refusal of a call whose request the desk refused.
+// Maps the desk's fault to the refusal of the call.
 pub(crate) fn refusal_of(fault: AskFault) -> Refusal
     ensures { IsNotForSize result }
 {
@@ -162,7 +162,7 @@ fn serve<R: Wait, A: Allocator + Copy, G: Gate>(
     Ok(AnsweredCall { reply, entry })
 }
 
-// Waits until a ticket may have been closed, and sets the flag that a session waits.
+// Sets the flag that a session waits, and waits until a ticket may have been closed.
 pub(crate) fn wait<'s, R: Wait, A: Allocator + Copy, G: Gate>(
     rt: &R,
     store: &'s Store<A, G>,
@@ -173,8 +173,7 @@ pub(crate) fn wait<'s, R: Wait, A: Allocator + Copy, G: Gate>(
     store.changed.wait(rt, core)
 }
 
-// Commits a computed command. If the command changes its page, the ticket's hold is made exclusive under the same hold of the
-// lock.
+// Commits a computed command. If the command changes its page, first makes the ticket's hold exclusive, under the same lock.
 fn finish<R: Wait, A: Allocator + Copy, G: Gate>(
     rt: &R,
     store: &Store<A, G>,
@@ -261,7 +260,7 @@ fn convert_once_free<'s, R: Wait, A: Allocator + Copy, G: Gate>(
     unreachable!()
 }
 
-// Closes a ticket without an entry.
+// Abandons a ticket, and returns the refusal.
 fn give_up<R: Wait, A: Allocator + Copy, G: Gate>(
     rt: &R,
     store: &Store<A, G>,

@@ -70,15 +70,15 @@ impl<A: Allocator> Calls<A> {
 }
 
 /// A short call is one step of the desk, under one hold of the lock. A long program runs without the lock. A call blocks while
-/// another session holds the page. An answered call is added to the session's calls. A refused call commits nothing, leaves no
-/// ticket open and adds nothing.
+/// another session's hold on the page conflicts. An answered call is added to the session's calls. A refused call commits
+/// nothing, leaves no ticket open and adds nothing.
 ///
 /// # Errors
 /// - Any call: `TrailFull` if the number of entries and open tickets is at the limit of the trail.
-/// - Any call: `NoMemory` if allocation fails: of copies of the operands and of the command that trail and session share,
-///   before the request; of a ticket, the reply or the new pages; or of the session's own entry, before the desk commits.
-/// - Any call: `NoMemory` if the owner count of a command is at its maximum.
-/// - Any call: `Strayed` if the desk does not recognize the session's ticket. No call here causes that, and a test checks this.
+/// - Any call: `NoMemory` if there is no memory for the copied operands, the shared command, a ticket, the reply, the new
+///   pages or the session's own entry.
+/// - Any call: `NoMemory` if an owner count is at its maximum.
+/// - Any call: `Strayed` if the desk does not recognize the session's ticket. A test checks that no call here causes this.
 /// - `store`, `run` and `call_all` only: `PairTooLarge`, and `ArgTooLong` for a run. These are checked first.
 impl<'a, A: Allocator + Copy, G: Gate> Session<'a, A, G> {
     // A session without calls.
@@ -165,9 +165,10 @@ impl<'a, A: Allocator + Copy, G: Gate> Session<'a, A, G> {
     /// no number of splits makes room. `blank` is the number of zero bytes on which the program runs if the key is missing. The
     /// call adds an owner to the program and does not copy it. Waits like `store`.
     ///
-    /// # Errors `PairTooLarge` if and only if key and blank together are longer than a pair of the store may be, 1,008 or 8,008
-    /// bytes; otherwise `ArgTooLong` if and only if the argument is longer than 1,024 bytes. `NoMemory` if the program's owner
-    /// count is at its maximum.
+    /// # Errors
+    /// `PairTooLarge` if and only if key and blank together are longer than a pair of the store may be, 1,008 or 8,008 bytes;
+    /// otherwise `ArgTooLong` if and only if the argument is longer than 1,024 bytes. `NoMemory` if the program's owner count is
+    /// at its maximum.
     pub fn run<R: Wait>(
         &mut self,
         rt: &R,

@@ -52,7 +52,7 @@ pub fn lacks_memory<A: Allocator>(outcome: &EventOutcome<A>) -> bool {
     }
 }
 
-// The calls of the desk, one function for each.
+// One function for each call of the desk.
 fn step<A: Allocator + Copy>(
     desk: &mut Desk<A>,
     session: u64,

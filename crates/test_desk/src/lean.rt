@@ -1,4 +1,4 @@
-//! Calls that are repeated with more memory until there is enough.
+//! Repeats calls with more memory until there is enough.
 
 use crate::bench::Bench;
 use crate::calls::{Call, Came, lacks_memory, make_call};

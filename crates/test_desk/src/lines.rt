@@ -1,4 +1,4 @@
-//! The words of a line.
+//! Reads calls and events from words.
 
 use crate::calls::Call;
 use desk_core::{Event, Ticket};

@@ -23,7 +23,7 @@
 //! | `write` | the bytes of both files |
 //! | `# TEXT` | the line itself |
 //!
-//! In `play`, an event is a line from `ask` to `abandon` except `done`. It has a ticket instead of a hand, and `ask` has
+//! In `play`, an event is a line from `ask` to `abandon` except `done`. An event has a ticket instead of a hand; `ask` has
 //! neither. A line after the word `lean` is for a desk in a heap. Its call is repeated with 16 bytes more until there is enough
 //! memory. The answer then ends with `with more memory` if there was not enough at first. Each refused call has to be returned
 //! and to leave the desk unchanged.

@@ -12,7 +12,7 @@ fn first(bytes: &[u8], count: usize) -> &[u8] {
     &bytes[..count.min(bytes.len())]
 }
 
-// The number of pairs of a database of which one file is truncated, or the fault.
+// Opens a database with one file truncated. Returns the number of pairs, or the fault.
 fn count_of_cut(
     global: Global,
     known: &Known,

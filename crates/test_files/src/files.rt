@@ -13,7 +13,7 @@ pub struct Files {
     pub pag: MemSink<Global>,
 }
 
-/// Returns `true` if both have the same bytes.
+/// Returns `true` if both pairs of files have the same bytes.
 pub fn same_files(a: &Files, b: &Files) -> bool {
     a.dir.bytes() == b.dir.bytes() && a.pag.bytes() == b.pag.bytes()
 }
@@ -27,7 +27,7 @@ pub fn write_both<A: Allocator + Copy, B: Allocator>(
     image.write(dir, pag)
 }
 
-/// The files of a database. `Image::pag_len` has to predict the length of `.pag`.
+/// Writes a database. Returns `None` if a write fails or if `Image::pag_len` is not the length of `.pag`.
 pub fn files_of<A: Allocator + Copy>(global: Global, image: &Image<A>) -> Option<Files> {
     let mut dir = MemSink::new(global);
     let mut pag = MemSink::new(global);

@@ -1,4 +1,4 @@
-//! Files that are read and written in heaps of each size.
+//! Reads and writes files in heaps of each size.
 
 use crate::bench::Known;
 use crate::files::{Files, files_of, open_known, opened_text, same_files, write_both};
@@ -47,8 +47,8 @@ fn opens_in(global: Global, size: usize, known: &Known, files: &Files) -> Option
     Some(enough)
 }
 
-// Returns `true` if the sinks have the bytes that a write leaves. Without a fault these are the whole files. Otherwise they are
-// whole pages, and the sink with the fault has failed.
+// Returns `true` if the sinks have the bytes that a write leaves. Without a fault these are the whole files. Otherwise `.pag`
+// has whole pages and `.dir` is empty, and the sink with the fault has failed.
 fn are_written<A: Allocator>(
     ended: Result<(), WriteFault>,
     dir: &MemSink<A>,
@@ -106,7 +106,7 @@ fn least_heap(global: Global, known: &Known, is_opened: bool) -> Option<usize> {
     None
 }
 
-/// Says whether the least heap that is large enough has more than `count` bytes; all smaller heaps were refused.
+/// Says whether the smallest heap that is large enough has more than `count` bytes.
 pub fn heaps_text(global: Global, known: &Known, rest: &str) -> Option<String> {
     let (word, count) = cut(rest);
     let count = number(count);

@@ -9,9 +9,9 @@ use test_support::{cut, number};
 // The way in which a sink stops.
 #[derive(Clone, Copy, Debug, PartialEq, Eq)]
 enum Stop {
-    // It fails.
+    // Fails.
     Fails,
-    // It accepts no more bytes.
+    // Accepts no more bytes.
     TakesNone,
 }
 

@@ -1,12 +1,11 @@
-//! Databases that are given as bytes: the number of their pairs, and whether they stay the same when they are written and read
-//! again.
+//! Databases given as bytes: the number of their pairs, and whether writing and reading them again leaves them the same.
 
 use crate::files::{files_of, open_files, open_known, opened_text, read_known, same_files};
 use sdbm_files::Image;
 use std::alloc::Global;
 use test_support::tail;
 
-// Returns `true` if a database that is written and read again has the same number of pairs, and its files the same bytes.
+// Returns `true` if writing and reading a database again keeps its number of pairs and the bytes of its files.
 fn image_stays(global: Global, image: &Image<Global>) -> Option<bool> {
     let files = files_of(global, image)?;
     let dir = files.dir.bytes();

@@ -1,4 +1,4 @@
-//! Databases that are widened, with more and more memory until there is enough.
+//! Widens databases, with more and more memory until there is enough.
 
 use crate::bench::Bench;
 use crate::files::{Files, files_of, same_files};
@@ -52,8 +52,8 @@ fn widened_text(times: usize, count: usize) -> &'static str {
     }
 }
 
-/// Widens the database with more and more memory until there is enough. Says whether it was refused at first, and if so,
-/// whether more than `count` times. A refusal has to leave the database unchanged.
+/// Widens the database with more and more memory until there is enough. Says whether widening was refused at first, and if
+/// so, whether more than `count` times. A refusal has to leave the database unchanged.
 pub fn widen_text<A: Allocator + Copy>(bench: &mut Bench<A>, count: &str) -> Option<String> {
     let count = count.parse::<usize>().ok()?;
     let mut image = bench.image.take()?;

@@ -51,7 +51,7 @@ fn each_growth_refused(rt: HostRuntime) -> Result<(), Fail> {
     Err(Fail::from("no heap is large enough"))
 }
 
-// `examine` also copies states, which may fail too. It returns the program, and leaves nothing else in the heap.
+// `examine` also copies states, which may fail too. It then returns program and states, and leaves nothing else in the heap.
 #[test]
 fn each_growth_refused_to_examine(rt: HostRuntime) -> Result<(), Fail> {
     let want = assemble(rt.alloc(), COUNTER)?;
@@ -155,7 +155,7 @@ fn count_states(alloc: Global, text: &str) -> Result<Option<usize>, Fail> {
     Ok(Some(count))
 }
 
-// The kinds of a register, with joins, calls, a constant of two units, and unreachable units.
+// The kinds of registers, with joins, calls, a constant of two units, and unreachable units.
 #[test]
 fn kinds_of_registers(rt: HostRuntime) -> Result<(), Fail> {
     assert_eq!(rt; count_states(rt.alloc(), COUNTER)?, Some(8));

@@ -5,8 +5,8 @@ use sdbm_addr::{Bytes, Mode};
 use std::alloc::{AllocError, Global};
 use store_cmd::{Command, Program, Reply, SharedCommand};
 
-/// The keys, sorted by their bytes, and their hashes. Some hashes differ in their first bits. Those of `0000` and `0808` differ
-/// first in the tenth bit, and those of `003f`, `0100` and `3f` only after it.
+/// The keys, sorted by their bytes, and their hashes. The hashes of `0000` and `0808` differ first in the tenth bit. Those of
+/// `003f` and `3f` are equal, and that of `0100` differs from them first in the 17th.
 pub const KEYS: [(&[u8], u32); 8] = [
     (b"\x00\x00", 0),
     (b"\x00\x3f", 63),
@@ -128,7 +128,7 @@ pub fn shared_of(
     }
 }
 
-/// A reply without the memory that it owns.
+/// Converts a reply to one that owns no memory.
 pub fn said_by(reply: &Reply<Global>) -> Told {
     match reply {
         Reply::Found(value) => match value_of(value.as_slice()) {

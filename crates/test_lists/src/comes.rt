@@ -47,7 +47,7 @@ pub fn event_of(
     }
 }
 
-/// An outcome without the memory that it owns.
+/// Converts an outcome to one that owns no memory.
 pub fn come_of(outcome: &EventOutcome<Global>) -> Comes {
     match outcome {
         EventOutcome::Asked(ticket) => Comes::Asked(ticket.0),

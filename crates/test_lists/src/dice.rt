@@ -26,8 +26,8 @@ impl Dice {
     }
 }
 
-// Lengths of values whose pairs fit on one page, divide pages, crowd pages, or are too large. With keys of two bytes, a value
-// of 410 bytes still fits next to one of 600, and a value of 411 does not; 1,006 bytes are the maximum.
+// Lengths of values whose pairs fit on one page, split pages, are crowded out, or are too large. With keys of two bytes, a
+// value of 410 bytes still fits next to one of 600, and a value of 411 does not; 1,006 bytes are the maximum.
 const COUNTS: [usize; 8] = [1, 2, 300, 410, 411, 600, 1006, 1008];
 
 fn any_value(dice: &mut Dice) -> Value {

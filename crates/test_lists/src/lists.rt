@@ -15,7 +15,7 @@ use store_cmd::{Program, SharedCommand, Trail};
 // The number of steps after a list.
 const STEPS: usize = 5;
 
-// The calls of the desk, one function for each.
+// One function for each call of the desk.
 fn open(alloc: Global, image: Image<Global>, limit: usize) -> Result<Desk<Global>, AllocError> {
     match Desk::open(alloc, image, limit) {
         Ok(desk) => Ok(desk),
@@ -101,7 +101,7 @@ fn step_both(
     Ok(None)
 }
 
-// Makes random steps while the tickets of a list that was played are still open. Returns the first difference, if there is one.
+// Makes random steps while the tickets of the played list are still open. Returns the first difference, if there is one.
 fn steps_both(
     alloc: Global,
     programs: &[Program<Global>],

@@ -6,7 +6,7 @@ use crate::store::{Answer, Store, size_fault};
 use desk_core::{AskFault, ConvertFault, FinishFault};
 use std::alloc::{AllocError, Global};
 
-// The three modes of a hold. The next function says which modes exclude each other.
+// The three modes of a hold. `go_together` says which modes are compatible.
 #[derive(Clone, Copy, Debug, PartialEq, Eq)]
 enum Mode {
     Read,
@@ -62,7 +62,7 @@ pub struct Seen {
 }
 
 impl Seen {
-    /// All counts are zero.
+    /// Creates counts of zero.
     pub fn nothing() -> Self {
         Seen {
             splits: 0,
@@ -85,7 +85,7 @@ impl Seen {
     }
 }
 
-/// A desk. Closed tickets are used again: the ticket that was closed last comes first.
+/// A model of a desk. Closed tickets are reused: the ticket closed last is opened first.
 #[derive(Drop)]
 pub struct Model {
     pub store: Store,
@@ -107,7 +107,7 @@ fn first_hold(ask: Ask) -> Option<(usize, Mode)> {
 }
 
 impl Model {
-    /// A desk over a database.
+    /// Opens a model on a database.
     pub fn open(alloc: Global, store: Store, limit: usize, seen: Seen) -> Self {
         Model {
             store,

@@ -13,7 +13,7 @@ pub struct Store {
     splits: Vec<(u32, u32)>,
 }
 
-// The lowest bits of a hash, at most 31 bits.
+// The lowest `bits` bits of a hash.
 fn low(hash: u32, bits: u32) -> u32 {
     if bits > 31 {
         return hash;
@@ -116,7 +116,7 @@ impl Store {
         self.values.iter().filter(|value| value.is_some()).count()
     }
 
-    // The room that the pairs of all other keys take whose hashes have the same lowest `bits` bits.
+    // The room of the pairs of all other keys with the same lowest `bits` bits of the hash.
     fn taken(&self, key: usize, bits: u32) -> usize {
         let own = low(hash_of(key), bits);
         let mut taken = 0usize;
@@ -142,7 +142,7 @@ impl Store {
         None
     }
 
-    // The answer to a store of a new pair: `told` if there is room, otherwise `Crowded`.
+    // The answer to a store of a pair: `told` if there is room, otherwise `Crowded`.
     fn stored(&self, told: Told, key: usize, value: Value) -> Answer {
         match self.splits_for(key, value) {
             Some(_) => changed(told, key, Some(value)),

@@ -14,7 +14,7 @@ pub struct Tally {
 }
 
 impl Tally {
-    /// No runs yet.
+    /// Creates a tally without runs.
     pub fn new() -> Tally {
         Tally {
             alike: 0,
@@ -31,7 +31,7 @@ impl Tally {
     }
 }
 
-/// Returns `true` if both machines answer a run in the same way and leave the same record.
+/// Returns `true` if both machines answer a run alike, within the program's length, and leave the same record.
 pub fn is_alike(
     alloc: Global,
     program: &Verified,

@@ -8,7 +8,7 @@ use bpf_insn::{decode, encode};
 use bpf_verify::{Verified, verify};
 use std::alloc::{AllocError, Global};
 
-// The lengths of the records, which are zeros.
+// The lengths of the records. All their bytes are zeros.
 const LENGTHS: [usize; 5] = [0, 7, 8, 1008, 8008];
 
 // The numbers of images with each result.

@@ -1,4 +1,4 @@
-//! The words of a line.
+//! Reads programs and their input from words.
 
 use bpf_asm::assemble;
 use bpf_helpers::Env;
@@ -16,7 +16,7 @@ pub struct Input {
     pub argument: Vec<u8>,
 }
 
-/// Reads bytes that may be followed by a number of zeros.
+/// Reads bytes in hex; `+N` after them appends N zeros.
 pub fn read_bytes(alloc: Global, word: &str) -> Option<Vec<u8>> {
     let (digits, zeros) = match word.split_once('+') {
         Some((digits, zeros)) => (digits, zeros.parse::<u16>().ok()?),

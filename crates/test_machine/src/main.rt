@@ -6,7 +6,7 @@
 //! |---|---|
 //! | `image RECORD ARGUMENT NOW KEY WHO IMAGE` | `ended CODE WORD STEPS RECORD` on the checked machine, or `stuck AT RECORD` |
 //! | `text RECORD ARGUMENT NOW KEY WHO TEXT` | the same for a text, with ` / ` instead of line feeds |
-//! | `changes TEXT` | for all images that differ from a text's in one byte: the numbers of those that are invalid, that are refused, and that run alike and not alike on both machines on records of 0, 7, 8, 1,008 and 8,008 zeros |
+//! | `changes TEXT` | of all images that differ from a text's in one byte, the numbers of invalid and of refused ones, and of those that run alike, or not, on both machines on records of 0, 7, 8, 1,008 and 8,008 zeros |
 //! | `file RECORD ARGUMENT NOW KEY WHO NAME` | `code CODE, word WORD, STEPS steps, VALUE` for the program in a file of `data/`, or its refusal |
 //! | `example RECORD ARGUMENT NOW KEY WHO TEXT` | the same for a text |
 //! | `verdict TEXT` | `accepted`, or the refusal of the text |
@@ -14,10 +14,10 @@
 //! | `MACHINE line LENGTH ROUNDS` | the same for a straight line of LENGTH instructions, at least 4: arithmetic on two registers |
 //! | `MACHINE image RECORD ARGUMENT IMAGE ROUNDS` | the same for an accepted image; each run begins with that record |
 //! | `verify ..` | the same for ROUNDS verdicts on such a program; its units count as steps |
-//! | `time LINE` | the same for such a line, with the instructions or units a second, and the nanoseconds of a run or a verdict |
+//! | `time LINE` | the same for such a line, with the instructions or units per second, and the nanoseconds per run or verdict |
 //! | `transfer OPERATION WIDTH RANGE RANGE` | the range of the results |
 //! | `refine TEST WIDTH EDGE RANGE RANGE` | both ranges on that edge of a conditional jump, or `never` |
-//! | `of RANGE` | the knowledge of a number of the range |
+//! | `of RANGE` | the knowledge of a number in the range |
 //! | `known OPERATION WIDTH KNOWN KNOWN` | the knowledge of the results |
 //! | `join KNOWN KNOWN` | the knowledge of a number that is one or the other |
 //! | `refined TEST WIDTH EDGE KNOWN KNOWN` | the knowledge of both on that edge, or `never` |
@@ -26,16 +26,16 @@
 //!
 //! Bytes are in hex, `.` is the empty string, and `+N` after bytes means N more zeros. The printed record is the one that the
 //! run left, and its last zeros are written in this form. `KEY` is `there` or `absent`; if it is `absent`, the record of an
-//! example is zeros. `VALUE` is the value of the key after the exit number has taken effect: bytes, or `none`. Such a program
-//! is verified before it runs. A range is `LO..HI`, knowledge is `LO..HI,VALUE,UNKNOWN`, and an edge is `taken` or `untaken`.
-//! Operations and tests have the names of the assembler.
+//! example is zeros. `VALUE` is the value of the key after the exit number has taken effect: bytes, or `none`. The program of
+//! an example is verified before it runs. A range is `LO..HI`, knowledge is `LO..HI,VALUE,UNKNOWN`, and an edge is `taken` or
+//! `untaken`. Operations and tests have the names of the assembler.
 //!
 //! The first 112 images have the answers of an independent machine that tests everything. The next 402 have those of an
 //! independent implementation of the meaning of a run of an accepted program. The last 51 texts have the answers of a model in
-//! Python. The other texts were worked out by hand from the rules of a step. So were the examples; a separate interpreter
+//! Python. The other texts were worked out by hand from the rules of a step. The examples were, too; a separate interpreter
 //! counted their steps. The first 48 lines of `transfer`, 56 of `refine`, 18 of `known` and 4 of `join` have the answers of an
-//! independent implementation of the rules. The rest have those of a second implementation, which agrees with the first on
-//! these lines; 15 lines, up to the helpers, were worked out by hand. The last 83 lines of ranges have the answers of a third
+//! independent implementation of the rules. The rest have those of a second implementation, which also gives the answers of the
+//! first; 15 lines, up to the helpers, were worked out by hand. The last 83 lines of ranges have the answers of a third
 //! implementation, which agrees on all other lines. Each of the 83 lines is a case that a correct but less precise answer would
 //! miss.
 #![tactic(auto)]

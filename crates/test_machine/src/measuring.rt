@@ -45,7 +45,7 @@ const ENV: Env = Env {
     who: 3,
 };
 
-// Runs a program once, on the machine without tests or on the machine that tests everything. Returns the steps and the result.
+// Runs a program once, on the checked machine for `RunChecked`. Returns the steps and the result.
 fn run_once(asked: &Measurement, bytes: &mut [u8]) -> Option<(u64, u64)> {
     if bytes.len() > RECORD_LIMIT || asked.argument.len() > ARGUMENT_LIMIT {
         return None;
@@ -122,7 +122,7 @@ fn read_work(word: &str) -> Option<Work> {
     }
 }
 
-// One of the built-in programs, on a record of 8 zeros.
+// The measurement of a built-in program on a record of 8 zeros.
 fn own_measurement(
     alloc: Global,
     work: Work,
@@ -139,7 +139,7 @@ fn own_measurement(
     })
 }
 
-// The program of an image, with its input.
+// Reads the measurement of an image's program on its input.
 fn image_measurement(alloc: Global, work: Work, words: &str) -> Option<Measurement> {
     let (bytes, rest) = words.split_once(' ')?;
     let (argument, rest) = rest.split_once(' ')?;

@@ -8,7 +8,7 @@ use bpf_machine::{Checked, run_checked};
 use bpf_verify::{Verified, verify};
 use std::alloc::{AllocError, Global};
 
-// Bytes in hex, with the zeros at their end as a number.
+// Bytes in hex, with N trailing zeros as `+N`.
 fn show_bytes(alloc: Global, bytes: &[u8]) -> Result<String, AllocError> {
     let all = hex::encode(alloc, bytes)?;
     let digits = all.as_str().trim_end_matches("00");

@@ -33,7 +33,7 @@
 //!
 //! Bytes and files are as in `test_support`. A line after the word `lean` is for a bench in a heap. A `whole` page is written
 //! and read again, and the answer ends with `again` if it stayed the same. Apart from `again`, the answers to `whole` lines are
-//! those of an independent implementation, except for 7 pages. The keys of these were chosen to set the same marks, so their
+//! those of an independent implementation, except for 7 pages. The keys of these set the same bits of the key filter, so their
 //! answers follow from the construction.
 #![tactic(auto)]
 

@@ -1,4 +1,4 @@
-//! Pages: their pairs and the indices of these, writes in place, their room, and their bytes.
+//! Pages: their pairs with their indices, writes in place, room, and bytes.
 
 use crate::bench::Bench;
 use crate::edits::edits_text;
@@ -34,7 +34,7 @@ pub fn show_pairs_of<A: Allocator>(out: &mut String, page: &Page<A>) -> Result<(
     Ok(())
 }
 
-// Overwrites the first byte of a value. Returns `false` if there is no such value or it is empty.
+// Overwrites the first byte of a value. Returns `false` if the value is missing or empty.
 fn put_first<A: Allocator>(page: &mut Page<A>, i: usize, byte: u8) -> bool {
     if i >= page.len() {
         return false;
@@ -48,7 +48,7 @@ fn put_first<A: Allocator>(page: &mut Page<A>, i: usize, byte: u8) -> bool {
     }
 }
 
-/// Reads bytes as a page. Returns `None` if their number is not that of a page of this size.
+/// Reads bytes as a page. Returns `None` if their number is not the page size.
 pub fn read_page<A: Allocator + Copy>(
     alloc: A,
     bytes: &[u8],

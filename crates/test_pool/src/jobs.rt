@@ -98,7 +98,7 @@ impl<'a> Pool<'a> {
         Some(self.tasks.len())
     }
 
-    /// Runs the waiting tasks by workers, and removes the tasks. Reserves the memory that `keep` needs.
+    /// Runs the waiting tasks with workers, and removes the tasks. Reserves the memory that `keep` needs.
     pub fn run<R: Threads + Wait + Sync>(&mut self, rt: &R, workers: usize) -> Option<Outcome> {
         self.calls.reserve(workers).ok()?;
         let store = self.store.as_ref()?;

@@ -1,4 +1,4 @@
-//! Runs tasks by workers as lines request, and prints the results.
+//! Runs tasks with workers, as the lines request, and prints the results.
 //!
 //! Each line of standard input is a request. Its first word is the kind.
 //!
@@ -11,7 +11,7 @@
 //! | `tasks COUNT KEY PROG ARG BLANK` | the number of waiting tasks: adds COUNT runs, with the times from 0 |
 //! | `jobs WORKERS` | the replies of the waiting tasks, or the fault; then the number of sessions, and the times of the calls of each session, up to the last that has calls |
 //! | `session` | the number of another session, which makes no calls |
-//! | `close` | `closed`, and the numbers of entries and of pairs, with the calls of all sessions so far; or `not closed`, and the fault |
+//! | `close` | `closed`, and the numbers of entries and of pairs; or `not closed`, and the fault. Hands in the calls of all sessions so far |
 //! | `order` | the session of each entry of the store that was closed last, in order |
 //! | `pass` | the line itself: from now on, until the next store or `meet`, no job comes to the gate, so that workers take no ticket |
 //! | `meet COUNT` | the line itself: from now on, until the next store, each session is held at work until COUNT sessions are at work, and session 0 until session 1 has finished |

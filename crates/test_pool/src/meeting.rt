@@ -21,7 +21,7 @@ pub struct Meeting {
 }
 
 impl Meeting {
-    /// A meeting without sessions, for which no session waits.
+    /// Creates a meeting that makes no session wait.
     pub fn new() -> Self {
         Meeting {
             wanted: AtomicU64::new(0),
@@ -32,12 +32,13 @@ impl Meeting {
         }
     }
 
-    /// Lets no job come to the gate from now on.
+    /// Keeps all jobs from the gate from now on.
     pub fn pass(&self) {
         self.passed.store(1, Ordering::SeqCst);
     }
 
-    /// Makes `wanted` sessions meet from now on, or none if it is 0. Resets the counts, and lets all jobs come to the gate.
+    /// Makes `wanted` sessions meet from now on, or none if `wanted` is 0. Resets the counts, and lets all jobs come to the
+    /// gate.
     pub fn want(&self, wanted: u64) {
         self.passed.store(0, Ordering::SeqCst);
         for count in [&self.came, &self.done, &self.vain] {
@@ -54,7 +55,7 @@ impl Meeting {
         )
     }
 
-    // Waits until a count is reached. If the wait times out, counts that.
+    // Waits until a count is reached, or counts a wait that timed out.
     fn wait_for(&self, count: &AtomicU64, wanted: u64) {
         for _ in 0..TURNS {
             if count.load(Ordering::SeqCst) >= wanted {

@@ -11,14 +11,14 @@
 //! | `program TEXT` | `accepted`, or the fault |
 //! | `ends TEXT` | the same, for the text with `mov r0, 0 / exit` after it |
 //! | `filled COUNT TEXT` | the same, with each `*` replaced by COUNT times `mov r0, 0` |
-//! | `kinds UNIT TEXT` | the kinds of the registers before the instruction at a unit, without registers that may hold anything; `nothing` if the unit has no state |
+//! | `kinds UNIT TEXT` | the kinds of the registers before the instruction at a unit, without unset registers; `nothing` if the unit has no state |
 //! | `why TEXT` | the reason why a program is refused, in a sentence |
 //! | `explain TEXT` | the explanation of a program, ` / ` between its lines |
 //! | `submit TEXT` | `program ID`, or `refused FAULT` |
 //! | `offer BYTES` | the same for an image |
 //! | `each FROM TO TEXT` | the first and the last answer and the number of refusals, with FROM to TO - 1 in place of `#` |
 //! | `get ID` | the text of a program, or `none` |
-//! | `counts` | the number of stored verdicts, and the number of answers that were found among these |
+//! | `counts` | the number of stored verdicts, and the number of answers from them |
 //! | `new` | `new`; the following lines use a new registry |
 //! | `# WORDS` | the line itself |
 //!

@@ -15,7 +15,7 @@ fn image_of(alloc: Global, text: &str) -> Result<Option<Vec<u8>>, AllocError> {
     }
 }
 
-// Reads bytes that may be followed by a number of zeros.
+// Reads bytes in hex; `+N` after them appends N zeros.
 fn read_bytes(alloc: Global, word: &str) -> Option<Vec<u8>> {
     let (digits, zeros) = match word.split_once('+') {
         Some((digits, zeros)) => (digits, zeros.parse::<u16>().ok()?),
@@ -51,7 +51,7 @@ fn show_image(
     }
 }
 
-// The text with each mark replaced by a number.
+// The text with each `#` replaced by a number.
 fn numbered(alloc: Global, text: &str, number: u32) -> Result<String, AllocError> {
     let digits = format!(in alloc; "{number}")?;
     text.replace(alloc, "#", digits.as_str())
@@ -85,7 +85,7 @@ fn show_range(
     format!(in alloc; "{first}, {last}, {refused} refused")
 }
 
-// The first and the last answer and the number of refusals, for a range and a text in the words of a line.
+// The first and the last answer and the number of refusals, for a line `FROM TO TEXT`.
 fn show_each(alloc: Global, registry: &mut Registry, words: &str) -> Result<String, AllocError> {
     let Some((from, rest)) = words.split_once(' ') else {
         return String::from_str(alloc, "a line without a range");

@@ -5,7 +5,7 @@ use bpf_insn::{Code, decode, encode};
 use std::alloc::{AllocError, Global};
 use std::fmt::Write;
 
-// Appends the instructions of a code, separated by a mark.
+// Appends the instructions of a code, separated by ` / `.
 fn push_insns(out: &mut String, code: &Code) -> Result<(), AllocError> {
     for unit in 0..code.units() {
         if let Some(insn) = code.insn_at(unit) {
@@ -16,7 +16,7 @@ fn push_insns(out: &mut String, code: &Code) -> Result<(), AllocError> {
     Ok(())
 }
 
-// Appends the text of a code, with a mark between its lines.
+// Appends the text of a code, with ` / ` between its lines.
 fn push_text(alloc: Global, out: &mut String, code: &Code) -> Result<(), AllocError> {
     let text = disassemble(alloc, code)?;
     let marked = text.as_str().trim_end().replace(alloc, "\n", " / ")?;

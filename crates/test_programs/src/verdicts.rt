@@ -18,7 +18,7 @@ fn code_of(alloc: Global, text: &str) -> Result<Result<Code, String>, AllocError
     }
 }
 
-// An accepted program, with its states.
+// Examines a text. Returns the accepted program, or the fault.
 fn accepted(alloc: Global, text: &str) -> Result<Result<Examined, String>, AllocError> {
     let code = match code_of(alloc, text)? {
         Ok(code) => code,
@@ -50,13 +50,13 @@ fn show_verdict(alloc: Global, text: &str) -> Result<String, AllocError> {
     Ok(verdict)
 }
 
-// The verdict on a text, with instructions appended that return 0.
+// The verdict on a text with `mov r0, 0 / exit` appended.
 fn show_ended(alloc: Global, text: &str) -> Result<String, AllocError> {
     let text = format!(in alloc; "{text} / mov r0, 0 / exit")?;
     show_verdict(alloc, text.as_str())
 }
 
-// The verdict on a text in which each mark is replaced by a number of instructions.
+// The verdict on a text with each `*` replaced by a number of instructions.
 fn show_filled(alloc: Global, words: &str) -> Result<String, AllocError> {
     let Some((count, text)) = words.split_once(' ') else {
         return String::from_str(alloc, "a line without a text");
@@ -142,7 +142,7 @@ fn explained(alloc: Global, text: &str) -> Result<Option<(Explanation, String)>,
     Ok(Some((explanation, lines)))
 }
 
-// The explanation of a program with a mark between its lines; if not `is_whole`, only the refusal in a sentence.
+// The explanation of a program, with ` / ` between its lines; if not `is_whole`, only the refusal, in a sentence.
 fn show_explained(alloc: Global, text: &str, is_whole: bool) -> Result<String, AllocError> {
     let Some((explanation, lines)) = explained(alloc, text)? else {
         return String::from_str(alloc, "no program");

@@ -22,7 +22,8 @@ const GROUP: usize = 16;
 // The maximum number of replies that are shown one by one.
 const FEW: usize = 8;
 
-// A session, its commands, whether it makes calls in groups, and its replies up to the first refused call, with the refusal.
+// A session, its commands, whether it makes calls in groups, its replies, and a refusal, if any. Without groups, a refusal
+// ends the calls.
 #[derive(Drop)]
 struct Caller<'s, G: Gate> {
     session: Session<'s, Global, G>,
@@ -206,7 +207,7 @@ impl<'h, R: Threads + Wait + Sync> Bench<'h, R, Global> {
         Some(())
     }
 
-    /// Makes the calls of a case, by all sessions at the same time, and ends the sessions.
+    /// Makes the calls of a case by all sessions at the same time, and ends the sessions.
     pub fn work_apart<G: Gate>(&mut self, store: &Store<Global, G>, case: Case<'_>) -> Option<()> {
         let mut callers = Vec::new(self.global);
         for line in case.calls.lines() {

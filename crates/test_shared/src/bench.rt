@@ -29,7 +29,7 @@ pub struct Bench<'h, R, A: Allocator> {
     /// The database and the trail of the store that was closed last.
     pub image: Option<Image<A>>,
     pub trail: Option<Trail<A>>,
-    /// The calls of sessions that ended since then.
+    /// The calls of sessions that ended after that.
     pub hands: Vec<Option<Calls<A>>>,
 }
 

@@ -16,7 +16,7 @@ use test_support::read_command;
 // The number of short calls that have to be answered well before the programs of their round end.
 const WANTED: u64 = 3;
 
-// The maximum number of rounds. If two threads run at once, few more than `WANTED` are needed.
+// All rounds have numbers below this. If two threads run at once, few more than `WANTED` rounds are needed.
 const ROUNDS: u64 = 24;
 
 // The value of `began` after the last round.
@@ -26,7 +26,7 @@ const OVER: u64 = u64::MAX;
 const TURNS: u64 = 1_000_000_000;
 
 // The rounds of two sessions, numbered from 1. In each round the first session runs its group of programs. Meanwhile the second
-// session makes its calls, except in the first round, in which it only measures the time.
+// session makes its calls, except in the first round, when it only measures the time.
 #[derive(Drop)]
 struct Rounds {
     began: AtomicU64,

@@ -10,20 +10,20 @@ use store_shared::Gate;
 /// The behavior of a gate.
 #[derive(Clone, Copy)]
 pub enum Manner {
-    /// It computes the jobs.
+    /// Computes the jobs.
     Free,
-    /// It wants no jobs, so that sessions take no ticket.
+    /// Wants no jobs, so that sessions take no ticket.
     Passing,
-    /// It returns the first job, as if allocation failed.
+    /// Returns the first job, as if allocation failed.
     Refusing,
-    /// It holds each of two sessions at work until both have arrived, and session 0 until the other has finished.
+    /// Holds each of two sessions at work until both have arrived, and session 0 until the other has finished.
     Meeting,
-    /// It holds the first job of session 0 at work until this number of jobs arrived. It then holds the job for a while, so
-    /// that other jobs wait for its page, and computes it.
+    /// Holds the first job of session 0 at work until this number of jobs arrived. Then holds the job for a while, so that
+    /// other jobs wait for its page, and computes it.
     Keeping(u64),
-    /// It holds that job for the same time, and then returns it, as if allocation failed.
+    /// Holds a job like `Keeping`, and then returns it, as if allocation failed.
     Dropping(u64),
-    /// It wants a job only for the first call, and holds that job at work for a while. The other calls wait until the job has
+    /// Wants a job only for the first call, and holds that job at work for a while. The other calls wait until the job has
     /// arrived, and take no ticket.
     First,
 }
@@ -43,7 +43,7 @@ pub struct Watch {
 // The number of polls after which a thread stops waiting.
 const TURNS: u64 = 1_000_000_000;
 
-// The number of polls of a count that is already reached. They take far longer than another thread needs to begin to wait.
+// The number of polls for which `linger` waits. They take far longer than another thread needs to begin to wait.
 const LINGERED: u64 = 20_000_000;
 
 impl Watch {
@@ -75,7 +75,7 @@ impl Watch {
         )
     }
 
-    // Waits until a count is reached. If the wait times out, counts that.
+    // Waits until a count is reached, or counts a wait that timed out.
     fn wait_for(&self, count: &AtomicU64, wanted: u64) {
         for _ in 0..TURNS {
             if count.load(Ordering::SeqCst) >= wanted {

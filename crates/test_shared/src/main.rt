@@ -18,7 +18,7 @@
 //! | `SESSION COMMAND` | the reply, or the refusal |
 //! | `watch SESSION COMMAND` | the reply; the session repeats this call after each call that is refused because memory ran out |
 //! | `group SESSION COMMAND / COMMAND / ..` | the outcome of each of these calls, which are made as a group, or that there was no memory to make any |
-//! | `COUNT calls COMMAND / COMMAND / ..` | in `apart`, for each of COUNT sessions: the number of its replies if there are many, otherwise its replies and the refusal that ended its calls |
+//! | `COUNT calls COMMAND / COMMAND / ..` | in `apart`, for each of COUNT sessions: the number of its replies if there are many, otherwise its replies and the refusal, if any |
 //! | `COUNT times CALLS COMMAND` | the same for CALLS calls of one command |
 //! | `COUNT rolls SEED KEYS CALLS` | the same for CALLS random calls on KEYS keys |
 //! | `COUNT grouped ..` | the same for any of these three lines, with groups of 16 calls |
@@ -27,21 +27,21 @@
 //! command. The command runs a program; its image has COUNT copies of the unit instead of `~`. The second line is a short
 //! command. The answer says whether the short command is answered while the programs run.
 //!
-//! `end` ends the sessions in order. It reports each session that made calls, and the number of its calls. Their calls are
-//! appended to those in hand, which have indices from 0. The following lines close the store; without such lines the store is
-//! dropped.
+//! `end` ends the sessions in order. It reports each session that made calls, and the number of its calls. The calls of all
+//! sessions are appended to those in hand, which have indices from 0. The following lines close the store; without such lines
+//! the store is dropped.
 //!
 //! | Line | Answer |
 //! |---|---|
-//! | `close PLACE PLACE ..` | `closed` with the calls at these places, and the numbers of entries and of opening pairs of the trail; or the fault |
+//! | `close PLACE PLACE ..` | closes with the calls at these indices: `closed`, and the trail's numbers of entries and opening pairs; or the fault |
 //! | `order`, `pairs` | for the closed store, the sessions of its trail's entries, and its pairs |
 //!
-//! A trail is replayed on a plain map, which has to give the same replies and pairs. Its keys have up to two bytes. Each run on
-//! it is a run of the counter, which adds 1 to the number in the first 8 bytes of the record and returns it as the reply word.
-//! The counter leaves a shorter record unchanged.
+//! A trail is replayed on a plain map, which has to give the same replies and pairs. The keys have up to two bytes. Each run is
+//! one of the counter, which adds 1 to the number in the first 8 bytes of the record and returns the sum as the reply word. The
+//! counter leaves a shorter record unchanged.
 //!
-//! In a `lean` case each call begins with a full heap. It is repeated with 16 bytes more until there is enough memory, which is
-//! reported as `with more memory`. Sessions are made and ended, and stores closed, while the heap has no memory.
+//! In a `lean` case each call begins with a full heap. The call is repeated with 16 bytes more until there is enough memory,
+//! which is reported as `with more memory`. Sessions are made and ended, and stores closed, while the heap has no memory.
 #![tactic(auto)]
 
 mod apart;

@@ -55,7 +55,7 @@ fn read_call<A: Allocator + Copy>(alloc: A, words: &str) -> Option<(usize, Comma
     Some((number, read_command(alloc, command)?))
 }
 
-// Makes another session, or reports why that is refused.
+// Makes another session, or returns the reason why it is refused.
 fn add_session<'s, R: Wait, A: Allocator + Copy, G: Gate>(
     rt: &R,
     store: &'s Store<A, G>,

@@ -5,7 +5,7 @@ use std::alloc::{AllocError, Global};
 /// The maximum number of attempts of a call that is repeated with more memory.
 pub const MOST_TIMES: usize = 4000;
 
-/// Takes all memory of a heap except `spared` bytes, and returns the blocks.
+/// Allocates all memory of a heap except `spared` bytes, and returns the blocks.
 pub fn fill<'a>(
     alloc: Global,
     heap: &'a LocalHeap,

@@ -3,7 +3,7 @@
 use crate::bytes::read_bytes;
 use std::alloc::Global;
 
-/// The first word and the rest of the words. Without a space, the whole text and an empty text.
+/// Splits a text into its first word and the rest, which is empty if the text has no space.
 pub fn cut(text: &str) -> (&str, &str) {
     text.split_once(' ').unwrap_or((text, ""))
 }

@@ -2,7 +2,7 @@
 
 use std::io;
 
-/// All lines of standard input, each with its end.
+/// All lines of standard input, each with a line feed.
 pub fn read_all(rt: &HostRuntime) -> io::Result<String> {
     let mut text = String::new(rt.alloc());
     for line in rt.lines(rt.alloc()) {

@@ -1,4 +1,4 @@
-//! The bytes of files as segments: `LENGTH`, and a word `OFFSET:BYTES` for each segment. Bytes outside segments are zeros.
+//! The bytes of files in words: `LENGTH`, and `OFFSET:BYTES` for each segment. Bytes outside segments are zeros.
 
 use crate::bytes::{LONG_RUN, read_bytes};
 use std::alloc::{AllocError, Global};
@@ -59,7 +59,7 @@ fn runs_of(alloc: Global, bytes: &[u8]) -> Result<Vec<Run>, AllocError> {
     Ok(runs)
 }
 
-// Writes a run of equal bytes. Returns `true` if the next run continues in the same segment.
+// Writes a run of equal bytes. Returns `true` if the next run may continue the segment.
 fn show_run(out: &mut String, run: Run, goes_on: bool) -> Result<bool, AllocError> {
     let Run { start, byte, count } = run;
     if count >= LONG_RUN {

@@ -33,8 +33,8 @@ fn least_heap(global: Global, script: &[u8]) -> Option<usize> {
     None
 }
 
-/// Says whether the least heap in which a script is answered has more than `count` bytes. Every smaller heap has to refuse it
-/// and to write nothing.
+/// Says whether the least heap in which a script is answered has more than `count` bytes. In every smaller heap, the script
+/// has to be refused and to write nothing.
 pub fn heaps_text(global: Global, script: &[u8], count: &str) -> Option<String> {
     let count = count.parse::<usize>().ok()?;
     let text = if least_heap(global, script)? > count {

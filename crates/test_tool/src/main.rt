@@ -6,7 +6,7 @@
 //! |---|---|
 //! | `words WORD ..` | the request, with its base, its file and whether it writes; or its refusal; or that a text answers it |
 //! | `help WORD ..` | the text of help or the version that answers the words, or `none` |
-//! | `part TEXT \| WORD ..` | whether that text contains TEXT |
+//! | `part TEXT \| WORD ..` | whether the text of help contains TEXT |
 //! | `time UNIT WORD ..` | the request of the words with the time `1700000000`, if it needs the time in that unit, or `none` |
 //! | `faults` | for each fault that is not a refusal: its text, and whether it is an answer |
 //! | `script TEXT` | `said`, and the answers of the script |

@@ -7,7 +7,7 @@ use std::alloc::{Allocator, Global};
 use std::io;
 use std::io::{ErrorKind, Read, Write};
 
-/// A reader of a text. It returns `step` bytes at each call, and fails once, when a given number of bytes is left.
+/// A reader of a text. It returns at most `step` bytes a call, and fails once, when a given number of bytes is left.
 #[derive(Drop)]
 pub struct Given<'a> {
     pub text: &'a [u8],
@@ -48,7 +48,7 @@ impl Read for EmptyLines {
     }
 }
 
-/// A writer that accepts some bytes at each call, and fails once, when it has accepted a given number.
+/// A writer that accepts at most `step` bytes a call, and fails once, when it has accepted a given number.
 #[derive(Drop)]
 pub struct Collected {
     pub text: Vec<u8>,
@@ -57,7 +57,7 @@ pub struct Collected {
 }
 
 impl Collected {
-    /// A writer before its first call.
+    /// Creates a writer that has accepted nothing.
     pub fn new(global: Global, step: usize, fails: Option<(usize, ErrorKind)>) -> Self {
         Collected {
             text: Vec::new(global),
@@ -98,7 +98,7 @@ pub fn run<A: Allocator + Copy, R: Read>(
     }
 }
 
-/// A reader of a text that returns `step` bytes at each call.
+/// A reader of a text that returns at most `step` bytes a call.
 pub fn giving(text: &[u8], step: usize) -> Given<'_> {
     Given {
         text,

@@ -12,7 +12,7 @@ use Rattle.worker_pool.specs.declared.share.Progress.{Progress}
 use Rattle.worker_pool.specs.Tasks.{run_of, IsTaskTried}
 use Rattle.worker_pool.specs.Shares.{ran_of, AreRuns, replies_of, IsFirstRefused, HasWorked}
 
--- A worker has tried each of its tasks below an index, and no later task.
+-- A worker has tried each of its tasks below index `at`, and no later task.
 pub record HasTried {A : Type 0} (programs : List Accepted) (tasks : List (Task A)) (k w at : ℕ) (s : SessionState A) (replies : List (Reply A)) (first : Option (ℕ × Refusal)) : Type 0 where
   pub refusals : ℕ → Option Refusal
   pub ahead : (place : ℕ) → at ≤ place → refusals place ≡ None
@@ -21,23 +21,23 @@ pub record HasTried {A : Type 0} (programs : List Accepted) (tasks : List (Task 
   pub replied : replies_of s.calls ≡ replies
   pub first_is : IsFirstRefused (length tasks) k w refusals first
 
--- the commands are the runs of every k-th task from an index on
+-- the commands are the runs of every k-th task from index `at` on
 abbrev pub AreRunsFrom : {A : Type 0} → List Accepted → List (Task A) → ℕ → ℕ → List (Command A) → Type 0
 AreRunsFrom programs tasks k at [] = Unit {0}
 AreRunsFrom {A} programs tasks k at (command ∷ commands) = (task : Task A) × ((slice_get tasks at ≡ Some task) × ((command ≡ run_of programs task) × AreRunsFrom programs tasks k (at + k) commands))
 
--- the index of the next task, after one task for each element of a list
+-- the index `at` plus one step of k for each element of a list
 abbrev pub place_behind : {X : Type 0} → ℕ → ℕ → List X → ℕ
 place_behind k at [] = at
 place_behind k at (x ∷ xs) = place_behind k (at + k) xs
 
--- Session s made the calls for the tasks from an index on, with these outcomes.
+-- Session `s` made the calls for a worker's tasks from index `at` on, with these outcomes, and became `s'`.
 pub record IsAhead {A : Type 0} (programs : List Accepted) (tasks : List (Task A)) (k at : ℕ) (s : SessionState A) (outcomes : List (Result (Reply A) Refusal)) (s' : SessionState A) : Type 0 where
   pub commands : List (Command A)
   pub runs : AreRunsFrom programs tasks k at commands
   pub calls : AreCalls s commands outcomes s'
 
--- `IsAhead`, for a worker that has tried its tasks below that index
+-- `IsAhead`, for a worker that has tried its tasks below index `at`
 pub record HasCalled {A : Type 0} (programs : List Accepted) (tasks : List (Task A)) (k w at : ℕ) (outcomes : List (Result (Reply A) Refusal)) (s' : SessionState A) (replies : List (Reply A)) (first : Option (ℕ × Refusal)) : Type 0 where
   pub s : SessionState A
   pub tried : HasTried programs tasks k w at s replies first
@@ -48,7 +48,7 @@ abbrev pub IsReplyTaken : {A : Type 0} → Result (Reply A) Refusal → List (Re
 IsReplyTaken (Ok reply) replies replies' refusal = (replies' ≡ replies ++ reply ∷ []) × (refusal ≡ None)
 IsReplyTaken (Err fault) replies replies' refusal = (replies' ≡ replies) × (refusal ≡ Some fault)
 
--- the worker's progress: it has tried all of its tasks, or those below a later index
+-- the worker's progress: the worker has tried all of its tasks, or all tasks below its next task
 abbrev pub WorkerGoesOn : {A : Type 0} → List Accepted → List (Task A) → ℕ → ℕ → ℕ → SessionState A → List (Reply A) → Option (ℕ × Refusal) → Option ℕ → Type 0
 WorkerGoesOn programs tasks k w at s replies first None = HasWorked programs tasks k w s replies first
 WorkerGoesOn programs tasks k w at s replies first (Some next) = HasTried programs tasks k w next s replies first × ((next % k ≡ w) × ((at < next) × (next < length tasks)))

@@ -1,4 +1,4 @@
--- The results of tasks: all tasks were run, or there is a fault.
+-- The results of `run_jobs`: all tasks were run, or there is a fault.
 use Rattle.std.specs.Prelude.{◌≡◌, ◌<◌, ◌⊎◌, ℕ, List, [], length, Option, Some, None}
 use Rattle.std.specs.List.{All, slice_get}
 use Rattle.sdbm_addr.specs.declared.PageSize.{PageSize}
@@ -31,11 +31,10 @@ pub record AreDone {A : Type 0} (size : PageSize) (programs : List Accepted) (ta
   pub all_workers : length calls ≡ workers
   pub shares : (worker : ℕ) (its : CallsState A) → slice_get calls worker ≡ Some its → IsShareDone programs tasks workers worker replies its
 
--- This task is the first that was refused, with its refusal. Every task was tried: either it was run, and its size was valid,
--- or it was refused for a separate reason. The calls of each worker are the runs of the tasks in its share that were not
--- refused.
+-- The task at `at` is the first refused task, and `refusal` is its refusal. Every task was tried: either the task has a valid
+-- size and was run, or it was refused. The calls of each worker are the runs of the tasks in its share that were not refused.
 pub record AreRefused {A : Type 0} (size : PageSize) (programs : List Accepted) (tasks : List (Task A)) (workers at : ℕ) (refusal : Refusal) (calls : List (CallsState A)) : Type 0 where
-  -- by index, the refusal of a task; `None` if the task was run
+  -- the refusal of the task at an index; `None` if the task was run
   pub refusals : ℕ → Option Refusal
   pub within : at < length tasks
   pub here : refusals at ≡ Some refusal

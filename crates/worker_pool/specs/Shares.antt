@@ -41,19 +41,19 @@ pub record IsUnused {A : Type 0} (session : SessionState A) (replies : List (Rep
   pub calls : session.calls ≡ []
   pub replies_are : replies ≡ []
 
--- a worker's session has one more call, of this command, and the worker has one more reply, to that call
+-- a worker's session has one more call, which runs this command, and the worker has one more reply, which answers this call
 pub record IsSessionCalled {A : Type 0} (command : Command A) (session : SessionState A) (replies : List (Reply A)) (session' : SessionState A) (replies' : List (Reply A)) : Type 0 where
   pub reply : Reply A
   pub call : session' ≡ with_call session command reply
   pub added : replies' ≡ replies ++ reply ∷ []
 
--- the first refused task, after the task at index `at` was tried
+-- the first refused task after one more task, at index `at`, was tried
 abbrev pub first_with : Option (ℕ × Refusal) → ℕ → Option Refusal → Option (ℕ × Refusal)
 first_with (Some first) at refusal = Some first
 first_with None at None = None
 first_with None at (Some refusal) = Some (at, refusal)
 
--- this task is the worker's first refused task, with its refusal
+-- the task at `at` is the worker's first refused task, and `refusal` is its refusal
 pub record IsFirstOwn (count workers worker : ℕ) (refusals : ℕ → Option Refusal) (at : ℕ) (refusal : Refusal) : Type 0 where
   pub within : at < count
   pub its_own : at % workers ≡ worker

@@ -22,7 +22,7 @@ pub(crate) struct Worker<'a, A: Allocator, G: Gate> {
     pub(crate) refused: Option<(usize, Refusal)>,
 }
 
-/// Makes the workers, each with a new session. If the store refuses to make more sessions, returns fewer workers.
+/// Makes the workers, each with a new session. If the store makes too few sessions, returns the workers made so far as an error.
 pub(crate) fn hire<'a, R: Wait, A: Allocator + Copy, G: Gate>(
     rt: &R,
     alloc: A,

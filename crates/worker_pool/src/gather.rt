@@ -23,7 +23,7 @@ pub(crate) struct Room<A: Allocator> {
 }
 
 impl<A: Allocator + Copy> Room<A> {
-    /// Allocates lists for this number of tasks and workers.
+    /// Allocates lists for this number of tasks and workers, or returns an error if allocation fails.
     pub(crate) fn new(alloc: A, tasks: usize, workers: usize) -> Result<Self, AllocError>
         ensures replies { IfOk result (λ room. (room.replies.items ≡ []) × (tasks ≤ vec_capacity room.replies) × (vec_len room.replies ≡ 0)) }
         ensures lists { IfOk result (λ room. (room.lists.items ≡ []) × (workers ≤ vec_capacity room.lists)) }
@@ -37,7 +37,7 @@ impl<A: Allocator + Copy> Room<A> {
     }
 }
 
-/// The first refused task of all workers, with its refusal.
+/// Returns the first refused task of all workers and its refusal, or `None` if no task was refused.
 pub(crate) fn first_refused<A: Allocator, G: Gate>(
     crew: &[Worker<'_, A, G>],
 ) -> Option<(usize, Refusal)>
@@ -50,7 +50,7 @@ pub(crate) fn first_refused<A: Allocator, G: Gate>(
     first
 }
 
-// Returns the refusal with the lower task index, or the only one if one is missing.
+// Returns the refused task with the lower index. `None` counts as later than any task.
 fn lower(one: Option<(usize, Refusal)>, other: Option<(usize, Refusal)>) -> Option<(usize, Refusal)>
     ensures { IsLowerOf one other result }
 {
@@ -66,7 +66,7 @@ fn lower(one: Option<(usize, Refusal)>, other: Option<(usize, Refusal)>) -> Opti
     one
 }
 
-/// Ends the sessions of workers, and returns their calls and replies.
+/// Ends the sessions of workers. Adds their replies to `lists` and their calls to `calls`.
 pub(crate) fn dismiss<A: Allocator + Copy, G: Gate>(
     crew: Vec<Worker<'_, A, G>, A>,
     lists: &mut Vec<IntoIter<Reply<A>, A>, A>,

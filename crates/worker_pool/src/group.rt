@@ -1,4 +1,4 @@
-//! Groups: runs of one worker's tasks that are made by one call.
+//! Groups of a worker's tasks. One call of the session runs all tasks of a group.
 ghost use Rattle.std.specs.Prelude.{◌≡◌, ◌<◌, ◌≤◌, ◌+◌, IfOk, IfErr, OnErr, Some, length, vec_len, vec_capacity};
 ghost use Rattle.std.specs.List.{slice_get};
 ghost use Rattle.std.specs.Vec.Iter.{into_iter_items};
@@ -13,13 +13,12 @@ use std::vec::IntoIter;
 use store_cmd::{Command, Program, Refusal, Reply, SharedCommand, SizeFault, check_run};
 use store_shared::{Gate, Session};
 
-/// The maximum number of calls in a group. With smaller groups, four workers lose more time when the lock changes hands. For a
-/// full group of short runs, the lock is held for about 30 microseconds.
+/// The maximum number of tasks in a group. With smaller groups, four workers lose more time when the lock changes hands. A full
+/// group of short runs holds the lock for about 30 microseconds.
 const GROUP: usize = 128;
 
-/// Makes the calls of a group of a worker's runs, beginning with the task at index `at`, and returns the outcome of each.
-/// Reserves room for all replies first. If the task at `at` cannot be prepared, or memory runs out, returns the refusal and
-/// makes no call.
+/// Runs a group of a worker's tasks, beginning with the task at index `at`, and returns the outcome of each task. Reserves room
+/// for all replies first. If the task at `at` cannot be prepared, or memory runs out, returns the refusal and runs no task.
 pub(crate) fn call_group<R: Wait, A: Allocator + Copy, G: Gate>(
     rt: &R,
     registry: &Registry<A>,
@@ -116,7 +115,7 @@ fn ready_more<A: Allocator + Copy, G: Gate>(
     calls
 }
 
-/// The index of the worker's next task, if there is one.
+/// Returns the index of the worker's next task after index `at`, or `None` if there is no such task.
 pub(crate) fn place_after<A: Allocator>(
     tasks: &[Task<A>],
     at: usize,
@@ -131,7 +130,7 @@ pub(crate) fn place_after<A: Allocator>(
     Some(at + workers)
 }
 
-// Prepares the run of a task. Checks its size before copying anything.
+// Prepares the run of a task. Checks the sizes of the task before copying anything.
 fn ready_task<A: Allocator + Copy, G: Gate>(
     alloc: A,
     registry: &Registry<A>,
@@ -156,7 +155,7 @@ fn ready_task<A: Allocator + Copy, G: Gate>(
     }
 }
 
-// The refusal for an invalid size.
+// Returns the refusal for an invalid size.
 fn refusal_for(fault: SizeFault) -> Refusal
     ensures { IsRefusalFor fault result }
 {
@@ -166,7 +165,7 @@ fn refusal_for(fault: SizeFault) -> Refusal
     }
 }
 
-// The command of a task.
+// Makes the command of a task. Returns an error if allocation fails or the program cannot have another owner.
 fn command_of<A: Allocator + Copy>(
     alloc: A,
     registry: &Registry<A>,
@@ -191,7 +190,7 @@ fn command_of<A: Allocator + Copy>(
     }
 }
 
-// The registered program with a number, with one more owner. Returns an error if the owner count is at its maximum.
+// Adds an owner to the registered program with this number. Returns an error if the owner count is at its maximum.
 fn program_of<A: Allocator + Copy>(
     registry: &Registry<A>,
     id: ProgId,

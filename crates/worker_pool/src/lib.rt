@@ -1,5 +1,5 @@
-//! Runs tasks on one store by a pool of workers. A task is a run of a registered program; each worker has its own thread and
-//! session.
+//! Runs tasks on one store by a pool of workers. A task is a run of a registered program. Each worker has its own session and,
+//! if a thread can be made, its own thread.
 #![tactic(auto)]
 
 mod crew;

@@ -1,4 +1,4 @@
-//! The pool.
+//! Runs tasks by a pool of workers: makes the workers, runs the tasks, and gathers the results.
 ghost use Rattle.std.specs.Prelude.{◌≡◌, ◌↔◌, ◌≤◌, [], IsTrue, IfNone, IfOk, IfErr, IfSome, OnOk, length, vec_len, vec_capacity};
 ghost use Rattle.sdbm_addr.specs.declared.PageSize.{PageSize};
 ghost use Rattle.std.specs.List.{All};
@@ -15,13 +15,13 @@ use std::sync::Wait;
 use std::thread::Threads;
 use store_shared::{Calls, Gate, Store};
 
-/// Runs tasks by a number of workers. Each worker has a new session of the store, and its own thread if a thread can be made.
-/// Worker `i % workers` runs task `i`; each worker runs its tasks in rising order. A refused task is skipped, and all other
-/// tasks are run.
+/// Runs tasks with the given number of workers. Each worker has a new session of the store, and its own thread if a thread can
+/// be made. Worker `i % workers` runs task `i`; each worker runs its tasks in ascending order. A refused task is skipped, and
+/// all other tasks are run.
 ///
 /// # Errors
-/// On any error, the calls of the sessions that were made are returned in the order of the workers. The store needs these calls
-/// to be closed, and they say which tasks were run. Checked in this order:
+/// On any error, the calls of the sessions that were made are returned in the order of the workers. `Store::close` needs these
+/// calls, and they say which tasks were run. Checked in this order:
 /// - `NoWorkers` if `workers` is 0.
 /// - `NoProgram` with the first task whose program is not in the registry.
 /// - `NoMemory` if there is no memory for the lists of replies, calls and workers, or `NoSession` if the store makes too few
@@ -51,7 +51,7 @@ struct Ready<'a, A: Allocator, G: Gate> {
     room: Room<A>,
 }
 
-// Allocates all lists. It has no access to the store, so if it fails, no task was run.
+// Checks the arguments and allocates all lists. The store is not an argument, so no task was run if this function fails.
 fn make_ready<'a, A: Allocator + Copy, G: Gate>(
     alloc: A,
     registry: &Registry<A>,
@@ -145,7 +145,7 @@ fn run_crew<R: Threads + Wait + Sync, A: Allocator + Copy + Send + Sync, G: Gate
     Ok(Answers { replies, calls })
 }
 
-// The first task whose program is not in the registry.
+// Returns the index of the first task whose program is not in the registry, if there is such a task.
 fn first_unknown<A: Allocator>(registry: &Registry<A>, tasks: &[Task<A>]) -> Option<usize>
     ensures none { IfNone result (AreTasksKnown registry.now.programs tasks.now) }
     ensures some { IfSome result (IsFirstUnknown registry.now.programs tasks.now) }
@@ -158,7 +158,7 @@ fn first_unknown<A: Allocator>(registry: &Registry<A>, tasks: &[Task<A>]) -> Opt
     None
 }
 
-// Returns true if the program of a task is in the registry.
+// Returns `true` if the program of a task is in the registry.
 fn is_known<A: Allocator>(registry: &Registry<A>, task: &Task<A>) -> bool
     ensures { IsTrue result ↔ IsKnown registry.now.programs task.entry.now }
 {

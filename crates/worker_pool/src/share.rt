@@ -14,15 +14,15 @@ use std::vec::IntoIter;
 use store_cmd::{Refusal, Reply};
 use store_shared::{Gate, Session};
 
-// The index of the worker's next task, if a task is left, and its first refused task with the refusal.
+// The progress of a worker: the index of its next task, if a task is left, and its first refused task with the refusal.
 #[derive(Clone, Copy)]
 struct Progress {
     next: Option<usize>,
     first: Option<(usize, Refusal)>,
 }
 
-/// Runs a worker's share of the tasks in order: every `workers`-th task, beginning with the worker's number. Skips refused
-/// tasks. Returns the index of the first refused task, with its refusal.
+/// Runs a worker's share of the tasks in order: every `workers`-th task, beginning with the task at index `worker`. Skips
+/// refused tasks. Returns the index of the first refused task and its refusal, or `None` if no task was refused.
 pub(crate) fn do_share<R: Wait, A: Allocator + Copy, G: Gate>(
     rt: &R,
     registry: &Registry<A>,
@@ -80,7 +80,7 @@ fn do_group<R: Wait, A: Allocator + Copy, G: Gate>(
     }
 }
 
-// Records the outcomes of calls that were made for the tasks from an index on.
+// Records the outcomes of a group of runs that begins with the task at index `at`.
 fn take_all<A: Allocator + Copy, G: Gate>(
     registry: &Registry<A>,
     tasks: &[Task<A>],
@@ -114,7 +114,7 @@ fn take_all<A: Allocator + Copy, G: Gate>(
     }
 }
 
-// Appends the reply of an answered call to the replies, which have capacity for it. Returns the refusal of any other call.
+// Appends the reply of an answered call to `replies`, which has capacity for one more. Returns the refusal of any other call.
 fn take<A: Allocator>(
     outcome: Result<Reply<A>, Refusal>,
     replies: &mut Vec<Reply<A>, A>,
@@ -133,7 +133,7 @@ fn take<A: Allocator>(
     }
 }
 
-// The first refused task, given the earlier first refused task, if any, and the outcome of a later task.
+// Returns the first refused task: `first` if it is a task, otherwise the task at index `at` if that task was refused.
 fn earlier(
     first: Option<(usize, Refusal)>,
     at: usize,

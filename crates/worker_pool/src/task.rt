@@ -17,7 +17,7 @@ pub struct Task<A: Allocator> {
     pub now: u64,
 }
 
-/// The results of tasks, all of which were run.
+/// The results of a list of tasks that were all run.
 #[derive(Drop)]
 pub struct Answers<A: Allocator> {
     /// A reply for each task, in the order of the tasks.
@@ -26,18 +26,18 @@ pub struct Answers<A: Allocator> {
     pub calls: Vec<Calls<A>, A>,
 }
 
-/// The reasons why not all tasks were run.
+/// The reason why some task was not run.
 #[derive(Clone, Copy, Debug, PartialEq, Eq)]
 pub enum PoolFault {
     /// There are no workers. No session was made.
     NoWorkers,
-    /// The program of this task is not in the registry; this is the first such task. No session was made.
+    /// The index of the first task whose program is not in the registry. No session was made.
     NoProgram(usize),
     /// The store made too few sessions. No task was run.
     NoSession,
     /// Never returned. A worker for which no thread can be made runs without its own thread.
     NoThread(usize),
-    /// This task was refused; it is the first refused task.
+    /// The index of the first refused task, and its refusal.
     Refused(usize, Refusal),
     /// There is no memory for the lists of replies, calls and workers. No session was made.
     NoMemory,

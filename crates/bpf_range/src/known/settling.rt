@@ -1,4 +1,4 @@
-//! Settling: bits from a range, and a range from bits.
+//! Settling: a range and bits narrow each other.
 
 ghost use Rattle.std.specs.Prelude.{◌≡◌, ◌≤◌, ℕ};
 ghost use Rattle.bpf_range.specs.Sets.{Contains, In, Within, HasBits, range_of};
@@ -9,8 +9,8 @@ use crate::bits::any_bits;
 use crate::filling::fill;
 use crate::values::{Bits, Range};
 
-/// The numbers of a range that have these bits. All numbers of the range agree in the bits above the
-/// highest one in which the ends differ, so these bits are taken from the lower end.
+/// The numbers of a range that have these bits. All numbers of the range have the high bits that the
+/// ends share, so these bits are taken from the lower end.
 #[tactic(auto, using(crate::proofs::FillFacts::shared, crate::proofs::FillFacts::shared_apart))]
 pub fn share_high_bits(range: Range, bits: Bits) -> Known
     ensures keeps { (x : ℕ) → In range x → HasBits bits x → Contains result x }
@@ -26,9 +26,9 @@ pub fn share_high_bits(range: Range, bits: Bits) -> Known
     }
 }
 
-/// The numbers of a range that have these bits. The range is cut to the least and the greatest
-/// number with these bits. If nothing is left, the range is unchanged and no bit is known. Then the
-/// bits above the highest one in which the ends differ are those of the lower end.
+/// The numbers of a range that have these bits. The range is narrowed to the least and the greatest
+/// number with these bits. If nothing is left, the range is unchanged and the bits are ignored. Then
+/// the high bits that the ends share are taken from the lower end.
 #[tactic(auto, using(crate::proofs::MatchFacts::match_least, crate::proofs::MatchFacts::match_greatest))]
 pub fn settle(range: Range, bits: Bits) -> Known
     ensures keeps { (x : ℕ) → In range x → HasBits bits x → Contains result x }

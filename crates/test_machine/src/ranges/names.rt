@@ -2,7 +2,7 @@
 
 use bpf_insn::{Op, Size, Test, Width};
 
-/// The operation with a name, which has no width.
+/// Reads the name of an operation, without its width.
 pub fn read_op(word: &str) -> Option<Op> {
     match word {
         "add" => Some(Op::Add),
@@ -24,7 +24,7 @@ pub fn read_op(word: &str) -> Option<Op> {
     }
 }
 
-// The operation with a name that ends with a number of bits.
+// Reads the name of an operation that ends with a number of bits.
 fn read_sized(word: &str) -> Option<Op> {
     if let Some(bits) = word.strip_prefix("movsx") {
         return Some(Op::MovSx(read_size(bits)?));
@@ -48,7 +48,7 @@ fn read_size(bits: &str) -> Option<Size> {
     }
 }
 
-/// The test with a name, which has no width.
+/// Reads the name of a test, without its width.
 pub fn read_test(word: &str) -> Option<Test> {
     match word {
         "jeq" => Some(Test::Eq),
@@ -66,7 +66,7 @@ pub fn read_test(word: &str) -> Option<Test> {
     }
 }
 
-/// The width with a number of bits.
+/// Reads a width, given in bits.
 pub fn read_width(bits: &str) -> Option<Width> {
     match bits {
         "32" => Some(Width::W32),
@@ -75,7 +75,7 @@ pub fn read_width(bits: &str) -> Option<Width> {
     }
 }
 
-/// Returns `true` for the edge that is taken, and `None` for an unknown word.
+/// Reads an edge: `true` if it is taken. Returns `None` for an unknown word.
 pub fn read_edge(word: &str) -> Option<bool> {
     match word {
         "taken" => Some(true),

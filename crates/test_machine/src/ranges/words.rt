@@ -1,4 +1,4 @@
-//! The words of a line.
+//! Reads operations, ranges and knowledge from words.
 
 use super::names::{read_edge, read_op, read_test, read_width};
 use bpf_insn::{Op, Test, Width};
@@ -8,7 +8,7 @@ fn read_number(word: &str) -> Option<u64> {
     word.parse::<u64>().ok()
 }
 
-/// A range of the form `LO..HI`.
+/// Reads a range of the form `LO..HI`.
 pub fn read_range(word: &str) -> Option<Range> {
     let (lo, hi) = word.split_once("..")?;
     let lo = read_number(lo)?;
@@ -28,13 +28,13 @@ fn read_known(word: &str) -> Option<Known> {
     Known::from_parts(range.lo, range.hi, value, read_number(unknown)?)
 }
 
-/// Two ranges.
+/// Reads two ranges.
 pub fn read_ranges(words: &str) -> Option<(Range, Range)> {
     let (a, b) = words.split_once(' ')?;
     Some((read_range(a)?, read_range(b)?))
 }
 
-/// The knowledge of two numbers.
+/// Reads the knowledge of two numbers.
 pub fn read_two_known(words: &str) -> Option<(Known, Known)> {
     let (a, b) = words.split_once(' ')?;
     Some((read_known(a)?, read_known(b)?))
@@ -47,7 +47,7 @@ pub fn read_operation(words: &str) -> Option<(Op, Width, &str)> {
     Some((read_op(op)?, read_width(width)?, rest))
 }
 
-/// The edge of a conditional jump: `true` if it is taken.
+/// One of the two edges of a conditional jump.
 #[derive(Drop)]
 pub struct Edge {
     pub test: Test,

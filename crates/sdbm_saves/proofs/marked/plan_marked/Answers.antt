@@ -16,15 +16,15 @@ use Rattle.sdbm_saves.proofs.marked.plan_marked.Goals.{then-pages-ge-LIMIT-via-t
 pub returns-then-pages-ge-LIMIT-clause-too_long : goal.returns-then-pages-ge-LIMIT-clause-too_long
 returns-then-pages-ge-LIMIT-clause-too_long g c = λ is. inr (λ pag marked.
     let db = c.args.image.now in
-    let count = c.page_count-count.result in
+    let count = c.count_marked-count.result in
     let size_is : c.bytes.result ≡ page_bytes db.size = c.bytes.ensures ∙ ap page_bytes c.page_size.ensures in
-    let long : length (first_pages db count) ≡ count * c.bytes.result = length-first_pages db c.page_count-count.ensures.database count ∙ ap (λ (z : ℕ). count * z) (sym size_is) in
+    let long : length (first_pages db count) ≡ count * c.bytes.result = length-first_pages db c.count_marked-count.ensures.database count ∙ ap (λ (z : ℕ). count * z) (sym size_is) in
     inl (record {
       pages = first_pages db count;
       directory = c.directory_bytes-directory.result.now;
       written = record {
         directory = c.directory_bytes-directory.ensures;
-        pages = record { count = count; counted = c.page_count-count.ensures.count; is = refl };
+        pages = record { count = count; counted = c.count_marked-count.ensures.count pag marked; is = refl };
       };
       long = elim c.then-pages-ge-LIMIT.branch [
         | then-pages-ge-LIMIT-via-then-pages-ge-LIMIT w ↦ inl (omega (arith, long, w.if-pages-ge-LIMIT.true))
@@ -35,7 +35,7 @@ returns-then-pages-ge-LIMIT-clause-too_long g c = λ is. inr (λ pag marked.
 pub returns-then-old-directory-clause-none : goal.returns-then-old-directory-clause-none
 returns-then-old-directory-clause-none g c = λ is pag marked.
     let db = c.args.image.now in
-    let count = c.page_count-count.result in
+    let count = c.count_marked-count.result in
     let own = c.directory_bytes-directory.result.now in
     let draft = c.draft_parts.new.draft in
     let first = c.in_ok-draft_bytes.ensures in
@@ -46,9 +46,9 @@ returns-then-old-directory-clause-none g c = λ is pag marked.
     (first.put before) (second.put before marked.reads) in
     let none : 0 ≡ draft.count = sym c.if-draft-eq0.true in
     let long : draft.pages ≡ length pag = second.pages ∙ first.pages ∙ sym c.if-old-pages.true ∙ sym marked.long in
-    are_files db c.page_count-count.ensures.database count c.page_count-count.ensures.count pag c.args.old.directory.now own c.directory_bytes-directory.ensures
+    are_files db c.count_marked-count.ensures.database count (c.count_marked-count.ensures.count pag marked) pag c.args.old.directory.now own c.directory_bytes-directory.ensures
     (sym (resized_own draft.pages pag long) ∙ ap (λ (n : ℕ). replayed Pages n draft.changes.items (resized draft.pages pag)) none
-    ∙ marked_made c.args.old db pag c.page_count-count.ensures.database marked draft.pages count _ whole_is done.file)
+    ∙ marked_made c.args.old db pag c.count_marked-count.ensures.database marked draft.pages count _ whole_is done.file)
     (sym (resized_own (length own) c.args.old.directory.now (sym c.if-old-directory.true))
     ∙ ap (λ (n : ℕ). replayed Directory n draft.changes.items (resized (length own) c.args.old.directory.now)) none
     ∙ done.bits)
@@ -70,7 +70,7 @@ module _ (g : given.Over) (c : goal.After-drop-draft-2 g) where
 pub returns-clause-plan : goal.returns-clause-plan
 returns-clause-plan g c = λ pag marked.
     let db = c.args.image.now in
-    let count = c.page_count-count.result in
+    let count = c.count_marked-count.result in
     let own = c.directory_bytes-directory.result.now in
     let draft = c.draft_parts.new.draft in
     let first = c.in_ok-draft_bytes.ensures in
@@ -85,10 +85,10 @@ returns-clause-plan g c = λ pag marked.
     record {
       whole = subst (λ (l : List ℕ). IsPlan l) (sym items) (is_planned draft.pages draft.directory before draft.count draft.changes.items (pages_small g c) (directory_small g c) (few g c) old_small old_directory_small done.changes);
       knows = subst (λ (l : List ℕ). Knows l before) (sym items) (knows_planned draft.pages draft.directory before draft.count draft.changes.items (pages_small g c) (directory_small g c) (few g c) old_small old_directory_small done.changes);
-      files = are_files db c.page_count-count.ensures.database count c.page_count-count.ensures.count _ _ own c.directory_bytes-directory.ensures
+      files = are_files db c.count_marked-count.ensures.database count (c.count_marked-count.ensures.count pag marked) _ _ own c.directory_bytes-directory.ensures
           (ap (λ (l : List ℕ). renewed Pages l pag) items
           ∙ renewed_planned draft.pages draft.directory before draft.count draft.changes.items (pages_small g c) (directory_small g c) (few g c) old_small old_directory_small Pages draft.pages pag refl
-          ∙ marked_made c.args.old db pag c.page_count-count.ensures.database marked draft.pages count _ whole_is done.file)
+          ∙ marked_made c.args.old db pag c.count_marked-count.ensures.database marked draft.pages count _ whole_is done.file)
           (ap (λ (l : List ℕ). renewed Directory l c.args.old.directory.now) items
           ∙ renewed_planned draft.pages draft.directory before draft.count draft.changes.items (pages_small g c) (directory_small g c) (few g c) old_small old_directory_small Directory (length own) c.args.old.directory.now (directory_is g c)
           ∙ done.bits);

@@ -3,7 +3,7 @@ use Rattle.store_parts.proofs.Pages.{behind_first}
 use Rattle.store_parts.proofs.part.numbers_of.Goals as goal
 
 pub returns-then-has_pairs-clause-first : goal.returns-then-has_pairs-clause-first
-returns-then-has_pairs-clause-first c = c.in_ok-numbers.ensures.covers c.args.number (c.has_pairs.ensures c.if-has_pairs.true)
+returns-then-has_pairs-clause-first c = c.in_ok-numbers.ensures.covers c.args.number (c.has_pairs.ensures.yes c.if-has_pairs.true)
 
 pub returns-clause-covers : goal.returns-clause-covers
 returns-clause-covers c = λ n there.

@@ -4,4 +4,4 @@ use Rattle.store_parts.proofs.part.opened_page.Goals as goal
 pub returns : goal.returns
 returns c =
     let ensures = c.in-Ok.ensures in
-    opened_as c.args.part c.args.kind c.args.size _ ensures.directory ensures.kind ensures.size ensures.page ensures.others
+    opened_as c.args.part c.args.known.now.kind c.args.known.now.size _ ensures.directory ensures.kind ensures.size ensures.page ensures.others

@@ -595,13 +595,13 @@ uint32_t boddurci_page_of(const uint8_t *key, size_t key_length, const uint8_t *
 /* Replaces the database of an open handle by the database of one page. The handle keeps its programs and its limit. After that, one fetch,
  * store, delete or run on this key gives the same reply as on the whole database. `page` is a whole page, and `pag_length` a multiple of
  * its size. BAD_FILES if this page is not enough: the directory or the page is invalid, or not as a save leaves it, or the key leads to
- * another page. BAD_FILES is also returned if memory runs out. IS_CLOSED. After an error the handle is unchanged. */
+ * another page. BAD_FILES is also returned if allocation fails. IS_CLOSED. After an error the handle is unchanged. */
 uint32_t boddurci_open_page(boddurci *db, const uint8_t *key, size_t key_length, const uint8_t *dir, size_t dir_length, size_t pag_length,
                             uint32_t number, const uint8_t *page, size_t page_length);
 
 /* Returns the plan that saves the database of the page after the command, and the numbers of the pages that the plan may write. Each of
  * these pages except `number` must be zeros in the file, or past its end. The plan is empty if nothing changes. SHORT_ROOM. STALE if this
- * page is not enough: the last page of .pag would become empty, or .pag would become too long. STALE is also returned if memory runs out.
+ * page is not enough: the last page of .pag would become empty, or .pag would become too long. STALE is also returned if allocation fails.
  * IS_CLOSED. */
 uint32_t boddurci_plan_page(boddurci *db, const uint8_t *dir, size_t dir_length, size_t pag_length, uint32_t number, const uint8_t *page,
                             size_t page_length, uint32_t *numbers, size_t numbers_room, size_t *numbers_count, uint8_t *plan,

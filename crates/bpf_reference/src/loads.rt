@@ -37,6 +37,7 @@ fn load(
     Some(read(memory, place, size))
 }
 
+/// Executes a load.
 pub fn step_load<A: Allocator>(
     code: &Code<A>,
     cpu: &mut Cpu,
@@ -58,6 +59,7 @@ pub fn step_load<A: Allocator>(
     cpu.set(code, 1, dst, Value::Number(x))
 }
 
+/// Executes a sign-extending load.
 pub fn step_load_signed<A: Allocator>(
     code: &Code<A>,
     cpu: &mut Cpu,

@@ -50,6 +50,7 @@ fn store<A: Allocator>(
     }
 }
 
+/// Executes a store of an immediate.
 pub fn step_store_imm<A: Allocator>(
     code: &Code<A>,
     cpu: &mut Cpu,
@@ -68,6 +69,7 @@ pub fn step_store_imm<A: Allocator>(
     store(code, cpu, bytes, cpu.register(base), offset, size, x)
 }
 
+/// Executes a store of a register.
 pub fn step_store<A: Allocator>(
     code: &Code<A>,
     cpu: &mut Cpu,

@@ -1,7 +1,7 @@
-/* Measures durable increments of counters by processes that share one store. Each increment is on the disk before its process begins the
- * next one. Each process opens the store once.
+/* Measures increments of counters by processes that share one store. Each increment is on the disk before its process begins the next one,
+ * or with -DLATER only in the page cache of the system. Each process opens the store once.
  *
- * cc -O2 -DHAVE_LMDB benches/shared.c -llmdb -o shared, with one -DHAVE_ for the store (benches/run does it)
+ * cc -O2 -DHAVE_LMDB benches/shared.c -llmdb -o shared, with one -DHAVE_ for the store, and perhaps -DLATER (benches/run does it)
  * usage: shared PATH PROCESSES SECONDS
  *
  * It makes a store of COUNTERS counters at PATH, and prints the increments per second of all processes together. The status is 5 if the sum
@@ -18,8 +18,14 @@
 
 enum { COUNTERS = 20000, MOST_PROCESSES = 64 };
 
+#ifdef LATER
+enum { IS_LATER = 1 };
+#else
+enum { IS_LATER = 0 };
+#endif
+
 /* Each store has five functions, which return 0 on success. `begins` makes the store with all counters at 0, and closes it. A process calls
- * `opens`, then `increments` once per durable increment, and then `closes`. `sums` opens the store, adds the counters up, and closes it. */
+ * `opens`, then `increments` once per increment, and then `closes`. `sums` opens the store, adds the counters up, and closes it. */
 #ifdef HAVE_BODDURCI
 #include "boddurci_files.h"
 
@@ -46,7 +52,7 @@ static int begins(const char *path)
 
 static int opens(const char *path)
 {
-    shared = boddurci_open_shared(path, 0, NULL);
+    shared = boddurci_open_shared(path, IS_LATER ? BODDURCI_NO_FLUSH : 0, NULL);
     return shared == NULL || boddurci_shared_wait(shared, -1) != BODDURCI_DONE || boddurci_shared_stock(shared, "counter", &program) != BODDURCI_DONE;
 }
 
@@ -82,7 +88,7 @@ static int sums(const char *path, uint64_t *sum)
 }
 #endif
 
-/* Each increment is a transaction. */
+/* Each increment is a transaction, or has the lock of its key if it is not flushed. */
 #ifdef HAVE_TDB
 #include <signal.h>
 #include <stdbool.h>
@@ -132,6 +138,9 @@ static int increments(unsigned i)
 {
     uint64_t count;
     make_key(key, i);
+    TDB_DATA of = {(unsigned char *)key, KEY_BYTES};
+    if (IS_LATER)
+        return tdb_chainlock(db, of) || get_from(&count) || put_in(count + 1) || tdb_chainunlock(db, of);
     return tdb_transaction_start(db) || get_from(&count) || put_in(count + 1) || tdb_transaction_commit(db);
 }
 
@@ -157,7 +166,7 @@ static MDB_dbi dbi;
 static int opens(const char *path)
 {
     MDB_txn *txn;
-    return mdb_env_create(&env) || mdb_env_set_mapsize(env, (size_t)1 << 30) || mdb_env_open(env, path, MDB_NOSUBDIR, 0644)
+    return mdb_env_create(&env) || mdb_env_set_mapsize(env, (size_t)1 << 30) || mdb_env_open(env, path, MDB_NOSUBDIR | (IS_LATER ? MDB_NOSYNC : 0), 0644)
         || mdb_txn_begin(env, NULL, 0, &txn) || mdb_dbi_open(txn, NULL, 0, &dbi) || mdb_txn_commit(txn);
 }
 
@@ -227,7 +236,8 @@ static sqlite3_stmt *step;
 static int opens_with(const char *path, const char *text, const char *statement)
 {
     return sqlite3_open(path, &db) || sqlite3_busy_timeout(db, 600000)
-        || sqlite3_exec(db, "pragma journal_mode = wal; pragma synchronous = full", NULL, NULL, NULL) || sqlite3_exec(db, text, NULL, NULL, NULL)
+        || sqlite3_exec(db, IS_LATER ? "pragma journal_mode = wal; pragma synchronous = off" : "pragma journal_mode = wal; pragma synchronous = full", NULL, NULL, NULL)
+        || sqlite3_exec(db, text, NULL, NULL, NULL)
         || sqlite3_prepare_v2(db, statement, -1, &step, NULL);
 }
 

@@ -77,7 +77,8 @@ enum boddurci_flags {
     BODDURCI_NO_WAIT = 8,       /* do not wait for a lock, not even for the given time; a reader may then fail because of a save */
     BODDURCI_MUST_EXIST = 16,   /* if BASE.pag is missing, fail instead of starting with an empty database */
     BODDURCI_EMPTY = 32,        /* start with an empty database, and ignore the contents of the files */
-    BODDURCI_ANY_SIZE = 64      /* with WIDE: open the files even if they look like those of small pages */
+    BODDURCI_ANY_SIZE = 64,     /* with WIDE: open the files even if they look like those of small pages */
+    BODDURCI_NO_FLUSH = 256     /* of boddurci_open_shared: a change returns before it is flushed */
 };
 
 /* Flags of boddurci_save_with. */
@@ -208,17 +209,27 @@ void boddurci_close_files(boddurci_base *base);
  *
  * A shared base holds no lock and no pages between its calls. Each boddurci_shared_fetch, _store, _delete, _run, _run_now and _add is one
  * atomic step among all processes and threads that use the base, including commands of dbm. A call takes the locks, reads the page of its
- * key, makes its change, and saves the change. A change that returns DONE is durable. No separate save is needed, and no call returns CHANGED.
+ * key, makes its change, and saves the change. A change that returns DONE is durable, and so is each change that the reply of a call depends
+ * on. No separate save is needed, and no call returns CHANGED.
+ *
+ * Without flushes. With NO_FLUSH a change returns once its record is written to BASE.redo, without a sync. All processes see the change at
+ * once, including commands of dbm, and it survives a kill of any process. A crash of the machine may lose the last changes: the database is
+ * then the one after all changes up to some point, at least up to the last boddurci_shared_flush, or up to the last change that a process
+ * without NO_FLUSH has made. Processes with the flag and without it may use one base at the same time. On NFS, SMB and FUSE the flag has no
+ * effect.
  *
  * Locks. A change takes BASE.lock and BASE.writer as an opening for writing does; a fetch takes only BASE.lock, shared. A call waits for
  * its locks at most 5 seconds, or as long as boddurci_shared_wait sets, and then returns LOCKED, with nothing changed. The text names the
  * process that holds the lock, if the system reports it. The wait continues after a signal. While a process has the base open by
- * boddurci_open_files, or by a session of dbm, each change returns LOCKED, and a fetch reads the last save of that process.
+ * boddurci_open_files, or by a session of dbm, each change returns LOCKED, and a fetch reads the last save of that process. A call that
+ * flushes waits without a limit until the flush of another process has ended.
  *
  * Costs. A call reads all of .dir, and only a few pages of .pag, even of a long one. It compares .dir with the directory of the handle's
  * last call. It checks .dir only if they differ, which takes some 4 microseconds for each KiB; with 900,000 pairs .dir has 8 KiB. A change
- * appends its record to the log in BASE.redo and syncs the log while it holds the locks, so it costs one sync. The log stays open between the calls of all processes, with its mark. A note in the header of the log
- * says where the records end, for the next call. These calls take longer, and as much memory as opening the base:
+ * appends its record to the log in BASE.redo and syncs the log, so it costs one sync. If processes wait for each other, a change releases
+ * the locks before the sync, and one sync serves the changes of several processes. The log stays open between the calls of all processes,
+ * with its mark. A note in the header of the log says where the records end, for the next call. These calls take longer, and as much memory
+ * as opening the base:
  *
  * - calls that open the whole base: a change for which one page is not enough, a change after which the last page of .pag would be empty,
  *   and any call on files that this library has not written or whose .dir has more than 256 KiB;
@@ -236,32 +247,39 @@ void boddurci_close_files(boddurci_base *base);
  * Other programs. A program that does not know the locks, such as Perl's SDBM_File, may write between two calls, and the next call reads
  * the written data. It must not write during a call: the call would not notice the write before its commit. A write that keeps the lengths,
  * within the same tick of the clock as the last call, may remain unnoticed too. (A tick has some milliseconds on systems without
- * fine-grained times.)
+ * fine-grained times.) Such a program sees the last changes with NO_FLUSH, and those of processes that wait for each other, only after a
+ * flush while no other call is in progress. It must not write before that flush: the next call might return BAD_REDO.
  *
  * Time. The caller of boddurci_shared_run sets `now` before the call waits for the locks, so `now` may be in the past when the program runs,
  * and earlier than the time of a run before. boddurci_shared_run_now reads the clock once the call has the locks. */
 typedef struct boddurci_shared boddurci_shared;
 
-/* Opens a shared base. The flags are WIDE, UNSIGNED_KEYS, MUST_EXIST, ANY_SIZE, and NO_WAIT, with which each call tries a lock only once.
- * Other flags are ignored. With MUST_EXIST the call checks that the database exists. With WIDE and without ANY_SIZE it reads the database
+/* Opens a shared base. The flags are WIDE, UNSIGNED_KEYS, MUST_EXIST, ANY_SIZE, NO_FLUSH, and NO_WAIT, with which each call tries a lock
+ * only once. Other flags are ignored. With MUST_EXIST the call checks that the database exists. With WIDE and without ANY_SIZE it reads the database
  * once, as a reader, to find out whether its pages look small. Otherwise it reads no file. Returns NULL and sets *fault if one of these
  * checks fails, the name is invalid or the folder is missing. */
 boddurci_shared *boddurci_open_shared(const char *base, uint32_t flags, boddurci_fault *fault);
 
-/* Closes the handle and frees its memory. `shared` may be NULL. No thread may use the handle during the call or later. The log stays open
- * for other processes, even if no handle is left, since a process that changes one pair would otherwise need several syncs instead of one.
- * Opening the base for writing by boddurci_open_files closes the log. */
+/* Closes the handle and frees its memory. With NO_FLUSH it flushes the changes first, but reports no failure: call boddurci_shared_flush to
+ * find out. `shared` may be NULL. No thread may use the handle during the call or later. The log stays open for other processes, even if no
+ * handle is left, since a process that changes one pair would otherwise need several syncs instead of one. Opening the base for writing by
+ * boddurci_open_files closes the log. */
 void boddurci_close_shared(boddurci_shared *shared);
 
 /* Sets how many milliseconds each later call waits for the locks: 0 tries once, and -1 waits without a limit. IS_CLOSED if `shared` is
  * NULL. */
 uint32_t boddurci_shared_wait(boddurci_shared *shared, int64_t milliseconds);
 
+/* Makes all changes durable that calls of any process have returned so far. Takes no lock of the base, so no process that has the base open
+ * delays the call. After FILE_FAILED the changes since the last flush may be durable or not. FORKED, LOCKED, NO_MEMORY, MOVED, UNSAFE,
+ * IS_CLOSED. */
+uint32_t boddurci_shared_flush(boddurci_shared *shared, boddurci_fault *fault) BODDURCI_IS_LOOKED_AT;
+
 /* These calls do the same as those of boddurci.h, each as one durable step, with the same results and statuses. They also return FORKED,
  * LOCKED, MOVED, UNSAFE, BAD_REDO, TOO_LONG, FILE_FAILED, OTHER_SIZE, OPEN_HERE and BAD_FILES, as above. After any status except DONE the
  * database and all results are unchanged, except as boddurci.h says of SHORT_ROOM, MISSING and CROWDED. If the text says that BASE.redo
- * cannot be written, the change may be saved or not. DONE with fault->system not 0 reports a system call that failed after the commit, as
- * boddurci_save does. */
+ * cannot be written, the change may be saved or not, and a fetch may have written its results. DONE with fault->system not 0 reports a
+ * system call that failed after the commit, as boddurci_save does. */
 uint32_t boddurci_shared_fetch(boddurci_shared *shared, const uint8_t *key, size_t key_length, uint8_t *value, size_t value_room,
                                size_t *value_length, boddurci_fault *fault);
 uint32_t boddurci_shared_store(boddurci_shared *shared, const uint8_t *key, size_t key_length, const uint8_t *value, size_t value_length,

@@ -120,6 +120,7 @@ static void test_shared(void)
     size_t most = sizeof told.room;
     boddurci_fault fault;
     CLOSED(boddurci_shared_wait(NULL, 0));
+    CLOSED(boddurci_shared_flush(NULL, NULL));
     CLOSED(boddurci_shared_fetch(NULL, BYTES("a"), room, most, &told.length, NULL));
     CLOSED(boddurci_shared_store(NULL, BYTES("a"), BYTES("b"), 1, NULL));
     CLOSED(boddurci_shared_delete(NULL, BYTES("a"), NULL));

@@ -1,8 +1,11 @@
 /* Tests shared bases. tests/shared builds and runs it.
  *
- *     calls FOLDER                 tests the calls: against a model, with other programs, other users, forks and threads
- *     count BASE LOG SEED          increments counters until it is killed, and appends each answer to the log
- *     change BASE                  makes the changes on standard input, and prints a line after each
+ *     calls FOLDER [later]         tests the calls: against a model, with other programs, other users, forks and threads; with `later` tests
+ *                                  calls with NO_FLUSH, without writing the data files directly
+ *     count BASE LOG SEED [later]  increments counters until it is killed, and appends each answer to the log; `later` is NO_FLUSH, with a
+ *                                  flush now and then
+ *     change BASE [later]          makes the changes on standard input, and prints a line after each
+ *     mix BASE                     the same by two handles, one with NO_FLUSH: see `mix` below
  *     fetch BASE KEY               prints the value of a key
  *     list BASE                    prints all pairs, as a reader
  *     hold BASE MILLISECONDS       opens the base for writing, saves a pair, and closes it after that time
@@ -31,6 +34,7 @@
 
 static boddurci_fault fault;
 static unsigned long looked;
+static uint32_t more_flags; /* of all shared bases */
 
 #define EXPECT(what)                                                                                                               \
     do {                                                                                                                           \
@@ -43,7 +47,7 @@ static unsigned long looked;
 
 static boddurci_shared *opened(const char *name, uint32_t flags)
 {
-    boddurci_shared *shared = boddurci_open_shared(name, flags, &fault);
+    boddurci_shared *shared = boddurci_open_shared(name, flags | more_flags, &fault);
     EXPECT(shared != NULL && fault.status == BODDURCI_DONE);
     return shared;
 }
@@ -279,6 +283,12 @@ static void delete_all(struct model *model, uint32_t keys)
     }
 }
 
+/* Compares the data files. They have all changes after a flush. */
+static void same_files(struct model *model, const char *name)
+{
+    EXPECT(boddurci_shared_flush(model->shared, &fault) == BODDURCI_DONE && has_files(&model->db, name));
+}
+
 static void test_model(const char *name, uint32_t flags, uint32_t keys, int commands)
 {
     static const char *const stocks[3] = {"bounded_counter", "lease", "token_bucket"};
@@ -297,11 +307,11 @@ static void test_model(const char *name, uint32_t flags, uint32_t keys, int comm
     for (int i = 0; i < commands; i++) {
         same_command(&model, keys);
         if (i % 100 == 0)
-            EXPECT(has_files(&model.db, name));
+            same_files(&model, name);
     }
-    EXPECT(has_files(&model.db, name));
+    same_files(&model, name);
     delete_all(&model, keys);
-    EXPECT(has_files(&model.db, name));
+    same_files(&model, name);
     boddurci_close_shared(model.shared);
     boddurci_close(&model.db);
 }
@@ -479,10 +489,10 @@ static void test_names(void)
  * note. */
 static void change_boot(const char *base)
 {
-    enum { NOTE = 16, BOOT = NOTE + 32, CHECK = NOTE + 112 };
+    enum { NOTE = 16, BOOT = NOTE + 48, CHECK = NOTE + 128 };
     uint64_t check = 14695981039346656037u;
     struct bytes redo = read_file(base, ".redo");
-    EXPECT(redo.length > CHECK + 8 && redo.at[0] == 1 && memcmp(redo.at + NOTE, "sdbmnot2", 8) == 0);
+    EXPECT(redo.length > CHECK + 8 && redo.at[0] == 1 && memcmp(redo.at + NOTE, "sdbmnot3", 8) == 0);
     redo.at[BOOT] ^= 1;
     for (int i = NOTE; i < CHECK; i++)
         check = (check ^ redo.at[i]) * 1099511628211u;
@@ -642,7 +652,7 @@ static void test_readers(void)
     boddurci_close_shared(shared);
     EXPECT(seteuid(0) == 0);
     /* Without a note the log is applied in memory. */
-    static const uint8_t none[120];
+    static const uint8_t none[136];
     int redo = open("read/db.redo", O_RDWR);
     EXPECT(redo >= 0 && pwrite(redo, none, sizeof none, 16) == sizeof none && close(redo) == 0);
     EXPECT(seteuid(65534) == 0);
@@ -1130,22 +1140,32 @@ static void test_folders(void)
     boddurci_close_shared(shared);
 }
 
-static int calls(const char *folder)
+/* Makes the tests that read or write the data files directly. */
+static void test_data(void)
 {
-    EXPECT(chdir(folder) == 0 && mkdir("read", 0755) == 0 && mkdir("folder", 0755) == 0 && chmod(".", 0755) == 0);
     test_model("model", 0, 60, 3000);
     test_model("many", 0, 700, 3000);
     test_model("wide", BODDURCI_WIDE, 300, 1500);
     test_model("unsigned", BODDURCI_UNSIGNED_KEYS | BODDURCI_NO_WAIT, 40, 1000);
-    test_programs();
+    test_model("later", BODDURCI_NO_FLUSH, 700, 3000);
+    test_model("wide_later", BODDURCI_NO_FLUSH | BODDURCI_WIDE, 60, 2000);
     test_clock();
+    test_sizes();
+    test_files();
+    test_targets();
+    test_others();
+}
+
+static int calls(const char *folder)
+{
+    EXPECT(chdir(folder) == 0 && mkdir("read", 0755) == 0 && mkdir("folder", 0755) == 0 && chmod(".", 0755) == 0);
+    if (more_flags == 0)
+        test_data();
+    test_programs();
     test_adding();
     test_names();
     test_boots();
     test_lost_pages();
-    test_sizes();
-    test_files();
-    test_targets();
     test_readers();
     test_group();
     test_limit();
@@ -1153,7 +1173,6 @@ static int calls(const char *folder)
     test_services();
     test_waiting();
     test_signals();
-    test_others();
     test_replaced();
     test_long();
     test_forks();
@@ -1168,11 +1187,11 @@ static int calls(const char *folder)
 
 /* ---- programs for tests/shared */
 
-static int count(const char *base, const char *log, unsigned start)
+static int count(const char *base, const char *log, unsigned start, uint32_t flags)
 {
     char key[20], line[60];
     int file = open(log, O_WRONLY | O_APPEND | O_CREAT, 0600);
-    boddurci_shared *shared = boddurci_open_shared(base, 0, &fault);
+    boddurci_shared *shared = boddurci_open_shared(base, flags, &fault);
     if (file < 0 || shared == NULL)
         return fprintf(stderr, "c_shared: %s\n", fault.text), 2;
     uint32_t counter = counter_of(shared);
@@ -1185,6 +1204,8 @@ static int count(const char *base, const char *log, unsigned start)
         int length = snprintf(line, sizeof line, "%s %llu\n", key, (unsigned long long)made);
         if (write(file, line, (size_t)length) != length)
             return 2;
+        if (flags != 0 && roll(200) == 0 && boddurci_shared_flush(shared, &fault) != BODDURCI_DONE)
+            return fprintf(stderr, "c_shared: %s\n", fault.text), 2;
     }
 }
 
@@ -1207,10 +1228,10 @@ static void to_hex(const uint8_t *bytes, size_t length, char end)
 }
 
 /* Makes the changes on the lines `store KEY VALUE` and `delete KEY`, in hex. */
-static int change(const char *base)
+static int change(const char *base, uint32_t flags)
 {
     char line[20000];
-    boddurci_shared *shared = boddurci_open_shared(base, 0, &fault);
+    boddurci_shared *shared = boddurci_open_shared(base, flags, &fault);
     uint32_t status = shared != NULL ? BODDURCI_DONE : fault.status;
     while (status == BODDURCI_DONE && fgets(line, sizeof line, stdin) != NULL) {
         line[strcspn(line, "\n")] = 0;
@@ -1228,6 +1249,43 @@ static int change(const char *base)
     if (status != BODDURCI_DONE)
         fprintf(stderr, "c_shared: %u %s\n", (unsigned)status, fault.text);
     return status == BODDURCI_DONE ? 0 : 2;
+}
+
+/* Makes the change of a line, `store KEY VALUE` or `delete KEY` in hex, or the fetch of `fetch KEY`. */
+static uint32_t make(boddurci_shared *shared, char *line)
+{
+    static uint8_t room[BODDURCI_VALUE_MOST];
+    char *kind = strtok(line, " "), *key = strtok(NULL, " "), *value = strtok(NULL, " ");
+    size_t key_length = from_hex(key), value_length = from_hex(value), length;
+    if (strcmp(kind, "fetch") == 0)
+        return boddurci_shared_fetch(shared, (uint8_t *)key, key_length, room, sizeof room, &length, &fault);
+    if (strcmp(kind, "delete") == 0)
+        return boddurci_shared_delete(shared, (uint8_t *)key, key_length, &fault);
+    return boddurci_shared_store(shared, (uint8_t *)key, key_length, (uint8_t *)(value != NULL ? value : ""), value_length, 1, &fault);
+}
+
+/* Makes calls by two handles, as two processes would. A line that begins with `now` is a call of the first handle, which flushes its changes,
+ * and `later` one of the second, which has NO_FLUSH; `flush` flushes. Prints after each line the kind of the handle, or `failed`. The last
+ * line is `end`. */
+static int mix(const char *base)
+{
+    static char line[20000];
+    boddurci_shared *now = boddurci_open_shared(base, 0, &fault), *later = boddurci_open_shared(base, BODDURCI_NO_FLUSH, &fault);
+    if (now == NULL || later == NULL)
+        return 2;
+    while (fgets(line, sizeof line, stdin) != NULL) {
+        line[strcspn(line, "\n")] = 0;
+        int is_now = strncmp(line, "now ", 4) == 0, is_flush = strcmp(line, "flush") == 0;
+        uint32_t status = is_flush ? boddurci_shared_flush(later, &fault) : make(is_now ? now : later, strchr(line, ' ') + 1);
+        const char *told = status > BODDURCI_MISSING ? "failed\n" : is_flush || is_now ? "now\n" : "later\n";
+        if (write(1, told, strlen(told)) < 0)
+            return 2;
+        if (status > BODDURCI_MISSING)
+            fprintf(stderr, "c_shared: %u %s\n", (unsigned)status, fault.text);
+    }
+    boddurci_close_shared(later);
+    boddurci_close_shared(now);
+    return write(1, "end\n", 4) == 4 ? 0 : 2;
 }
 
 static int fetch(const char *base, char *key)
@@ -1279,11 +1337,13 @@ int main(int count_of_words, char **words)
 {
     const char *what = count_of_words > 2 ? words[1] : "";
     if (strcmp(what, "calls") == 0)
-        return calls(words[2]);
+        return more_flags = count_of_words > 3 ? BODDURCI_NO_FLUSH : 0, calls(words[2]);
     if (strcmp(what, "count") == 0 && count_of_words > 4)
-        return count(words[2], words[3], (unsigned)atol(words[4]));
+        return count(words[2], words[3], (unsigned)atol(words[4]), count_of_words > 5 ? BODDURCI_NO_FLUSH : 0);
+    if (strcmp(what, "mix") == 0)
+        return mix(words[2]);
     if (strcmp(what, "change") == 0)
-        return change(words[2]);
+        return change(words[2], count_of_words > 3 ? BODDURCI_NO_FLUSH : 0);
     if (strcmp(what, "fetch") == 0 && count_of_words > 3)
         return fetch(words[2], words[3]);
     if (strcmp(what, "list") == 0)

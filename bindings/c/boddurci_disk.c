@@ -55,6 +55,7 @@ void boddurci_disk_of(struct boddurci_disk *disk, struct boddurci_place *place)
     disk->is_signal_held = 0;
     disk->is_too_long = 0;
     disk->has_reserved = 0;
+    disk->keeps_room = 0;
 }
 
 void boddurci_disk_drop(struct boddurci_disk *disk, enum boddurci_file file)

@@ -538,7 +538,7 @@ uint32_t boddurci_find(struct boddurci_place *place, const char *name, boddurci_
     if (status == BODDURCI_DONE)
         status = boddurci_place_of(place, led != NULL ? led : name, fault);
     if (status == BODDURCI_DONE)
-        place->announces = boddurci_is_local(place->folder);
+        place->is_local = boddurci_is_local(place->folder);
     pthread_once(&held_once, guard_forks);
     free(led);
     return status;
@@ -556,7 +556,7 @@ enum { WAITS, STARVES, BYTES };
 static int lock_bytes(const struct boddurci_place *place, int how, off_t first, off_t count)
 {
     struct flock bytes = {.l_type = (short)how, .l_whence = SEEK_SET, .l_start = first, .l_len = count};
-    if (!place->announces)
+    if (!place->is_local)
         return -1;
     return fcntl(place->opened[BODDURCI_LOCK], F_OFD_SETLK, &bytes);
 }
@@ -565,7 +565,7 @@ static int is_announced(const struct boddurci_place *place, off_t byte)
 {
     struct flock bytes = {.l_type = (short)(byte == WAITS ? F_RDLCK : F_WRLCK), .l_whence = SEEK_SET, .l_start = byte, .l_len = 1};
     int lock = place->opened[BODDURCI_LOCK];
-    return place->announces && lock >= 0 && fcntl(lock, F_OFD_GETLK, &bytes) == 0 && bytes.l_type != F_UNLCK;
+    return place->is_local && lock >= 0 && fcntl(lock, F_OFD_GETLK, &bytes) == 0 && bytes.l_type != F_UNLCK;
 }
 #else
 static int lock_bytes(const struct boddurci_place *place, int how, off_t first, off_t count)
@@ -588,12 +588,14 @@ static void announce_none(const struct boddurci_place *place)
 
 /* Waits while another call has announced itself, so that the other call goes first. The wait is limited, since the process of the other
  * call may be stopped. */
-static void let_go(const struct boddurci_place *place, off_t byte, int64_t end)
+static void let_go(struct boddurci_place *place, off_t byte, int64_t end)
 {
     enum { MOST = 200 };
     static const struct timespec moment = {0, 200000};
-    for (int times = 0; times < MOST && is_announced(place, byte) && (end < 0 || now() < end); times++)
+    for (int times = 0; times < MOST && is_announced(place, byte) && (end < 0 || now() < end); times++) {
+        place->has_waited = 1;
         nanosleep(&moment, NULL);
+    }
 }
 
 /* Returns whether the files of both locks are open. Once a call has locked these files, it checks that they still have their names. */
@@ -643,12 +645,12 @@ static enum outcome queue(struct boddurci_place *place, int *tries, int *spins, 
 /* Takes both locks for a call. The wait continues after a signal. */
 static uint32_t take_to_change(struct boddurci_place *place, int64_t end, boddurci_fault *fault)
 {
-    int tries = 0, spins = 0, is_first = 1, has_waited = 0, is_queued;
+    int tries = 0, spins = 0, is_first = 1, is_queued;
     enum outcome outcome = TRY_AGAIN;
     while (outcome == TRY_AGAIN || outcome == IS_BUSY) {
         outcome = try_call(place, is_first, &is_queued, fault);
         is_first = 0;
-        has_waited = has_waited || outcome == IS_BUSY;
+        place->has_waited = place->has_waited || outcome == IS_BUSY;
         if (outcome == IS_BUSY && is_queued && (end < 0 || now() < end))
             outcome = queue(place, &tries, &spins, fault);
         if (outcome != IS_BUSY || rest(&tries, end) == 0 || errno == EINTR)
@@ -656,7 +658,7 @@ static uint32_t take_to_change(struct boddurci_place *place, int64_t end, boddur
         not_taken(place, 0, fault);
         outcome = HAS_FAILED;
     }
-    if (place->opened[BODDURCI_LOCK] >= 0 && has_waited)
+    if (place->opened[BODDURCI_LOCK] >= 0 && place->has_waited)
         announce_none(place);
     if (outcome == TAKEN) {
         note_both(place);
@@ -684,6 +686,7 @@ uint32_t boddurci_take_call(struct boddurci_place *place, int reads, int64_t mil
 {
     int64_t end = end_of(milliseconds);
     uint32_t status = BODDURCI_INTERRUPTED;
+    place->has_waited = 0;
     if (milliseconds != 0)
         let_go(place, reads ? WAITS : STARVES, end);
     if (!reads)
@@ -699,6 +702,19 @@ uint32_t boddurci_take_call(struct boddurci_place *place, int reads, int64_t mil
     if (status == BODDURCI_DONE)
         boddurci_no_fault(fault);
     return status;
+}
+
+int boddurci_try_change(struct boddurci_place *place)
+{
+    enum { TRIES = 100 };
+    boddurci_fault unsaid;
+    enum outcome outcome = IS_BUSY;
+    int is_queued;
+    for (int tries = 0; tries < TRIES && outcome == IS_BUSY && are_open(place); tries++)
+        outcome = try_call(place, 1, &is_queued, &unsaid);
+    if (outcome == TAKEN)
+        note_both(place);
+    return outcome == TAKEN;
 }
 
 void boddurci_give_call(struct boddurci_place *place, int reads)

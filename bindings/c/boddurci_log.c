@@ -166,7 +166,8 @@ void boddurci_logged_of(struct boddurci_logged *logged, struct boddurci_place *p
 {
     boddurci_disk_of(&logged->disk, place);
     logged->notes = notes;
-    logged->is_open = logged->is_doubtful = logged->is_given_up = logged->is_grown = 0;
+    logged->is_open = logged->is_doubtful = logged->is_given_up = logged->is_grown = logged->is_sharing = 0;
+    logged->epoch = 0;
 }
 
 static int64_t now(void)
@@ -183,6 +184,7 @@ static void give_up(struct boddurci_logged *logged)
     struct boddurci_disk *disk = &logged->disk;
     int system = errno, last = (int)disk->last, redo = disk->files[BODDURCI_REDO];
     logged->is_open = 0;
+    logged->epoch = 0;
     logged->is_given_up = 1;
     if (redo >= 0 && has_mark(redo) == 0) {
         if (disk->has_reserved)
@@ -259,10 +261,31 @@ static uint32_t read_files(struct boddurci_logged *logged, struct boddurci_bytes
 }
 
 /* Clears the note of a shared base, before the log is emptied. */
-static int clear_note(struct boddurci_disk *disk)
+static int clear_note(struct boddurci_logged *logged)
 {
+    struct boddurci_disk *disk = &logged->disk;
     disk->last = BODDURCI_REDO;
+    logged->epoch = 0;
     return disk->files[BODDURCI_REDO] < 0 ? 0 : boddurci_clear_note(disk->files[BODDURCI_REDO]);
+}
+
+static int make_shared(struct boddurci_disk *disk)
+{
+    static const uint8_t head[1] = {1};
+    boddurci_step steps[2];
+    size_t words;
+    if (boddurci_log_share((uint64_t *)steps, 2 * WORDS, &words) == BODDURCI_DONE)
+        return boddurci_do_steps(disk, steps, words / WORDS, head);
+    errno = ENOMEM;
+    return -1;
+}
+
+/* Declares in the header of a log without records that several records may be unflushed, if this base writes such records. */
+static int share(struct boddurci_logged *logged)
+{
+    if (!logged->is_sharing || boddurci_is_log_shared(logged->disk.files[BODDURCI_REDO]))
+        return 0;
+    return make_shared(&logged->disk);
 }
 
 /* Executes the steps that open the log. If the redo file has its mark, first overwrites the file with the bytes that were read from it. If
@@ -271,8 +294,9 @@ static uint32_t do_open(struct boddurci_logged *logged, struct boddurci_bytes re
 {
     struct boddurci_disk *disk = &logged->disk;
     boddurci_clear_note_in(&redo);
-    int is_written = redo.length != 0 ? boddurci_disk_write(disk, BODDURCI_REDO, 0, redo.at, redo.length) == 0 : clear_note(disk) == 0;
-    if (is_written && boddurci_do_steps(disk, steps->at, steps->count, steps->bytes) == 0) {
+    int is_written = redo.length != 0 ? boddurci_disk_write(disk, BODDURCI_REDO, 0, redo.at, redo.length) == 0 : clear_note(logged) == 0;
+    logged->epoch = 0;
+    if (is_written && boddurci_do_steps(disk, steps->at, steps->count, steps->bytes) == 0 && share(logged) == 0) {
         logged->is_open = 1;
         logged->is_given_up = 0;
         logged->redo = boddurci_inode_of(disk->files[BODDURCI_REDO]);
@@ -417,7 +441,7 @@ static int commit(struct boddurci_logged *logged, const struct boddurci_steps *s
     int appends = only_append(steps);
     if (!appends && boddurci_take_files(logged->disk.place) != 0)
         return -1;
-    if ((appends || clear_note(&logged->disk) == 0) && boddurci_do_steps(&logged->disk, steps->at, steps->committed, steps->bytes) == 0)
+    if ((appends || clear_note(logged) == 0) && boddurci_do_steps(&logged->disk, steps->at, steps->committed, steps->bytes) == 0)
         return 0;
     give_up(logged);
     return -1;
@@ -463,6 +487,116 @@ uint32_t boddurci_logged_save(struct boddurci_logged *logged, struct boddurci_by
         logged->next = next;
     if (empties)
         logged->emptied = now();
+    free_steps(&steps);
+    return status;
+}
+
+/* ---- saves that are flushed later */
+
+/* Gets the steps that apply a plan, after `first` free steps. */
+static uint32_t ask_apply(struct boddurci_bytes bytes, size_t first, struct boddurci_steps *steps, boddurci_fault *fault)
+{
+    size_t words = (bytes.length / 256 + 32) * WORDS, room;
+    uint32_t status = BODDURCI_SHORT_ROOM;
+    while (status == BODDURCI_SHORT_ROOM) {
+        room = words;
+        if (make_rooms(steps, first * WORDS + room, 0) != 0)
+            return boddurci_no_memory(fault);
+        status = boddurci_log_apply(bytes.at, bytes.length, (uint64_t *)(steps->at + first), room, &words);
+    }
+    if (status != BODDURCI_DONE)
+        return refused(status, fault);
+    steps->count = first + words / WORDS;
+    steps->committed = first;
+    steps->bytes = bytes.at;
+    steps->length = bytes.length;
+    return status;
+}
+
+/* Gets the step that appends the record of a save, and then the steps that apply it. Returns STALE, without a fault, if the log cannot take
+ * the record. */
+static uint32_t ask_append(struct boddurci_bytes bytes, boddurci_log *log, struct boddurci_steps *steps, boddurci_fault *fault)
+{
+    size_t words;
+    uint32_t status = ask_apply(bytes, 1, steps, fault);
+    if (status != BODDURCI_DONE)
+        return status;
+    status = boddurci_log_append(log, bytes.at, bytes.length, (uint64_t *)steps->at, WORDS, &words);
+    if (status != BODDURCI_DONE)
+        return status == BODDURCI_STALE ? status : refused(status, fault);
+    return boddurci_is_within_limits(steps) ? status : BODDURCI_STALE;
+}
+
+uint32_t boddurci_logged_share(struct boddurci_logged *logged, boddurci_fault *fault)
+{
+    logged->is_sharing = 1;
+    if (logged->is_open && boddurci_is_log_shared(logged->disk.files[BODDURCI_REDO]))
+        return BODDURCI_DONE;
+    uint32_t status = boddurci_logged_renew(logged, fault);
+    return status == BODDURCI_DONE ? open_log(logged, fault) : status;
+}
+
+/* Returns whether both data files exist or remain empty: only the steps of a usual save make a file. */
+static int have_files(struct boddurci_disk *disk, const struct boddurci_steps *steps)
+{
+    uint64_t after[2], length;
+    boddurci_lengths_of(steps->bytes, 1, after);
+    for (enum boddurci_file file = BODDURCI_PAGES; file <= BODDURCI_DIRECTORY; file++)
+        if (boddurci_disk_length(disk, file, &length) != 0 || (after[file] != 0 && disk->files[file] < 0))
+            return 0;
+    return 1;
+}
+
+static uint32_t do_append(struct boddurci_logged *logged, const struct boddurci_steps *steps, boddurci_fault *fault)
+{
+    struct boddurci_disk *disk = &logged->disk;
+    disk->keeps_room = 1;
+    int has_room = boddurci_may_write(disk, steps) == 0 && boddurci_take_room(disk, steps) == 0;
+    disk->keeps_room = 0;
+    if (!has_room)
+        return cannot_be_written(disk, fault);
+    if (boddurci_do_steps(disk, steps->at, steps->committed, steps->bytes) == 0)
+        return BODDURCI_DONE;
+    give_up(logged);
+    return cannot_be_written(disk, fault);
+}
+
+uint32_t boddurci_logged_append(struct boddurci_logged *logged, struct boddurci_bytes bytes, int *is_appended, boddurci_fault *fault)
+{
+    struct boddurci_steps steps = {NULL, 0, 0, NULL, 0, NULL};
+    boddurci_log next = logged->next;
+    uint32_t status = ask_append(bytes, &next, &steps, fault);
+    *is_appended = status == BODDURCI_DONE && have_files(&logged->disk, &steps);
+    if (*is_appended)
+        status = do_append(logged, &steps, fault);
+    *is_appended = *is_appended && status == BODDURCI_DONE;
+    if (*is_appended)
+        logged->next = next;
+    free_steps(&steps);
+    return status == BODDURCI_STALE ? BODDURCI_DONE : status;
+}
+
+/* Abandons the log after a failed call on records that are not applied: the next call recovers the log. */
+static uint32_t lose(struct boddurci_logged *logged, boddurci_fault *fault)
+{
+    uint32_t status = cannot_be_written(&logged->disk, fault);
+    (void)!clear_note(logged);
+    give_up(logged);
+    return status;
+}
+
+uint32_t boddurci_logged_flush(struct boddurci_logged *logged, boddurci_fault *fault)
+{
+    return boddurci_disk_sync(&logged->disk, BODDURCI_REDO) == 0 ? BODDURCI_DONE : lose(logged, fault);
+}
+
+uint32_t boddurci_logged_apply(struct boddurci_logged *logged, struct boddurci_bytes bytes, boddurci_fault *fault)
+{
+    struct boddurci_steps steps = {NULL, 0, 0, NULL, 0, NULL};
+    uint32_t status = ask_apply(bytes, 0, &steps, fault);
+    logged->disk.has_reserved = 0;
+    if (status == BODDURCI_DONE && apply(logged, &steps) != 0)
+        status = lose(logged, fault);
     free_steps(&steps);
     return status;
 }
@@ -540,14 +674,15 @@ static int clear_mark(struct boddurci_disk *disk)
 /* Executes a step that closes the log. The steps are the syncs of both data files, the write that clears the mark, and the sync of the redo
  * file. For the write, calls clear_mark, which also overwrites the note with zeros. If a sync fails, clears the note: the data files may
  * lack written bytes, so the next call has to recover them. */
-static int close_by(struct boddurci_disk *disk, const boddurci_step *step)
+static int close_by(struct boddurci_logged *logged, const boddurci_step *step)
 {
+    struct boddurci_disk *disk = &logged->disk;
     if (step->file >= 2 && step->kind != BODDURCI_SYNC)
         return clear_mark(disk);
     if (boddurci_do_steps(disk, step, 1, (const uint8_t *)step) == 0)
         return 0;
     int system = errno, last = (int)disk->last;
-    (void)!clear_note(disk);
+    (void)!clear_note(logged);
     disk->last = (enum boddurci_file)last;
     errno = system;
     return -1;
@@ -563,8 +698,9 @@ static int close_log(struct boddurci_logged *logged)
         return -1;
     }
     for (size_t i = 0; i < words / WORDS; i++)
-        if (close_by(&logged->disk, &steps[i]) != 0)
+        if (close_by(logged, &steps[i]) != 0)
             return -1;
+    logged->epoch = 0;
     return 0;
 }
 

@@ -104,7 +104,8 @@ struct boddurci_place {
     struct boddurci_inode inodes[BODDURCI_FILES]; /* of the lock files, once they are locked */
     int is_early[BODDURCI_FILES]; /* this process made the lock file while .pag was missing */
     int keeps_files;              /* BASE.lock stays locked between the calls of the base */
-    int announces;                /* waiting calls of a shared base announce themselves */
+    int is_local;                 /* of a shared base: the folder is on a local file system */
+    int has_waited;               /* the last change of a shared base had to wait for a lock, or for another call */
     struct boddurci_place *held;  /* the next place in the list of places whose locks this process holds */
     unsigned long holder;         /* the thread that took the locks, by its number in this_thread */
     pid_t process;                /* the process of that thread */
@@ -211,12 +212,14 @@ void boddurci_give_locks(struct boddurci_place *place, int is_own);
 /* Gives a lock file that was made before .pag the owner, the group and the permissions of .pag, once .pag exists. */
 void boddurci_settle_locks(struct boddurci_place *place);
 
-/* The next four calls are for a shared base, which holds locks only during a call. `boddurci_find` sets the place of a name without taking
+/* The next five calls are for a shared base, which holds locks only during a call. `boddurci_find` sets the place of a name without taking
  * a lock. `boddurci_take_call` takes the locks for a call: both locks for a change, and only BASE.lock, if it exists, for a fetch. Its wait
- * continues after a signal. `boddurci_give_call` releases the locks and leaves the lock files open. `boddurci_drop_locks` closes the lock
- * files. */
+ * continues after a signal. `boddurci_try_change` takes both locks if their files are open and both are free, and returns 1 if it took them. It
+ * tries for about as long as a fetch holds a lock.
+ * `boddurci_give_call` releases the locks and leaves the lock files open. `boddurci_drop_locks` closes the lock files. */
 uint32_t boddurci_find(struct boddurci_place *place, const char *name, boddurci_fault *fault);
 uint32_t boddurci_take_call(struct boddurci_place *place, int reads, int64_t milliseconds, boddurci_fault *fault);
+int boddurci_try_change(struct boddurci_place *place);
 void boddurci_give_call(struct boddurci_place *place, int reads);
 void boddurci_drop_locks(struct boddurci_place *place);
 
@@ -270,6 +273,28 @@ uint32_t boddurci_log_save(boddurci_log *log, uint8_t *bytes, size_t length, uin
 /* Returns the steps that close a log. These steps write no bytes of a buffer. SHORT_ROOM, NO_MEMORY. */
 uint32_t boddurci_log_close(uint64_t *words, size_t words_room, size_t *words_length);
 
+/* Returns the step that appends the record of a save to a shared log without a sync, and sets *log to the log after it. The plan starts at
+ * byte BODDURCI_PLAN_AT of `bytes`. STALE if the log has no records or no room, or if the plan makes a file shorter: save the plan then.
+ * Otherwise the statuses of boddurci_log_save. */
+uint32_t boddurci_log_append(boddurci_log *log, uint8_t *bytes, size_t length, uint64_t *words, size_t words_room, size_t *words_length);
+
+/* Returns the steps that make a log shared. They write a byte 1, which is byte 0 of their buffer. SHORT_ROOM, NO_MEMORY. */
+uint32_t boddurci_log_share(uint64_t *words, size_t words_room, size_t *words_length);
+
+/* Returns the steps that apply a plan to both data files. The plan starts at byte BODDURCI_PLAN_AT of `bytes`. The statuses of
+ * boddurci_log_save. */
+uint32_t boddurci_log_apply(const uint8_t *bytes, size_t length, uint64_t *words, size_t words_room, size_t *words_length);
+
+/* Joins the plan of the first record in `records` to the plan in the first *plan_length bytes of `plan`. If *plan_length is 0, copies the
+ * plan of the record. Sets *plan_length, and *used to the length of the record. SHORT_ROOM, with *plan_length unchanged, if the result does
+ * not fit. BAD_FILES if the bytes do not begin with a complete record, or if the plans cannot be joined. */
+uint32_t boddurci_log_join(uint8_t *plan, size_t plan_room, size_t *plan_length, const uint8_t *records, size_t records_length, size_t *used);
+
+/* Applies the changes of a plan to a part of a data file (0 .pag, 1 .dir) that begins at offset `from`. Sets *touched to 1 if a change
+ * covers a byte of the part, and to 0 otherwise. BAD_FILES if the bytes are not a plan. FILE_TOO_LONG if the part ends past 2^32. */
+uint32_t boddurci_log_lay(const uint8_t *plan, size_t plan_length, uint32_t file, size_t from, uint8_t *part, size_t part_length,
+                          uint32_t *touched);
+
 /* ---- boddurci_disk.c: the three files, open for writing */
 
 /* The data files and the redo file. A data file is opened, or made if it is missing, at its first sync or write, and then stays open. A
@@ -284,6 +309,7 @@ struct boddurci_disk {
     int was_signalled;       /* the signal was pending before the mask was changed */
     int is_too_long;         /* a call failed with EFBIG after the mask was changed, and may have raised the signal */
     int has_reserved;        /* a save has allocated blocks of a data file, which may change its times */
+    int keeps_room;          /* blocks past the ends of the data files belong to saves that are committed and not applied yet */
 };
 
 /* `boddurci_disk_of` initializes the files of a place as closed, `boddurci_disk_drop` closes one, and `boddurci_disk_close` closes all. */
@@ -346,7 +372,7 @@ void boddurci_lengths_of(const uint8_t *bytes, int is_after, uint64_t lengths[2]
 
 /* `boddurci_take_room` ensures, before a save is committed, that the steps after the commit will find room on the disk. It allocates the
  * blocks of the data files. If it cannot allocate some blocks, it tests with the redo file whether the disk has room for these.
- * `boddurci_release_room` frees the blocks past the ends of the data files, and preserves errno. */
+ * `boddurci_release_room` frees the blocks past the ends of the data files, unless they are kept, and preserves errno. */
 int boddurci_take_room(struct boddurci_disk *disk, const struct boddurci_steps *steps);
 void boddurci_release_room(struct boddurci_disk *disk);
 
@@ -360,9 +386,11 @@ struct boddurci_logged {
     struct boddurci_notes *notes;
     boddurci_log next; /* the place of the next record; valid if is_open */
     struct boddurci_inode redo; /* the inode of the redo file; valid if is_open */
+    uint64_t epoch;    /* of the note in the header, while that note is valid; otherwise 0 */
     int64_t emptied;   /* when the log was last empty, in nanoseconds */
     int is_open;
     int is_grown;      /* the log has more room than usual, or an attempt to get more failed */
+    int is_sharing;    /* several records may be unflushed, which the header of a log says before it gets a record */
     int is_doubtful;   /* a call on the redo file failed, and the file could not be removed: make a new one if it has no mark */
     int is_given_up;   /* a call failed, and the files have not been recovered since: they may lack a save, or contain half of it */
 };
@@ -386,8 +414,20 @@ uint32_t boddurci_logged_save(struct boddurci_logged *logged, struct boddurci_by
 uint32_t boddurci_logged_mark(struct boddurci_logged *logged, boddurci_fault *fault);
 int boddurci_logged_is_marked(const struct boddurci_logged *logged);
 
-/* Closes the log. The next save opens it again. */
+/* Closes the log. The next save opens it again. All records must be applied. */
 uint32_t boddurci_logged_renew(struct boddurci_logged *logged, boddurci_fault *fault);
+
+/* Opens the log, with the declaration in its header that several of its records may be unflushed. If the log is open and lacks this
+ * declaration, closes it first. */
+uint32_t boddurci_logged_share(struct boddurci_logged *logged, boddurci_fault *fault);
+
+/* The next three calls are for a shared log that is open and has records. `boddurci_logged_append` appends the record of a plan without a
+ * sync, and does not apply it. If that is not possible, it does nothing and sets *is_appended to 0. `boddurci_logged_flush` syncs the log.
+ * `boddurci_logged_apply` writes the changes of a plan to the data files, once all records are flushed. If one of the last two calls fails,
+ * the next call recovers the log. A plan starts at byte BODDURCI_PLAN_AT of `bytes`. */
+uint32_t boddurci_logged_append(struct boddurci_logged *logged, struct boddurci_bytes bytes, int *is_appended, boddurci_fault *fault);
+uint32_t boddurci_logged_flush(struct boddurci_logged *logged, boddurci_fault *fault);
+uint32_t boddurci_logged_apply(struct boddurci_logged *logged, struct boddurci_bytes bytes, boddurci_fault *fault);
 
 /* Closes the log and the files. If a step fails, the next opening recovers the base. If a lock has lost its name, executes no step. */
 void boddurci_logged_end(struct boddurci_logged *logged);
@@ -547,21 +587,32 @@ struct boddurci_boot {
 
 void boddurci_boot_of_system(struct boddurci_boot *boot);
 
-/* A note in the header of the log. It says that all records up to a certain end are applied to both data files. It has the state of each
- * data file at that time: its device, inode, length and time of the last change, or zeros if the file was missing. */
+/* A note in the header of the log: the place of the next record, and the end of the records that are applied to both data files. The records
+ * after it are the tail of the log. The note has the state of each data file: its device, inode, length and time of the last change, or zeros
+ * if the file was missing. Data files are written only when all records are flushed. */
 struct boddurci_log_note {
     boddurci_log log;
+    size_t applied;   /* the end of the applied records */
+    uint64_t epoch;   /* differs for each log that was empty meanwhile */
+    uint64_t flushed; /* the records before this end are flushed; or BODDURCI_FLUSH_FAILED */
+    int is_shared;    /* several records may be unflushed, as the header says */
     uint64_t states[8];
 };
 
-enum boddurci_applied {
+/* This flushed end says that a flush has failed: the log must be recovered. */
+#define BODDURCI_FLUSH_FAILED UINT64_MAX
+
+enum boddurci_noted {
     BODDURCI_UNMARKED, /* the redo file has no mark: the data files are the database */
-    BODDURCI_APPLIED,  /* the log has its mark, a note of this boot, and no record after the end in the note */
+    BODDURCI_NOTED,    /* the log has its mark, a note of this boot, and no record after the end in the note */
     BODDURCI_UNKNOWN   /* the log has its mark, and must be recovered before a change */
 };
 
-/* Reads the header of an open redo file. Sets the note if the result is APPLIED. */
-enum boddurci_applied boddurci_find_note(int redo, const struct boddurci_boot *boot, struct boddurci_log_note *note);
+/* Reads the header of an open redo file. Sets the note if the result is NOTED. `boddurci_look_at_note` is for a process that holds no lock.
+ * It does not test whether a record follows. It returns UNKNOWN if a process writes the note meanwhile, even if it reads again. */
+enum { BODDURCI_RECORDS_AT = 4096 };
+enum boddurci_noted boddurci_find_note(int redo, const struct boddurci_boot *boot, struct boddurci_log_note *note);
+enum boddurci_noted boddurci_look_at_note(int redo, const struct boddurci_boot *boot, struct boddurci_log_note *note);
 
 /* Returns the state of the file under a name in a folder, or of an open file (with AT_EMPTY_PATH). A reader requests no times: after such a
  * request, some file systems set new times at the next write. */
@@ -575,16 +626,26 @@ enum boddurci_change boddurci_change_since(const struct boddurci_log_note *note,
  * the next record. */
 int boddurci_is_applied(const struct boddurci_place *place, int redo, boddurci_log *log);
 
-/* `boddurci_put_note` writes a note, without a sync. `boddurci_clear_note` clears the note in an open redo file, and
- * `boddurci_clear_note_in` clears the note in the bytes of a redo file. Clear the note before the log is emptied, since later records may
- * end at the same place. */
-int boddurci_put_note(int redo, const struct boddurci_boot *boot, const boddurci_log *log, const struct boddurci_note files[2]);
+/* Returns an epoch that no other log has: the time. */
+uint64_t boddurci_new_epoch(void);
+
+/* `boddurci_put_note` writes a note, without a sync. `boddurci_clear_note` clears both notes in an open redo file, and
+ * `boddurci_clear_note_in` clears them in the bytes of a redo file. Clear the notes before the log is emptied, since later records may end
+ * at the same place. */
+int boddurci_put_note(int redo, const struct boddurci_boot *boot, const struct boddurci_log_note *note, const struct boddurci_note files[2]);
 int boddurci_clear_note(int redo);
 void boddurci_clear_note_in(struct boddurci_bytes *redo);
 
-/* Reads the first bytes of the header of an open redo file and clears the mark and the note in them. Sets *length to the number of bytes to
- * write back: only the mark if the file has no note. */
-enum { BODDURCI_HEADER_USED = 136 };
+/* Writes the second note: the end of the flushed records of a log. The caller holds the lock of the redo file itself, and perhaps no other
+ * lock. */
+int boddurci_put_flushed(int redo, uint64_t epoch, uint64_t end);
+
+/* Returns whether the header of an open redo file says that several records may be unflushed. */
+int boddurci_is_log_shared(int redo);
+
+/* Reads the first bytes of the header of an open redo file and clears the mark and both notes in them. Sets *length to the number of bytes
+ * to write back: only the mark if the file has no note. */
+enum { BODDURCI_HEADER_USED = 176 };
 int boddurci_unmarked_header(int redo, uint8_t header[BODDURCI_HEADER_USED], size_t *length);
 
 /* ---- crates/boddurci_c: the database of one page, which is proved */
@@ -606,76 +667,6 @@ uint32_t boddurci_open_page(boddurci *db, const uint8_t *key, size_t key_length,
 uint32_t boddurci_plan_page(boddurci *db, const uint8_t *dir, size_t dir_length, size_t pag_length, uint32_t number, const uint8_t *page,
                             size_t page_length, uint32_t *numbers, size_t numbers_room, size_t *numbers_count, uint8_t *plan,
                             size_t plan_room, size_t *plan_length);
-
-/* ---- boddurci_shared_step.c: one call of a shared base, under its locks */
-
-enum boddurci_kind { BODDURCI_FETCH, BODDURCI_STORE, BODDURCI_DELETE, BODDURCI_RUN };
-
-/* The arguments and the results of a call. boddurci.h says what they mean. */
-struct boddurci_command {
-    enum boddurci_kind kind;
-    const uint8_t *key;
-    size_t key_length;
-    const uint8_t *bytes; /* the value of a store, the argument of a run */
-    size_t length;
-    uint8_t *room;        /* of a fetch, like the next two fields */
-    size_t room_length;
-    size_t *value_length;
-    uint32_t replace;     /* of a store */
-    uint32_t number;      /* of a run, like all fields below */
-    uint32_t has_blank;
-    size_t blank;
-    uint64_t per_second;  /* if it is not 0, `now` is read from the clock, with this number of units in a second */
-    uint64_t now, end, word;
-};
-
-/* A submitted program: its image, or the name of a stock program. */
-struct boddurci_program {
-    uint8_t *bytes;
-    size_t length;
-    int is_stock;
-};
-
-/* A shared base. Between two calls its files stay open, and it holds no lock. */
-struct boddurci_shared {
-    boddurci db;                   /* the database of one page during a call, meaningless between calls; and the programs */
-    char *name;                    /* as the caller gave it */
-    struct boddurci_place place;
-    struct boddurci_logged logged; /* its files stay open */
-    struct boddurci_notes notes;   /* the data files as this call found them */
-    struct boddurci_boot boot;
-    int files[3];                  /* open for reading, or -1 */
-    struct boddurci_note last[2];  /* the data files when their last page was last found to belong to the directory */
-    uint32_t flags;
-    int64_t wait;                  /* milliseconds; atomic */
-    pid_t process;                 /* the process that may use the base; 0 if it was forked during a call of another thread */
-    pthread_mutex_t mutex;         /* protects all fields except `wait` and `process` during a call */
-    struct boddurci_program *programs;
-    size_t program_count;
-    uint8_t *directory;            /* a buffer for .dir, of BODDURCI_SHORT_DIRECTORY bytes */
-    uint8_t *plan;                 /* a buffer for a plan and the head of its record */
-    size_t plan_room;
-    uint8_t page[8192];
-    struct boddurci_shared *next;  /* in the list of all open shared bases */
-};
-
-enum { BODDURCI_SHORT_DIRECTORY = 262144 };
-
-/* Executes a command on a handle. */
-uint32_t boddurci_answer(boddurci *db, struct boddurci_command *command);
-
-/* Returns whether a command with this status may have changed its database. */
-int boddurci_may_change(const struct boddurci_command *command, uint32_t status);
-
-/* `boddurci_change_page` executes a command on the page of its key and saves the page. `boddurci_fetch_page` does a fetch, under BASE.lock
- * shared; if a log must be recovered first, it sets *must_recover and does nothing else. If the page is not enough, both set *is_whole and
- * change nothing. */
-uint32_t boddurci_change_page(boddurci_shared *shared, struct boddurci_command *command, int *is_whole, boddurci_fault *fault);
-uint32_t boddurci_fetch_page(boddurci_shared *shared, struct boddurci_command *command, int *must_recover, int *is_whole,
-                             boddurci_fault *fault);
-
-/* Closes all files of a shared base except those of its locks and its folder. */
-void boddurci_drop_files(boddurci_shared *shared);
 
 #pragma GCC visibility pop
 #endif

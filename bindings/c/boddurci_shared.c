@@ -1,6 +1,6 @@
 /* Implements the calls of shared bases, which include/boddurci_files.h documents. */
 #define _GNU_SOURCE
-#include "boddurci_saves.h"
+#include "boddurci_shared_base.h"
 #include <errno.h>
 #include <fcntl.h>
 #include <pthread.h>
@@ -10,7 +10,8 @@
 #include <time.h>
 #include <unistd.h>
 
-enum { FLAGS = BODDURCI_WIDE | BODDURCI_UNSIGNED_KEYS | BODDURCI_MUST_EXIST | BODDURCI_ANY_SIZE | BODDURCI_NO_WAIT };
+enum { PAGE_FLAGS = BODDURCI_WIDE | BODDURCI_UNSIGNED_KEYS | BODDURCI_MUST_EXIST | BODDURCI_ANY_SIZE };
+enum { FLAGS = PAGE_FLAGS | BODDURCI_NO_WAIT | BODDURCI_NO_FLUSH };
 enum { PATIENCE = 5000, PLAN_ROOM = 65536 };
 
 /* ---- time */
@@ -54,18 +55,32 @@ static void give_all(void)
     pthread_mutex_unlock(&all_mutex);
 }
 
-/* Closes the lock files of a base, in a child, if another thread of the parent was in a call. That thread may have closed a lock file
- * before the fork, and another file may have its descriptor now. So a descriptor is closed only if its file still has the name of the
- * lock. */
-static void leave_locks_of_call(struct boddurci_place *place)
+/* Forgets a descriptor, in a child, if another thread of the parent was in a call. That thread may have closed the file before the fork, and
+ * another file may have its descriptor now. So the child may close a descriptor only if its file still has the name. */
+static void forget_unnamed(const struct boddurci_place *place, enum boddurci_file file, int *opened)
 {
-    for (enum boddurci_file lock = BODDURCI_LOCK; lock <= BODDURCI_WRITER; lock++)
-        if (place->opened[lock] < 0 || !boddurci_is_named(place, lock, place->opened[lock]))
-            place->opened[lock] = -1;
-    boddurci_drop_locks(place);
+    if (*opened >= 0 && !boddurci_is_named(place, file, *opened))
+        *opened = -1;
 }
 
-/* Closes the lock files in a child. The next call opens these files again. If another thread of the parent was in a call, the child cannot
+/* Closes the lock files and the redo file in a child. The redo file serves as a lock during a flush. */
+static void leave_files(boddurci_shared *shared, int is_idle)
+{
+    struct boddurci_place *place = &shared->place;
+    int *redos[2] = {&shared->logged.disk.files[BODDURCI_REDO], &shared->files[BODDURCI_REDO]};
+    for (enum boddurci_file lock = BODDURCI_LOCK; !is_idle && lock <= BODDURCI_WRITER; lock++)
+        forget_unnamed(place, lock, &place->opened[lock]);
+    boddurci_drop_locks(place);
+    for (int i = 0; i < 2; i++) {
+        if (!is_idle)
+            forget_unnamed(place, BODDURCI_REDO, redos[i]);
+        if (*redos[i] >= 0)
+            close(*redos[i]);
+        *redos[i] = -1;
+    }
+}
+
+/* Closes the locks in a child. The next call opens these files again. If another thread of the parent was in a call, the child cannot
  * use the base. If that call was on the whole database, the child keeps the lock files that call_whole had opened, since the base of
  * call_whole is not in the list `all`. */
 static void leave_locks(void)
@@ -73,10 +88,7 @@ static void leave_locks(void)
     for (boddurci_shared *shared = all; shared != NULL; shared = shared->next) {
         int is_idle = pthread_mutex_trylock(&shared->mutex) == 0;
         __atomic_store_n(&shared->process, is_idle && shared->process != 0 ? boddurci_note_process() : 0, __ATOMIC_RELAXED);
-        if (is_idle)
-            boddurci_drop_locks(&shared->place);
-        else
-            leave_locks_of_call(&shared->place);
+        leave_files(shared, is_idle);
         if (is_idle)
             pthread_mutex_unlock(&shared->mutex);
     }
@@ -125,6 +137,7 @@ static boddurci_shared *new_shared(uint32_t flags)
     shared->process = boddurci_note_process();
     boddurci_no_place(&shared->place);
     boddurci_logged_of(&shared->logged, &shared->place, &shared->notes);
+    shared->logged.is_sharing = (flags & BODDURCI_NO_FLUSH) != 0;
     for (enum boddurci_file file = BODDURCI_PAGES; file <= BODDURCI_REDO; file++)
         shared->files[file] = -1;
     boddurci_boot_of_system(&shared->boot);
@@ -156,8 +169,9 @@ static uint32_t look_at_size(const boddurci_shared *shared, const char *name, bo
     if (!(shared->flags & BODDURCI_WIDE) || (shared->flags & BODDURCI_ANY_SIZE))
         return BODDURCI_DONE;
     int64_t end = end_of_wait(shared);
+    uint32_t flags = (shared->flags & (PAGE_FLAGS | BODDURCI_NO_WAIT)) | BODDURCI_READ_ONLY;
     do
-        base = boddurci_open_files_within(name, shared->flags | BODDURCI_READ_ONLY, left_of(end), fault);
+        base = boddurci_open_files_within(name, flags, left_of(end), fault);
     while (base == NULL && fault->status == BODDURCI_INTERRUPTED);
     boddurci_close_files(base);
     return base != NULL ? BODDURCI_DONE : fault->status;
@@ -222,12 +236,29 @@ boddurci_shared *boddurci_open_shared(const char *name, uint32_t flags, boddurci
     return NULL;
 }
 
+/* Applies the tail of the log, if the handle has made changes. Flushes it first if no call did. */
+static void finish_tail(boddurci_shared *shared)
+{
+    boddurci_fault unsaid;
+    int could_be_cancelled;
+    if (shared->logged.disk.files[BODDURCI_REDO] < 0)
+        return;
+    pthread_setcancelstate(PTHREAD_CANCEL_DISABLE, &could_be_cancelled);
+    if (shared->flags & BODDURCI_NO_FLUSH)
+        (void)!boddurci_flush_all(shared, &unsaid);
+    else
+        boddurci_try_to_apply(shared);
+    pthread_setcancelstate(could_be_cancelled, NULL);
+}
+
 /* In a child that was forked during a call of another thread, does not free the memory of the database. */
 void boddurci_close_shared(boddurci_shared *shared)
 {
     if (shared == NULL)
         return;
     int is_own = !is_of_another(shared);
+    if (is_own)
+        finish_tail(shared);
     forget(shared);
     boddurci_give_locks(&shared->place, 0);
     boddurci_drop_files(shared);
@@ -241,6 +272,7 @@ void boddurci_close_shared(boddurci_shared *shared)
     free(shared->programs);
     free(shared->directory);
     free(shared->plan);
+    free(shared->tail.bytes);
     free(shared->name);
     free(shared);
 }
@@ -335,12 +367,12 @@ static uint32_t answer_whole(const boddurci_shared *shared, boddurci_base *base,
 static uint32_t call_whole(const boddurci_shared *shared, struct boddurci_command *command, int64_t end, boddurci_fault *fault)
 {
     boddurci_base *base;
-    uint32_t flags = command->kind == BODDURCI_FETCH ? shared->flags | BODDURCI_READ_ONLY : shared->flags;
+    uint32_t flags = (shared->flags & PAGE_FLAGS) | (command->kind == BODDURCI_FETCH ? BODDURCI_READ_ONLY : 0);
     char *name = whole_name(shared);
     if (name == NULL)
         return boddurci_no_memory(fault);
     do
-        base = boddurci_open_files_within(name, flags & ~(uint32_t)BODDURCI_NO_WAIT, left_of(end), fault);
+        base = boddurci_open_files_within(name, flags, left_of(end), fault);
     while (base == NULL && fault->status == BODDURCI_INTERRUPTED);
     free(name);
     if (base == NULL)
@@ -353,6 +385,17 @@ static uint32_t call_whole(const boddurci_shared *shared, struct boddurci_comman
 
 /* ---- one call */
 
+/* Flushes the records on which a reply depends, once the call has released its locks. Returns the status of the call, or of a failed
+ * flush. */
+static uint32_t flushed(boddurci_shared *shared, uint32_t status, boddurci_fault *fault)
+{
+    boddurci_fault second;
+    if (boddurci_flush_owed(shared, &second) == BODDURCI_DONE)
+        return status;
+    *fault = second;
+    return second.status;
+}
+
 static uint32_t change(boddurci_shared *shared, struct boddurci_command *command, int64_t end, boddurci_fault *fault)
 {
     int is_whole = 0;
@@ -361,7 +404,7 @@ static uint32_t change(boddurci_shared *shared, struct boddurci_command *command
         return status;
     status = boddurci_change_page(shared, command, &is_whole, fault);
     boddurci_give_call(&shared->place, 0);
-    return status == BODDURCI_DONE && is_whole ? call_whole(shared, command, end, fault) : status;
+    return status == BODDURCI_DONE && is_whole ? call_whole(shared, command, end, fault) : flushed(shared, status, fault);
 }
 
 /* Recovers the log and fetches. If this user may not recover the log, or another process holds BASE.writer, fetches from the whole
@@ -425,7 +468,7 @@ static uint32_t fetch(boddurci_shared *shared, struct boddurci_command *command,
         status = fetch_once(&it, 1, fault);
     if (status == BODDURCI_DONE && it.must_recover)
         return fetch_recovered(shared, command, end, fault);
-    return status == BODDURCI_DONE && it.is_whole ? call_whole(shared, command, end, fault) : status;
+    return status == BODDURCI_DONE && it.is_whole ? call_whole(shared, command, end, fault) : flushed(shared, status, fault);
 }
 
 /* Makes a call as one atomic step. It waits for the mutex and the locks until `end`. */
@@ -447,6 +490,21 @@ static uint32_t call_until(boddurci_shared *shared, struct boddurci_command *com
 static uint32_t call(boddurci_shared *shared, struct boddurci_command *command, boddurci_fault *fault)
 {
     return call_until(shared, command, shared != NULL ? end_of_wait(shared) : 0, fault);
+}
+
+uint32_t boddurci_shared_flush(boddurci_shared *shared, boddurci_fault *fault)
+{
+    boddurci_fault unsaid;
+    int could_be_cancelled;
+    fault = fault != NULL ? fault : &unsaid;
+    pthread_setcancelstate(PTHREAD_CANCEL_DISABLE, &could_be_cancelled);
+    uint32_t status = begin(shared, shared != NULL ? end_of_wait(shared) : 0, fault);
+    if (status == BODDURCI_DONE) {
+        status = boddurci_flush_all(shared, fault);
+        pthread_mutex_unlock(&shared->mutex);
+    }
+    pthread_setcancelstate(could_be_cancelled, NULL);
+    return status;
 }
 
 uint32_t boddurci_shared_fetch(boddurci_shared *shared, const uint8_t *key, size_t key_length, uint8_t *value, size_t value_room,

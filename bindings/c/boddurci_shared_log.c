@@ -1,29 +1,33 @@
-/* Reads and writes the note that a call of a shared base leaves in the header of the log. The note says that all records up to a certain
- * end are applied to both data files. So the next call appends its record at that end, without recovering the log. docs/DESIGN.md defines
- * the bytes of a note under "The log of saves". */
+/* Reads and writes the notes that calls of shared bases leave in the header of the log. One note has the end of the records, and the end of
+ * those that are applied to both data files. So the next call appends its record at the end, without recovering the log. The other note has
+ * the end of the records that are flushed. docs/DESIGN.md defines the bytes of both under "The log of saves". */
 #define _GNU_SOURCE
 #include "boddurci_saves.h"
 #include <errno.h>
 #include <fcntl.h>
 #include <string.h>
 #include <sys/stat.h>
+#include <time.h>
 #include <unistd.h>
 
-/* The header of a log, as words of 8 bytes, the lowest byte first. The note is the 15 words after the first two. */
-enum { HEADER = 4096, WORD = 8, NOTE_AT = 16, NOTE_WORDS = 15, NOTE_LENGTH = NOTE_WORDS * WORD };
-_Static_assert(BODDURCI_HEADER_USED == NOTE_AT + NOTE_LENGTH, "the mark, the signature and the note");
-enum { SIGNATURE, END, ROOM, COUNT, BOOT, STATES = BOOT + 2, CHECK = STATES + 8 };
-static const uint8_t LOG_SIGNATURE[8] = "sdbmlog1", NOTE_SIGNATURE[8] = "sdbmnot2";
+/* The header of a log, as words of 8 bytes, the lowest byte first. The note is the 17 words after the first two. The three words after it
+ * are the flushed end, which is written without the locks. */
+enum { HEADER = BODDURCI_RECORDS_AT, WORD = 8, SHARED_AT = 9, NOTE_AT = 16 };
+enum { SIGNATURE, END, ROOM, COUNT, APPLIED, EPOCH, BOOT, STATES = BOOT + 2, CHECK = STATES + 8, NOTE_WORDS };
+enum { OF_EPOCH, FLUSHED, FLUSHED_CHECK, FLUSHED_WORDS };
+enum { FLUSHED_AT = NOTE_AT + NOTE_WORDS * WORD, BOTH_LENGTH = (NOTE_WORDS + FLUSHED_WORDS) * WORD };
+_Static_assert(BODDURCI_HEADER_USED == NOTE_AT + BOTH_LENGTH, "the mark, the signature and both notes");
+static const uint8_t LOG_SIGNATURE[8] = "sdbmlog1", NOTE_SIGNATURE[8] = "sdbmnot3";
 
 /* ---- bytes */
 
-static int write_note(int redo, const uint8_t bytes[NOTE_LENGTH])
+static int write_at(int redo, off_t at, const uint8_t *bytes, size_t length)
 {
     ssize_t put;
     do
-        put = pwrite(redo, bytes, NOTE_LENGTH, NOTE_AT);
+        put = pwrite(redo, bytes, length, at);
     while (put < 0 && errno == EINTR);
-    return put == NOTE_LENGTH ? 0 : -1;
+    return put == (ssize_t)length ? 0 : -1;
 }
 
 static uint64_t word_at(const uint8_t *bytes)
@@ -40,11 +44,11 @@ static void put_word(uint8_t *bytes, uint64_t word)
         bytes[i] = (uint8_t)(word >> 8 * i);
 }
 
-/* Returns the FNV-1a hash of a note, by which a partly written note is detected. */
-static uint64_t check_of(const uint8_t *bytes)
+/* Returns the FNV-1a hash of the words of a note, by which a partly written note is detected. */
+static uint64_t check_of(const uint8_t *bytes, int words)
 {
     uint64_t check = 14695981039346656037u;
-    for (int i = 0; i < CHECK * WORD; i++)
+    for (int i = 0; i < words * WORD; i++)
         check = (check ^ bytes[i]) * 1099511628211u;
     return check;
 }
@@ -105,31 +109,66 @@ void boddurci_boot_of_system(struct boddurci_boot *boot)
     boot->is_known = digits == 32;
 }
 
-enum boddurci_applied boddurci_find_note(int redo, const struct boddurci_boot *boot, struct boddurci_log_note *note)
+/* Returns the end of the flushed records of a log: the flushed end, if it belongs to this log, or the end of the applied records. */
+static uint64_t flushed_of(const uint8_t *bytes, uint64_t epoch, uint64_t applied)
 {
-    uint8_t header[NOTE_AT + NOTE_LENGTH], next[WORD], *bytes = header + NOTE_AT;
+    int is_whole = word_at(bytes + FLUSHED_CHECK * WORD) == check_of(bytes, FLUSHED_CHECK);
+    uint64_t flushed = is_whole && word_at(bytes + OF_EPOCH * WORD) == epoch ? word_at(bytes + FLUSHED * WORD) : 0;
+    return flushed > applied ? flushed : applied;
+}
+
+/* Reads a note from the bytes of a header. Returns 0 if the bytes have no note of this boot. */
+static int note_of(const uint8_t header[BODDURCI_HEADER_USED], const struct boddurci_boot *boot, struct boddurci_log_note *note)
+{
+    const uint8_t *bytes = header + NOTE_AT;
+    int is_note = memcmp(header + 1, LOG_SIGNATURE, WORD) == 0 && memcmp(bytes, NOTE_SIGNATURE, WORD) == 0;
+    if (!is_note || !boot->is_known || word_at(bytes + CHECK * WORD) != check_of(bytes, CHECK))
+        return 0;
+    if (word_at(bytes + BOOT * WORD) != boot->id[0] || word_at(bytes + (BOOT + 1) * WORD) != boot->id[1])
+        return 0;
+    note->log.end = (size_t)word_at(bytes + END * WORD);
+    note->log.room = (size_t)word_at(bytes + ROOM * WORD);
+    note->log.count = (size_t)word_at(bytes + COUNT * WORD);
+    note->applied = (size_t)word_at(bytes + APPLIED * WORD);
+    note->epoch = word_at(bytes + EPOCH * WORD);
+    note->flushed = flushed_of(header + FLUSHED_AT, note->epoch, note->applied);
+    note->is_shared = header[SHARED_AT] == 1;
+    for (int i = 0; i < 8; i++)
+        note->states[i] = word_at(bytes + (STATES + i) * WORD);
+    return note->applied <= note->log.end && note->log.end <= note->log.room && note->log.count <= note->log.end;
+}
+
+enum boddurci_noted boddurci_find_note(int redo, const struct boddurci_boot *boot, struct boddurci_log_note *note)
+{
+    uint8_t header[BODDURCI_HEADER_USED], next[WORD];
     struct stat found;
     if (boddurci_read_at(redo, 0, header, sizeof header) != 0)
         return BODDURCI_UNKNOWN;
     if (header[0] != 1)
         return BODDURCI_UNMARKED;
-    int is_note = memcmp(header + 1, LOG_SIGNATURE, WORD) == 0 && memcmp(bytes, NOTE_SIGNATURE, WORD) == 0;
-    if (!is_note || !boot->is_known || word_at(bytes + CHECK * WORD) != check_of(bytes))
+    if (!note_of(header, boot, note) || note->flushed == BODDURCI_FLUSH_FAILED)
         return BODDURCI_UNKNOWN;
-    if (word_at(bytes + BOOT * WORD) != boot->id[0] || word_at(bytes + (BOOT + 1) * WORD) != boot->id[1])
-        return BODDURCI_UNKNOWN;
-    uint64_t end = word_at(bytes + END * WORD), room = word_at(bytes + ROOM * WORD), count = word_at(bytes + COUNT * WORD);
-    if (boddurci_look_at(redo, &found) != 0 || found.st_size < HEADER || room > (uint64_t)found.st_size - HEADER || end > room || count > end)
+    if (boddurci_look_at(redo, &found) != 0 || found.st_size < HEADER || note->log.room > (uint64_t)found.st_size - HEADER)
         return BODDURCI_UNKNOWN;
     /* A record begins with bytes that are not zero. So if the bytes after the end are zeros, no record follows. */
-    if (boddurci_read_at(redo, HEADER + end, next, sizeof next) != 0 || word_at(next) != 0)
+    if (boddurci_read_at(redo, HEADER + note->log.end, next, sizeof next) != 0 || word_at(next) != 0)
         return BODDURCI_UNKNOWN;
-    note->log.end = (size_t)end;
-    note->log.room = (size_t)room;
-    note->log.count = (size_t)count;
-    for (int i = 0; i < 8; i++)
-        note->states[i] = word_at(bytes + (STATES + i) * WORD);
-    return BODDURCI_APPLIED;
+    return BODDURCI_NOTED;
+}
+
+enum boddurci_noted boddurci_look_at_note(int redo, const struct boddurci_boot *boot, struct boddurci_log_note *note)
+{
+    enum { TRIES = 10 };
+    uint8_t header[BODDURCI_HEADER_USED];
+    for (int tries = 0; tries < TRIES; tries++) {
+        if (boddurci_read_at(redo, 0, header, sizeof header) != 0)
+            return BODDURCI_UNKNOWN;
+        if (header[0] != 1)
+            return BODDURCI_UNMARKED;
+        if (note_of(header, boot, note))
+            return BODDURCI_NOTED;
+    }
+    return BODDURCI_UNKNOWN;
 }
 
 enum boddurci_change boddurci_change_since(const struct boddurci_log_note *note, const struct boddurci_note files[2])
@@ -153,7 +192,7 @@ int boddurci_is_applied(const struct boddurci_place *place, int redo, boddurci_l
     struct boddurci_log_note note;
     struct boddurci_note files[2];
     boddurci_boot_of_system(&boot);
-    if (boddurci_find_note(redo, &boot, &note) != BODDURCI_APPLIED)
+    if (boddurci_find_note(redo, &boot, &note) != BODDURCI_NOTED || note.applied != note.log.end)
         return 0;
     for (enum boddurci_file file = BODDURCI_PAGES; file <= BODDURCI_DIRECTORY; file++)
         files[file] = boddurci_state_of(place->folder, place->names[file], 0, 0);
@@ -161,10 +200,17 @@ int boddurci_is_applied(const struct boddurci_place *place, int redo, boddurci_l
     return boddurci_change_since(&note, files) != BODDURCI_OTHERS;
 }
 
-int boddurci_put_note(int redo, const struct boddurci_boot *boot, const boddurci_log *log, const struct boddurci_note files[2])
+uint64_t boddurci_new_epoch(void)
 {
-    uint64_t words[NOTE_WORDS] = {0, log->end, log->room, log->count, boot->id[0], boot->id[1]};
-    uint8_t bytes[NOTE_LENGTH];
+    struct timespec time;
+    clock_gettime(CLOCK_REALTIME, &time);
+    return nanoseconds(time);
+}
+
+int boddurci_put_note(int redo, const struct boddurci_boot *boot, const struct boddurci_log_note *note, const struct boddurci_note files[2])
+{
+    uint64_t words[NOTE_WORDS] = {0, note->log.end, note->log.room, note->log.count, note->applied, note->epoch, boot->id[0], boot->id[1]};
+    uint8_t bytes[NOTE_WORDS * WORD];
     if (!boot->is_known)
         return 0;
     put_state(words + STATES, &files[BODDURCI_PAGES]);
@@ -172,8 +218,23 @@ int boddurci_put_note(int redo, const struct boddurci_boot *boot, const boddurci
     for (int i = 0; i < NOTE_WORDS; i++)
         put_word(bytes + i * WORD, words[i]);
     memcpy(bytes, NOTE_SIGNATURE, WORD);
-    put_word(bytes + CHECK * WORD, check_of(bytes));
-    return write_note(redo, bytes);
+    put_word(bytes + CHECK * WORD, check_of(bytes, CHECK));
+    return write_at(redo, NOTE_AT, bytes, sizeof bytes);
+}
+
+int boddurci_put_flushed(int redo, uint64_t epoch, uint64_t end)
+{
+    uint8_t bytes[FLUSHED_WORDS * WORD];
+    put_word(bytes + OF_EPOCH * WORD, epoch);
+    put_word(bytes + FLUSHED * WORD, end);
+    put_word(bytes + FLUSHED_CHECK * WORD, check_of(bytes, FLUSHED_CHECK));
+    return write_at(redo, FLUSHED_AT, bytes, sizeof bytes);
+}
+
+int boddurci_is_log_shared(int redo)
+{
+    uint8_t is_shared = 0;
+    return boddurci_read_at(redo, SHARED_AT, &is_shared, 1) == 0 && is_shared == 1;
 }
 
 static int is_noted(const uint8_t header[NOTE_AT + WORD])
@@ -183,11 +244,11 @@ static int is_noted(const uint8_t header[NOTE_AT + WORD])
 
 int boddurci_clear_note(int redo)
 {
-    static const uint8_t none[NOTE_LENGTH];
+    static const uint8_t none[BOTH_LENGTH];
     uint8_t header[NOTE_AT + WORD];
     if (boddurci_read_at(redo, 0, header, sizeof header) != 0)
         return -1;
-    return is_noted(header) ? write_note(redo, none) : 0;
+    return is_noted(header) ? write_at(redo, NOTE_AT, none, sizeof none) : 0;
 }
 
 int boddurci_unmarked_header(int redo, uint8_t header[BODDURCI_HEADER_USED], size_t *length)
@@ -196,12 +257,12 @@ int boddurci_unmarked_header(int redo, uint8_t header[BODDURCI_HEADER_USED], siz
         return -1;
     *length = is_noted(header) ? BODDURCI_HEADER_USED : 1;
     header[0] = 0;
-    memset(header + NOTE_AT, 0, NOTE_LENGTH);
+    memset(header + NOTE_AT, 0, BOTH_LENGTH);
     return 0;
 }
 
 void boddurci_clear_note_in(struct boddurci_bytes *redo)
 {
     if (redo->length >= HEADER && is_noted(redo->at))
-        memset(redo->at + NOTE_AT, 0, NOTE_LENGTH);
+        memset(redo->at + NOTE_AT, 0, BOTH_LENGTH);
 }

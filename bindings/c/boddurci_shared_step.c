@@ -1,6 +1,6 @@
 /* Makes one call of a shared base on the page of its key. The caller holds the locks. */
 #define _GNU_SOURCE
-#include "boddurci_saves.h"
+#include "boddurci_shared_base.h"
 #include <errno.h>
 #include <fcntl.h>
 #include <stdlib.h>
@@ -103,8 +103,7 @@ static int file_of(boddurci_shared *shared, enum boddurci_file file)
     return shared->files[file];
 }
 
-/* Opens the redo file under the name, unless it is open. Sets *redo to -1 if it is missing. */
-static uint32_t open_redo(boddurci_shared *shared, int writes, int *redo, boddurci_fault *fault)
+uint32_t boddurci_open_redo(boddurci_shared *shared, int writes, int *redo, boddurci_fault *fault)
 {
     int *written = &shared->logged.disk.files[BODDURCI_REDO], *file = writes || *written >= 0 ? written : &shared->files[BODDURCI_REDO];
     const struct boddurci_place *place = &shared->place;
@@ -133,27 +132,72 @@ static uint32_t recover(boddurci_shared *shared, boddurci_fault *fault)
     return status == BODDURCI_DONE ? find_files(shared, 1, fault) : status;
 }
 
-/* Ensures that the data files have all saves: the log has no mark, or all its records are applied. If a program that does not know the log
- * has written the data files since the last save, the data files are the database, and the log is closed. */
+/* Returns how the data files differ from the state in a note. If the log has a tail, its changes belong to exactly these files, so any
+ * difference is one of other files. */
+static enum boddurci_change change_since(const struct boddurci_log_note *note, const struct boddurci_note files[2])
+{
+    enum boddurci_change change = boddurci_change_since(note, files);
+    return change != BODDURCI_SAME && note->applied != note->log.end ? BODDURCI_OTHERS : change;
+}
+
+/* Continues the log that a note describes. */
+static uint32_t continue_log(boddurci_shared *shared, int redo, const struct boddurci_log_note *note, boddurci_fault *fault)
+{
+    struct boddurci_logged *logged = &shared->logged;
+    uint32_t status = boddurci_read_tail(shared, redo, note, fault);
+    if (status != BODDURCI_DONE)
+        return status;
+    logged->next = note->log;
+    logged->epoch = note->epoch;
+    logged->is_open = 1;
+    logged->redo.is_known = 0;
+    return status;
+}
+
+/* Ensures that the data files have all saves: the log has no mark, or all its records are applied or in its tail. If a program that does not
+ * know the log has written the data files since the last save, the data files are the database, and the log is closed. */
 static uint32_t settle_log(boddurci_shared *shared, boddurci_fault *fault)
 {
     int redo;
     boddurci_fault second;
     struct boddurci_log_note note;
     struct boddurci_logged *logged = &shared->logged;
-    enum boddurci_applied applied = BODDURCI_UNKNOWN;
+    enum boddurci_noted noted = BODDURCI_UNKNOWN;
     logged->is_open = logged->is_given_up = 0;
-    if (open_redo(shared, 1, &redo, &second) == BODDURCI_DONE)
-        applied = redo < 0 ? BODDURCI_UNMARKED : boddurci_find_note(redo, &shared->boot, &note);
-    if (applied == BODDURCI_UNMARKED)
+    boddurci_no_tail(&shared->tail);
+    if (boddurci_open_redo(shared, 1, &redo, &second) == BODDURCI_DONE)
+        noted = redo < 0 ? BODDURCI_UNMARKED : boddurci_find_note(redo, &shared->boot, &note);
+    if (noted == BODDURCI_UNMARKED)
         return BODDURCI_DONE;
-    enum boddurci_change change = applied == BODDURCI_APPLIED ? boddurci_change_since(&note, shared->notes.files) : BODDURCI_OTHERS;
-    if (change == BODDURCI_OTHERS)
+    enum boddurci_change change = noted == BODDURCI_NOTED ? change_since(&note, shared->notes.files) : BODDURCI_OTHERS;
+    uint32_t status = change != BODDURCI_OTHERS ? continue_log(shared, redo, &note, fault) : BODDURCI_STALE;
+    if (status == BODDURCI_STALE) {
+        boddurci_no_tail(&shared->tail);
         return recover(shared, fault);
-    logged->next = note.log;
-    logged->is_open = 1;
-    logged->redo.is_known = 0;
-    return change == BODDURCI_SAME ? BODDURCI_DONE : boddurci_logged_renew(logged, fault);
+    }
+    return status != BODDURCI_DONE || change == BODDURCI_SAME ? status : boddurci_logged_renew(logged, fault);
+}
+
+/* Reads the tail of the log for a fetch. Sets *must_recover to 1 if the log must be recovered first. */
+static uint32_t look_at_log(boddurci_shared *shared, int *must_recover, boddurci_fault *fault)
+{
+    int redo;
+    struct boddurci_log_note note;
+    struct boddurci_note files[2];
+    const struct boddurci_place *place = &shared->place;
+    uint32_t status = boddurci_open_redo(shared, 0, &redo, fault);
+    boddurci_no_tail(&shared->tail);
+    if (status != BODDURCI_DONE || redo < 0)
+        return status;
+    enum boddurci_noted noted = boddurci_find_note(redo, &shared->boot, &note);
+    *must_recover = noted == BODDURCI_UNKNOWN && !boddurci_has_writer(place);
+    if (noted != BODDURCI_NOTED || note.applied == note.log.end)
+        return status;
+    for (enum boddurci_file file = BODDURCI_PAGES; file <= BODDURCI_DIRECTORY; file++)
+        files[file] = boddurci_state_of(place->folder, place->names[file], 0, 1);
+    status = change_since(&note, files) == BODDURCI_SAME ? boddurci_read_tail(shared, redo, &note, fault) : BODDURCI_STALE;
+    *must_recover = status == BODDURCI_STALE;
+    return *must_recover ? BODDURCI_DONE : status;
 }
 
 /* Closes an open log and removes the redo file if it does not have the owner, the group and the permissions of .pag, since other users
@@ -165,29 +209,11 @@ static void remove_unlike(boddurci_shared *shared)
     int redo = disk->files[BODDURCI_REDO];
     if (!shared->logged.is_open || boddurci_is_like_pages(&shared->place, redo))
         return;
+    if (boddurci_apply_tail(shared, &unsaid) != BODDURCI_DONE)
+        return;
     int is_named = boddurci_is_named(&shared->place, BODDURCI_REDO, redo);
     if (boddurci_logged_renew(&shared->logged, &unsaid) == BODDURCI_DONE && is_named)
         (void)!(boddurci_disk_remove_redo(disk) == 0 && boddurci_disk_sync(disk, BODDURCI_REDO) == 0);
-}
-
-/* Leaves a note for the next call. Closes the log instead in two cases: if another program has written during this call, since the records
- * may not belong to these files, or if the boot id is unknown, since a note holds for one boot only. If this fails, the next call recovers
- * the files. */
-static void leave_log(boddurci_shared *shared)
-{
-    boddurci_fault unsaid;
-    struct boddurci_logged *logged = &shared->logged;
-    struct boddurci_note files[2];
-    boddurci_settle_locks(&shared->place);
-    if (!boddurci_logged_is_marked(logged))
-        return;
-    if (shared->notes.is_overtaken || !shared->boot.is_known) {
-        (void)!boddurci_logged_renew(logged, &unsaid);
-        return;
-    }
-    for (enum boddurci_file file = BODDURCI_PAGES; file <= BODDURCI_DIRECTORY; file++)
-        files[file] = boddurci_state_of(logged->disk.files[file], "", AT_EMPTY_PATH, 1);
-    (void)!boddurci_put_note(logged->disk.files[BODDURCI_REDO], &shared->boot, &logged->next, files);
 }
 
 /* ---- the page */
@@ -197,6 +223,7 @@ static uint32_t page_of(const boddurci_shared *shared, const struct part *part, 
     return boddurci_page_of(key, length, shared->directory, part->directory, (shared->flags & BODDURCI_UNSIGNED_KEYS) != 0);
 }
 
+/* Reads a page, with the changes of the tail. */
 static int read_page(boddurci_shared *shared, const struct part *part, uint32_t number)
 {
     uint64_t at = (uint64_t)number * part->size;
@@ -205,7 +232,9 @@ static int read_page(boddurci_shared *shared, const struct part *part, uint32_t 
         return 0;
     }
     int file = file_of(shared, BODDURCI_PAGES);
-    return file < 0 ? -1 : boddurci_read_at(file, at, shared->page, part->size);
+    if (file < 0 || boddurci_read_at(file, at, shared->page, part->size) != 0)
+        return -1;
+    return boddurci_lay_tail(&shared->tail, BODDURCI_PAGES, (size_t)at, shared->page, part->size);
 }
 
 static size_t number_at(const uint8_t *bytes)
@@ -234,11 +263,24 @@ static int is_same_file(const struct boddurci_note *one, const struct boddurci_n
     return one->is_there == other->is_there && one->device == other->device && one->number == other->number && one->length == other->length;
 }
 
+/* Sets the state of both data files, with the lengths that the tail gives them. */
+static void state_with_tail(const boddurci_shared *shared, struct boddurci_note files[2])
+{
+    uint64_t lengths[2];
+    memcpy(files, shared->notes.files, sizeof shared->notes.files);
+    if (!boddurci_has_tail(&shared->tail))
+        return;
+    boddurci_lengths_of(shared->tail.bytes, 1, lengths);
+    for (enum boddurci_file file = BODDURCI_PAGES; file <= BODDURCI_DIRECTORY; file++)
+        files[file].length = (off_t)lengths[file];
+}
+
 /* Returns whether the last page of .pag belongs to the directory. If not, the directory may be lost, or belong to another database. Reads
  * that page again only if a file or its length has changed since the last check. */
 static int is_last_page_right(boddurci_shared *shared, const struct part *part)
 {
-    const struct boddurci_note *files = shared->notes.files;
+    struct boddurci_note files[2];
+    state_with_tail(shared, files);
     if (part->length == 0)
         return part->directory == 0;
     if (is_same_file(&files[0], &shared->last[0]) && is_same_file(&files[1], &shared->last[1]))
@@ -250,10 +292,11 @@ static int is_last_page_right(boddurci_shared *shared, const struct part *part)
     return 1;
 }
 
-/* Reads .dir. Sets *is_whole to 1 if the lengths of the files show that one page is not enough. */
+/* Reads .dir, with the changes of the tail. Sets *is_whole to 1 if the lengths of the files show that one page is not enough. */
 static int read_directory(boddurci_shared *shared, struct part *part, int *is_whole)
 {
-    const struct boddurci_note *pages = &shared->notes.files[BODDURCI_PAGES], *directory = &shared->notes.files[BODDURCI_DIRECTORY];
+    struct boddurci_note files[2], *pages = &files[BODDURCI_PAGES], *directory = &files[BODDURCI_DIRECTORY];
+    state_with_tail(shared, files);
     part->size = shared->flags & BODDURCI_WIDE ? 8192 : 1024;
     part->length = (size_t)pages->length;
     part->directory = (size_t)directory->length;
@@ -262,7 +305,9 @@ static int read_directory(boddurci_shared *shared, struct part *part, int *is_wh
     if (*is_whole || part->directory == 0)
         return 0;
     int file = file_of(shared, BODDURCI_DIRECTORY);
-    return file < 0 ? -1 : boddurci_read_at(file, 0, shared->directory, part->directory);
+    if (file < 0 || boddurci_read_at(file, 0, shared->directory, part->directory) != 0)
+        return -1;
+    return boddurci_lay_tail(&shared->tail, BODDURCI_DIRECTORY, 0, shared->directory, part->directory);
 }
 
 /* Reads the page of a key and opens its database. */
@@ -378,7 +423,7 @@ static uint32_t save_page(boddurci_shared *shared, const struct part *part, int 
 {
     struct written written;
     size_t length;
-    int is_left = 0, is_free;
+    int is_free;
     uint32_t status = plan_page(shared, part, &written, &length);
     *is_whole = status == BODDURCI_STALE;
     if (*is_whole || (status == BODDURCI_DONE && length == 0))
@@ -387,14 +432,7 @@ static uint32_t save_page(boddurci_shared *shared, const struct part *part, int 
         return boddurci_fail(fault, status, 0, boddurci_text(status));
     status = are_free(shared, part, &written, &is_free, fault);
     *is_whole = status == BODDURCI_DONE && !is_free;
-    if (status != BODDURCI_DONE || *is_whole)
-        return status;
-    shared->notes.is_overtaken = 0;
-    struct boddurci_bytes bytes = {shared->plan, BODDURCI_PLAN_AT + length, 0};
-    status = boddurci_logged_save(&shared->logged, bytes, &is_left, fault);
-    if (status == BODDURCI_DONE && !is_left)
-        leave_log(shared);
-    return status;
+    return status != BODDURCI_DONE || *is_whole ? status : boddurci_save_or_append(shared, length, fault);
 }
 
 /* ---- calls */
@@ -403,6 +441,8 @@ uint32_t boddurci_change_page(boddurci_shared *shared, struct boddurci_command *
 {
     struct part part;
     *is_whole = 0;
+    shared->tail.owed = 0;
+    shared->tail.is_touched = 0;
     boddurci_hold_signal(&shared->logged.disk);
     uint32_t status = find_files(shared, 1, fault);
     if (status == BODDURCI_DONE)
@@ -416,6 +456,8 @@ uint32_t boddurci_change_page(boddurci_shared *shared, struct boddurci_command *
         if (boddurci_may_change(command, status))
             status = save_page(shared, &part, is_whole, fault);
     }
+    if (!*is_whole)
+        boddurci_owe_tail(shared);
     remove_unlike(shared);
     boddurci_give_signal(&shared->logged.disk);
     return status;
@@ -424,19 +466,56 @@ uint32_t boddurci_change_page(boddurci_shared *shared, struct boddurci_command *
 uint32_t boddurci_fetch_page(boddurci_shared *shared, struct boddurci_command *command, int *must_recover, int *is_whole,
                              boddurci_fault *fault)
 {
-    int redo;
     struct part part;
-    struct boddurci_log_note note;
     *must_recover = *is_whole = 0;
+    shared->tail.owed = 0;
+    shared->tail.is_touched = 0;
     uint32_t status = find_files(shared, 0, fault);
     if (status == BODDURCI_DONE)
-        status = open_redo(shared, 0, &redo, fault);
-    if (status == BODDURCI_DONE && redo >= 0 && boddurci_find_note(redo, &shared->boot, &note) == BODDURCI_UNKNOWN)
-        *must_recover = !boddurci_has_writer(&shared->place);
+        status = look_at_log(shared, must_recover, fault);
     if (status != BODDURCI_DONE || *must_recover)
         return status;
     status = has_to_exist(shared, fault);
     if (status == BODDURCI_DONE)
         status = open_page(shared, command, &part, is_whole, fault);
-    return status == BODDURCI_DONE && !*is_whole ? answer(shared, command, fault) : status;
+    if (status != BODDURCI_DONE || *is_whole)
+        return status;
+    status = answer(shared, command, fault);
+    boddurci_owe_tail(shared);
+    return status;
+}
+
+/* ---- after a call */
+
+static int is_flushed_tail(const struct boddurci_log_note *note)
+{
+    return note->applied < note->log.end && note->flushed == note->log.end;
+}
+
+/* Applies the tail of the log, under both locks. */
+static void apply_flushed(boddurci_shared *shared)
+{
+    int redo;
+    boddurci_fault unsaid;
+    struct boddurci_log_note note;
+    if (find_files(shared, 1, &unsaid) != BODDURCI_DONE || boddurci_open_redo(shared, 1, &redo, &unsaid) != BODDURCI_DONE || redo < 0)
+        return;
+    if (boddurci_find_note(redo, &shared->boot, &note) != BODDURCI_NOTED || !is_flushed_tail(&note))
+        return;
+    if (change_since(&note, shared->notes.files) == BODDURCI_SAME && continue_log(shared, redo, &note, &unsaid) == BODDURCI_DONE)
+        (void)!boddurci_apply_tail(shared, &unsaid);
+}
+
+void boddurci_try_to_apply(boddurci_shared *shared)
+{
+    struct boddurci_log_note note;
+    int redo = shared->logged.disk.files[BODDURCI_REDO];
+    if (redo < 0 || boddurci_look_at_note(redo, &shared->boot, &note) != BODDURCI_NOTED || !is_flushed_tail(&note))
+        return;
+    if (!boddurci_try_change(&shared->place))
+        return;
+    boddurci_hold_signal(&shared->logged.disk);
+    apply_flushed(shared);
+    boddurci_give_signal(&shared->logged.disk);
+    boddurci_give_call(&shared->place, 0);
 }

@@ -168,7 +168,7 @@ void boddurci_release_room(struct boddurci_disk *disk)
 {
     uint64_t length;
     int why = errno, last = (int)disk->last;
-    for (enum boddurci_file file = BODDURCI_PAGES; file <= BODDURCI_DIRECTORY; file++)
+    for (enum boddurci_file file = BODDURCI_PAGES; !disk->keeps_room && file <= BODDURCI_DIRECTORY; file++)
         if (disk->files[file] >= 0 && boddurci_disk_length(disk, file, &length) == 0)
             (void)!boddurci_disk_trim(disk, file, length);
     disk->last = (enum boddurci_file)last;

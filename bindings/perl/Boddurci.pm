@@ -31,12 +31,14 @@
 #   no_wait => 1         tries once
 #   limit => BYTES       the greatest length of BASE.pag; the default, 1 GiB, is also the maximum
 #   shared => 1          several processes change the database at the same time
+#   flush => 0           with shared: a change returns before it is durable
 #
 # After the timeout, `tie` dies and names the other process. A change that would make BASE.pag longer than the limit dies and is not made;
 # existing pages stay. Set a limit if untrusted users choose your keys, since they can make BASE.pag as long as the limit.
 #
 # With `shared`, the hash holds no lock and no pages between calls. Each fetch, store and `run` is one durable step among all processes that
-# share the database, so `sync` does nothing. `keys` and `each` see the keys that the database has when the iteration begins. `delete` is
+# share the database. With `flush => 0` as well, a change is durable only after the next tied(%db)->flush of any process, or `untie`; a crash
+# of the machine before may lose it and all later changes, and a killed process loses none. `sync` and `flush` are the same. `keys` and `each` see the keys that the database has when the iteration begins. `delete` is
 # two steps: a fetch of the value that it returns, and the deletion. `timeout` and `no_wait` apply to each call, and neither `limit` nor the
 # mode "n" is possible. A forked child may use the hash.
 #
@@ -75,7 +77,7 @@ my %WORDS = (
 # The flags of boddurci_files.h.
 my %FLAGS = (r => 4 | 16, w => 16, c => 0, n => 32);
 my %OPTIONS = (wide => 1, unsigned_keys => 2, no_wait => 8, any_size => 64);
-my $INSIST = 128;
+my ($INSIST, $NO_FLUSH) = (128, 256);
 
 # The sizes of the results of calls: a value, an image, a fault (with its template for unpack) and a cursor.
 my ($VALUE_MOST, $IMAGE_MOST, $FAULT, $CURSOR) = (8008, 32768, "L l Z200", 16);
@@ -131,6 +133,7 @@ $ffi->attach(["boddurci_$_->[0]" => "_$_->[0]"], $_->[1], $_->[2]), $CALLS{$_->[
         ["open_shared", ["string", "uint32", "opaque"] => "opaque"],
         ["close_shared", ["opaque"] => "void"],
         ["shared_wait", ["opaque", "sint64"] => "uint32"],
+        ["shared_flush", ["opaque", "opaque"] => "uint32"],
         ["shared_fetch", ["opaque", @bytes, @room, "opaque"] => "uint32"],
         ["shared_store", ["opaque", @bytes, @bytes, "uint32", "opaque"] => "uint32"],
         ["shared_delete", ["opaque", @bytes, "opaque"] => "uint32"],
@@ -200,7 +203,7 @@ sub TIEHASH {
     my ($class, $base, $mode, %options) = @_;
     my $flags = $FLAGS{ $mode // "r" } // croak "the mode is r, w, c or n";
     my ($timeout, $limit) = map { defined $_ ? "$_" : undef } delete @options{"timeout", "limit"};
-    my $is_shared = delete $options{shared};
+    my ($is_shared, $flush) = delete @options{"shared", "flush"};
     $flags |= $options{$_} ? $OPTIONS{$_} // croak "no option $_" : 0 for keys %options;
     my $name = defined $base ? "$base" : "";
     croak "the name has a zero byte" if $name =~ /\0/;
@@ -208,6 +211,9 @@ sub TIEHASH {
         if defined $timeout && !($timeout =~ /^[0-9.]+$/ && $timeout >= 0 && $timeout < 1e9);
     croak "a limit is a number of bytes of at most 15 digits" if defined $limit && $limit !~ /^[0-9]{1,15}\z/;
     croak "a shared database has the mode r, w or c, and no limit" if $is_shared && ($flags & 32 || defined $limit);
+    my $is_later = defined $flush && !$flush;
+    croak "only a shared database has the option flush => 0" if $is_later && !$is_shared;
+    $flags |= $NO_FLUSH if $is_later;
     _end_left();
     return Boddurci::Shared->_tied($name, $flags, $timeout) if $is_shared;
     my $self = $class->_opened($name, $flags, $timeout);
@@ -519,7 +525,7 @@ sub _made {
 sub _keys {
     my ($self) = @_;
     $self->_db;
-    my $read = Boddurci->_opened($$self->{name}, $$self->{flags} | 4, $$self->{timeout});
+    my $read = Boddurci->_opened($$self->{name}, $$self->{flags} & ~$NO_FLUSH | 4, $$self->{timeout});
     my @found = $read->_keys;
     $read->close;
     return @found;
@@ -529,12 +535,15 @@ sub _keys {
 # runs of all processes do not fall.
 sub _clock { ("run_now", 1) }
 
-# Does nothing, since each change is durable.
+# Makes all changes of all processes durable. Without the option flush => 0 each change is durable anyway.
 sub sync {
     my ($self, %options) = @_;
     Boddurci::Stocked::_need_options(\%options, "insist");
-    $self->_db;
+    $self->_made("flush", 0);
+    return;
 }
+
+sub flush { $_[0]->sync }
 
 sub close {
     my ($self) = @_;

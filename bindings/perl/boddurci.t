@@ -575,6 +575,24 @@ SKIP: {
     %other = ();
     is_deeply([keys %reads], []);
 
+    # Without flushes, others see each change, and the file has it after a flush.
+    my $later = "$base.later";
+    dies_with(sub { tie my %none, "Boddurci", $later, "c", flush => 0 }, qr/only a shared database/);
+    tie my %later, "Boddurci", $later, "c", shared => 1, flush => 0;
+    tie my %now, "Boddurci", $later, "c", shared => 1, flush => 1;
+    for (1 .. 20) {
+        $later{a} = $_;
+        is(tied(%later)->counter("hits")->add, $_);
+        is(join(",", $now{a}, sort keys %later), "$_,a,hits");
+    }
+    $later{b} = "value of b";
+    tied(%later)->flush;
+    tied(%now)->flush;
+    like(text_of("$later.pag"), qr/value of b/);
+    $later{b} = "the last value";
+    untie %later;
+    like(text_of("$later.pag"), qr/the last value/);
+
     # The bytes of the files are not a database.
     open(my $pages, ">", "$shared.bad.pag") or die;
     print $pages "x" x 1024;

@@ -17,7 +17,8 @@ write its files. After a crash during `sync` or `close`, the files have either t
 Only one process at a time can have a database open for writing. Another `open` waits for that process, 5 seconds by default, and then
 raises Locked. An `open` for reading does not wait, and reads the last save. If a program that ignores the locks, such as Perl's SDBM_File,
 has changed the files meanwhile, `sync` and `close` raise ChangedError and write nothing. With `open(.., shared=True)`, several processes
-can change one database. Each call is then one durable step, and forked children may use the object.
+can change one database. Each call is then one durable step, and forked children may use the object. With `flush=False` as well, a change
+returns before it is durable: a crash of the machine may lose the last changes, and a killed process loses none.
 
 At its end, a `with` block saves and closes its database. After an exception it closes the database without a save: the changes since the
 last `sync` are dropped, and the files are unchanged. A database that is not closed is saved and closed when its object is destroyed, or at
@@ -71,6 +72,7 @@ _WORDS = {
 
 # The flags of boddurci_files.h.
 _WIDE, _UNSIGNED_KEYS, _READ_ONLY, _NO_WAIT, _MUST_EXIST, _EMPTY, _ANY_SIZE, _INSIST = 1, 2, 4, 8, 16, 32, 64, 128
+_NO_FLUSH = 256
 
 _VALUE_MOST = 8008
 _IMAGE_MOST = 32768
@@ -210,6 +212,7 @@ def _bind():
         "open_shared": (waits, at, [text, u32, at]),
         "close_shared": (waits, None, [at]),
         "shared_wait": (quick, u32, [at, ctypes.c_int64]),
+        "shared_flush": (waits, u32, [at, at]),
         "shared_fetch": (waits, u32, [at, text, size, at, size, at, at]),
         "shared_store": (waits, u32, [at, text, size, text, size, u32, at]),
         "shared_delete": (waits, u32, [at, text, size, at]),
@@ -655,7 +658,9 @@ def _new_lock():
 
 class SharedDatabase(MutableMapping):
     """A database that several processes change at the same time. `open(.., shared=True)` returns it. It holds no lock and no pages between
-    calls. Each fetch, store, delete and run is one durable step among all processes and threads, so there is nothing to save.
+    calls. Each fetch, store, delete and run is one durable step among all processes and threads, so there is nothing to save. With
+    `flush=False` a change is durable only after the next `flush` of any process, or `close`; a crash of the machine before may lose it and
+    all later changes.
 
     Iteration, `len`, `keys`, `values` and `items` open the database for reading, and see its state at that time. The methods of a mapping
     that make several calls, such as `pop` and `update`, are several steps; `setdefault` never replaces a value. A forked child may use the
@@ -764,7 +769,7 @@ class SharedDatabase(MutableMapping):
 
     def _snapshot(self):
         with self._using():
-            return Database(self._name, self._flags | _READ_ONLY, self._timeout)
+            return Database(self._name, self._flags & ~_NO_FLUSH | _READ_ONLY, self._timeout)
 
     def __len__(self):
         with self._snapshot() as db:
@@ -847,7 +852,8 @@ class SharedDatabase(MutableMapping):
     semaphore, rate_limit = _Database.semaphore, _Database.rate_limit
 
     def flush(self):
-        """Does nothing: each change is durable."""
+        """Makes all changes of all processes durable. Without `flush=False` each change is durable anyway."""
+        self._made(_call.shared_flush)
 
     sync = flush
 
@@ -1087,7 +1093,8 @@ def _of_fault(fault, name):
     return told
 
 
-def open(file, flag="r", mode=0o666, *, wide=False, unsigned_keys=False, any_size=False, wait=True, timeout=5, limit=None, shared=False):
+def open(file, flag="r", mode=0o666, *, wide=False, unsigned_keys=False, any_size=False, wait=True, timeout=5, limit=None, shared=False,
+         flush=True):
     """Opens FILE.dir and FILE.pag, as dbm.open does. The flag 'r' only reads, 'w' also writes, 'c' makes missing files, and 'n' starts with
     an empty database. Set `wide` if pages have 8,192 bytes, and `unsigned_keys` if keys are hashed as unsigned bytes. The files do not
     record these two properties. With `wide`, files that look like those of small pages are an error, unless `any_size` is true.
@@ -1100,7 +1107,8 @@ def open(file, flag="r", mode=0o666, *, wide=False, unsigned_keys=False, any_siz
     also the maximum. Set a limit if untrusted users choose your keys, since they can make FILE.pag as long as the limit.
 
     With `shared`, several processes may have the database open for writing: see SharedDatabase. `timeout` and `wait` then apply to each
-    call, and neither `limit` nor 'n' is possible."""
+    call, and neither `limit` nor 'n' is possible. If `flush` is false, the changes of a shared database are durable only after a call of
+    its method `flush`, and take much less time."""
     if flag not in ("r", "w", "c", "n"):
         raise ValueError("flag must be 'r', 'w', 'c' or 'n'")
     name = os.fsencode(file)
@@ -1113,7 +1121,9 @@ def open(file, flag="r", mode=0o666, *, wide=False, unsigned_keys=False, any_siz
     flags = {"r": _READ_ONLY | _MUST_EXIST, "w": _MUST_EXIST, "c": 0, "n": _EMPTY}[flag]
     flags |= (_WIDE if wide else 0) | (_UNSIGNED_KEYS if unsigned_keys else 0) | (_ANY_SIZE if any_size else 0) | (0 if wait else _NO_WAIT)
     if shared:
-        return _open_shared(name, flag, flags, timeout, limit, mode)
+        return _open_shared(name, flag, flags | (0 if flush else _NO_FLUSH), timeout, limit, mode)
+    if not flush:
+        raise ValueError("only a shared database may be opened with flush=False")
     db = Database(name, flags, timeout, limit)
     try:
         if flag in ("c", "n"):

@@ -1364,6 +1364,28 @@ class Shared(InFolder):
         self.assertRaisesRegex(boddurci.error, "too many bytes", db.__setitem__, b"a", bytes(2000))
         db.flush(), db.sync()
 
+    def test_without_flushes(self):
+        """Other processes see each change at once. After a flush, the data files have it."""
+        self.assertRaises(ValueError, boddurci.open, self.base, "c", flush=False)
+        db, other = self.shared(flush=False), self.shared()
+        for number in range(30):
+            db[b"a"] = b"%d" % number
+            hits = db.counter(b"hits").add()
+            with boddurci.open(self.base) as reader:
+                self.assertEqual((reader[b"a"], other[b"a"], hits), (b"%d" % number, b"%d" % number, number + 1))
+        words = "import boddurci, os, sys; db = boddurci.open(sys.argv[1], 'w', shared=True, flush=False)"
+        words += "; db[b'a'] = b'killed'; os.kill(os.getpid(), 9)"
+        env = {**os.environ, "PYTHONPATH": str(pathlib.Path(boddurci.__file__).parent)}
+        self.assertEqual(subprocess.run([sys.executable, "-c", words, self.base], env=env).returncode, -9)
+        self.assertEqual((other[b"a"], db[b"a"], sorted(db)), (b"killed", b"killed", [b"a", b"hits"]))
+        db[b"b"] = b"value of b"
+        db.flush(), db.sync(), other.flush()
+        self.assertIn(b"value of b", pathlib.Path(self.base + ".pag").read_bytes())
+        db[b"b"] = b"the last value"
+        db.close()
+        self.assertIn(b"the last value", pathlib.Path(self.base + ".pag").read_bytes())
+        self.assertRaisesRegex(boddurci.error, "closed", db.flush)
+
     def test_exception_in_a_block(self):
         """Each change is durable by itself, so an exception in a `with` block drops no change."""
         with self.assertRaises(ValueError), self.shared() as db:

@@ -2,9 +2,10 @@
 ghost use Rattle.std.specs.Prelude.{◌≡◌};
 ghost use Rattle.boddurci_handles.specs.Statuses.{status_code};
 ghost use Rattle.boddurci_handles.specs.declared.status.Status.{Status};
-ghost use Rattle.boddurci_logs.specs.Answers.{files_in, OpenAnswer, ReadAnswer, SaveAnswer, CloseAnswer};
+ghost use Rattle.boddurci_logs.specs.Answers.{files_in, OpenAnswer, ReadAnswer, SaveAnswer, CloseAnswer, AppendAnswer, ApplyAnswer, JoinAnswer, LayAnswer, ShareAnswer};
+ghost use Rattle.boddurci_logs.specs.Words.{file_with_number};
 
-use boddurci_logs::{LogPlace, close, open, read, save};
+use boddurci_logs::{LogPlace, append, apply, close, join, lay, open, read, save, share};
 use sdbm_log::LogFiles;
 use std::alloc::Global;
 
@@ -89,4 +90,82 @@ pub extern "C" fn boddurci_log_close(alloc: Global, words: &mut [u64], words_len
     ensures { (status : Status) × ((result ≡ status_code status) × CloseAnswer words.old words.new words_len.new status) }
 {
     close(alloc, words, words_len).code()
+}
+
+/// Writes the steps that append the record of a save to a shared log without a sync, and sets `log` to the log after them. `bytes` begins
+/// with 18 free bytes, which the call writes, and then has the plan.
+///
+/// Returns `Stale` if the log cannot take the record: it has no records or no room, or the plan shortens a file. Otherwise returns the
+/// statuses of `boddurci_log_save`.
+#[unsafe(no_mangle)]
+pub extern "C" fn boddurci_log_append(
+    alloc: Global,
+    log: &mut LogPlace,
+    bytes: &mut [u8],
+    words: &mut [u64],
+    words_len: &mut usize,
+) -> u32
+    ensures { (status : Status) × ((result ≡ status_code status) × AppendAnswer log.old log.new bytes.old bytes.new words.old words.new words_len.new status) }
+{
+    append(alloc, log, bytes, words, words_len).code()
+}
+
+/// Writes the steps that make a log shared: they write byte 9 of the redo file and sync it. The bytes that they write are the first byte of
+/// the bytes of any save.
+///
+/// Returns `ShortRoom` if `words` is too short, or `NoMemory`.
+#[unsafe(no_mangle)]
+pub extern "C" fn boddurci_log_share(alloc: Global, words: &mut [u64], words_len: &mut usize) -> u32
+    ensures { (status : Status) × ((result ≡ status_code status) × ShareAnswer words.old words.new words_len.new status) }
+{
+    share(alloc, words, words_len).code()
+}
+
+/// Writes the steps that apply a plan to both data files. `bytes` begins with 18 bytes of any value, and then has the plan.
+///
+/// Returns the statuses of `boddurci_log_save`.
+#[unsafe(no_mangle)]
+pub extern "C" fn boddurci_log_apply(
+    alloc: Global,
+    bytes: &[u8],
+    words: &mut [u64],
+    words_len: &mut usize,
+) -> u32
+    ensures { (status : Status) × ((result ≡ status_code status) × ApplyAnswer bytes.now words.old words.new words_len.new status) }
+{
+    apply(alloc, bytes, words, words_len).code()
+}
+
+/// Joins the plan of the first record in `records` to the plan in the first `len` bytes of `room`, and sets `len` to the length of the
+/// result, and `used` to the length of the record. If `len` is 0, the result is the plan of the record.
+///
+/// Returns `ShortRoom` if the result does not fit, and `BadFiles` if `records` does not begin with a complete record of a plan, or if its plan
+/// cannot follow the plan in `room`. `room` and `len` are unchanged then.
+#[unsafe(no_mangle)]
+pub extern "C" fn boddurci_log_join(
+    room: &mut [u8],
+    len: &mut usize,
+    records: &[u8],
+    used: &mut usize,
+) -> u32
+    ensures { (status : Status) × ((result ≡ status_code status) × JoinAnswer records.now room.old room.new len.old len.new used.new status) }
+{
+    join(room, len, records, used).code()
+}
+
+/// Applies a plan to a part of a data file, which begins at offset `from` of the file. `file` is 0 for `.pag`, and 1 for `.dir`. The part has
+/// zeros past the end of the file. Sets `touched` to 1 if a change covers a byte of the part, otherwise to 0.
+///
+/// Returns `BadFiles` if the bytes are not a plan, and `TooLong` if the part ends past the end that the plan gives the file.
+#[unsafe(no_mangle)]
+pub extern "C" fn boddurci_log_lay(
+    plan: &[u8],
+    file: u32,
+    from: usize,
+    part: &mut [u8],
+    touched: &mut u32,
+) -> u32
+    ensures { (status : Status) × ((result ≡ status_code status) × LayAnswer plan.now (file_with_number file) from part.old part.new touched.new status) }
+{
+    lay(plan, file, from, part, touched).code()
 }

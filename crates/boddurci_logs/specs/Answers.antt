@@ -1,13 +1,15 @@
 -- The answers of the C calls about a log.
-use Rattle.std.specs.Prelude.{◌≡◌, ◌≢◌, ◌⊎◌, ◌<◌, ◌≤◌, ℕ, ◌^◌, List, ◌++◌, length, drop, get_or}
+use Rattle.std.specs.Prelude.{◌≡◌, ◌≢◌, ◌⊎◌, ◌<◌, ◌≤◌, ℕ, ◌+◌, ◌^◌, List, ◌++◌, length, take, drop, get_or, true}
 use Rattle.sdbm_saves.specs.Acts.{seen_after}
-use Rattle.sdbm_saves.specs.Disk.{Image}
-use Rattle.sdbm_saves.specs.Redo.{files, IsPlan}
+use Rattle.sdbm_saves.specs.Disk.{Image, resized}
+use Rattle.sdbm_saves.specs.declared.disk.DiskFile.{DiskFile}
+use Rattle.sdbm_saves.specs.Redo.{count_of, files, new_length, renewed, IsPlan}
+use Rattle.sdbm_tail.specs.Tail.{share_acts, append_acts, IsPartFrom}
 use Rattle.sdbm_log.specs.Doing.{CanDo}
-use Rattle.sdbm_log.specs.Log.{files_of, CanRecover}
-use Rattle.sdbm_log.specs.Protocol.{close_acts}
-use Rattle.sdbm_log.specs.Saving.{AreOpenCalls, AreSaveCalls}
-use Rattle.sdbm_log.specs.Steps.{acts_of}
+use Rattle.sdbm_log.specs.Log.{files_of, record_of, is_whole, size_at, first_plan, next_plan, CanFollow, CanRecover}
+use Rattle.sdbm_log.specs.Protocol.{apply_acts, close_acts}
+use Rattle.sdbm_log.specs.Saving.{CanTake, AreOpenCalls, AreSaveCalls}
+use Rattle.sdbm_log.specs.Steps.{acts_of, with_head}
 use Rattle.sdbm_log.specs.declared.log.Log.{Log}
 use Rattle.sdbm_log.specs.declared.steps.Step.{Step}
 use Rattle.boddurci_handles.specs.declared.status.Status.{Status}
@@ -95,3 +97,51 @@ pub record CloseAnswer (words_old words_new : List ℕ) (words_len : ℕ) (statu
   pub done : status ≡ Done → (steps : List Step) × (IsFilled (words_of steps) words_old words_new × ((words_len ≡ length (words_of steps)) × ((buffer : List ℕ) → acts_of buffer steps ≡ close_acts)))
   pub untouched : status ≢ Done → words_new ≡ words_old
   pub short : status ≡ ShortRoom → length words_old < words_len
+
+-- The steps append the record of a plan to a log with records, without a sync, and `new` is the log after them.
+pub record AreAppendSteps (plan : List ℕ) (old new : LogPlace) (buffer : List ℕ) (steps : List Step) : Type 0 where
+  pub calls : acts_of buffer steps ≡ append_acts old.end (record_of plan)
+  pub some : 1 ≤ old.end
+  pub takes : CanTake (log_at old) plan
+  pub end : new.end ≡ old.end + (8 + length plan)
+  pub room : new.room ≡ old.room
+  pub count : new.count ≡ old.count + count_of plan
+
+-- The answer of a call for the steps that append a record. The plan follows the first 18 bytes, and the steps write bytes of the buffer.
+pub record AppendAnswer (log_old log_new : LogPlace) (bytes_old bytes_new words_old words_new : List ℕ) (words_len : ℕ) (status : Status) : Type 0 where
+  pub done : status ≡ Done → (steps : List Step) × (AreAppendSteps (drop 18 bytes_old) log_old log_new bytes_new steps × (IsFilled (words_of steps) words_old words_new × (words_len ≡ length (words_of steps))))
+  pub plan : drop 18 bytes_new ≡ drop 18 bytes_old
+  pub untouched : status ≢ Done → (log_new ≡ log_old) × ((bytes_new ≡ bytes_old) × (words_new ≡ words_old))
+  pub short : status ≡ ShortRoom → length words_old < words_len
+  pub refused : status ≡ BadFiles → (length bytes_old < 18) ⊎ (IsPlan (drop 18 bytes_old) → ⊥)
+  pub full : status ≡ Stale → (log_old.end ≡ 0) ⊎ (CanTake (log_at log_old) (drop 18 bytes_old) → ⊥)
+
+-- The answer of a call for the steps that make a log shared. They write bytes of a buffer of steps.
+pub record ShareAnswer (words_old words_new : List ℕ) (words_len : ℕ) (status : Status) : Type 0 where
+  pub done : status ≡ Done → (steps : List Step) × (IsFilled (words_of steps) words_old words_new × ((words_len ≡ length (words_of steps)) × ((rest : List ℕ) → acts_of (with_head rest) steps ≡ share_acts)))
+  pub untouched : status ≢ Done → words_new ≡ words_old
+  pub short : status ≡ ShortRoom → length words_old < words_len
+
+-- The answer of a call for the steps that apply a plan. The plan follows the first 18 bytes, and the steps write bytes of the plan.
+pub record ApplyAnswer (bytes words_old words_new : List ℕ) (words_len : ℕ) (status : Status) : Type 0 where
+  pub done : status ≡ Done → (steps : List Step) × (IsFilled (words_of steps) words_old words_new × ((words_len ≡ length (words_of steps)) × (IsPlan (drop 18 bytes) × (acts_of bytes steps ≡ apply_acts (drop 18 bytes)))))
+  pub untouched : status ≢ Done → words_new ≡ words_old
+  pub short : status ≡ ShortRoom → length words_old < words_len
+  pub refused : status ≡ BadFiles → (length bytes < 18) ⊎ (IsPlan (drop 18 bytes) → ⊥)
+
+-- The answer of a call that joins the plan of the first record to the plan in the first `old_len` bytes of a buffer. If `old_len` is 0, the
+-- result is the plan of the record.
+pub record JoinAnswer (records room_old room_new : List ℕ) (old_len new_len used : ℕ) (status : Status) : Type 0 where
+  pub record_is : status ≡ Done → (is_whole records ≡ true) × (IsPlan (first_plan records) × (used ≡ 8 + size_at records))
+  pub follows : status ≡ Done → CanFollow old_len (take old_len room_old) (first_plan records)
+  pub joined : status ≡ Done → (new_len ≤ length room_new) × (take new_len room_new ≡ next_plan old_len (take old_len room_old) (first_plan records))
+  pub untouched : status ≢ Done → (room_new ≡ room_old) × (new_len ≡ old_len)
+
+-- The answer of a call that lays a plan over a part of a file.
+pub record LayAnswer (plan : List ℕ) (file : DiskFile) (from : ℕ) (part_old part_new : List ℕ) (touched : ℕ) (status : Status) : Type 0 where
+  pub done : status ≡ Done → IsPlan plan × ((old : List ℕ) → IsPartFrom from part_old (resized (new_length file plan) old) → IsPartFrom from part_new (renewed file plan old))
+  pub long : length part_new ≡ length part_old
+  pub same : touched ≡ 0 → part_new ≡ part_old
+  pub untouched : status ≢ Done → part_new ≡ part_old
+  pub refused : status ≡ BadFiles → IsPlan plan → ⊥
+  pub too_long : status ≡ TooLong → new_length file plan < from + length part_old

@@ -1,6 +1,6 @@
 -- Steps as words of 64 bits. A step has five words: its kind, its file, its offset in the file, its offset in the buffer, and a
 -- length.
-use Rattle.std.specs.Prelude.{ℕ, List, [], ◌∷◌, ◌++◌}
+use Rattle.std.specs.Prelude.{ℕ, zero, suc, List, [], ◌∷◌, ◌++◌}
 use Rattle.sdbm_saves.specs.declared.disk.DiskFile.{DiskFile}
 use Rattle.sdbm_saves.specs.declared.disk.DiskFile.TheVariants.{Pages, Directory, Redo}
 use Rattle.sdbm_log.specs.declared.steps.Step.{Step}
@@ -10,6 +10,10 @@ abbrev pub number_of_file : DiskFile → ℕ
 number_of_file Pages = 0
 number_of_file Directory = 1
 number_of_file Redo = 2
+
+abbrev pub file_with_number : ℕ → DiskFile
+file_with_number zero = Pages
+file_with_number (suc n) = Directory
 
 abbrev pub words_of_step : Step → List ℕ
 words_of_step (Write file at from len) = 0 ∷ number_of_file file ∷ at ∷ from ∷ len ∷ []

@@ -6,8 +6,10 @@ mod opening;
 mod out;
 mod place;
 mod saving;
+mod tails;
 mod words;
 
 pub use opening::{open, read};
 pub use place::LogPlace;
 pub use saving::{close, save};
+pub use tails::{append, apply, join, lay, share};

@@ -132,7 +132,7 @@ kept_self read left is = record {
 -- a log whose commit byte was lost has no records
 pub kept_log : (read left : List ℕ) → IsKeptLog read left → is_log read ≡ true → (is_log left ≡ true) ⊎ ((get_or left 0 0 ≡ 0) × (number_in (records_of read) ≡ 0))
 kept_log read left kept is = ⊎_elim
-    (λ same. inl (log_marked left (same ∙ log_mark read is) (signed_same read left kept.signed ∙ log_signed read is)))
+    (λ same. inl (log_marked left (same ∙ log_mark read is) (signed_same read left (λ i from to. kept.signed i from (omega (arith, to))) ∙ log_signed read is)))
     (λ missing. inr missing)
     kept.mark
 
@@ -242,7 +242,7 @@ signed_long [] signed = absurd (never_both (is_signed []) signed none_signed)
 signed_long (b ∷ redo) signed = omega arith
 
 pub long_kept : (read left : List ℕ) → is_signed read ≡ true → IsKeptLog read left → 1 ≤ length left
-long_kept read left signed kept = signed_long left (signed_same read left kept.signed ∙ signed)
+long_kept read left signed kept = signed_long left (signed_same read left (λ i from to. kept.signed i from (omega (arith, to))) ∙ signed)
 
 pub mark_signed : (value : ℕ) (redo : List ℕ) → is_signed (value ∷ drop 1 redo) ≡ is_signed redo
 mark_signed value redo = signed_same redo (value ∷ drop 1 redo) (λ i from to. marked_signed value redo i from)

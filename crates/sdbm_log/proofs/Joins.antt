@@ -321,6 +321,22 @@ module _ (m q : List ℕ) (m_is : IsPlan m) (q_is : IsPlan q) (grows : Grows m q
     lengths = joined_new m q m_is.header q_is.header;
   }
 
+  -- a plan at the end of the first plan, joined with the second
+  pub ends_joined : (tail : List ℕ) → EndsWith m tail → 28 ≤ length tail → EndsWith (joined m q) (joined tail q)
+  ends_joined tail ends header =
+      let few : count_of tail + count_of q < 2 ^ 32 = omega (arith, ends.count, grows.few) in
+      let count : count_of (joined tail q) ≡ count_of tail + count_of q = joined_count tail q header q_is.header few in
+      record {
+        is_plan = is_joined;
+        before = ends.before;
+        count = omega (arith, count_is, count, ends.count);
+        changes = ap (λ (l : List ℕ). rest_after ends.before l) (joined_changes m q m_is.header q_is.header)
+            ∙ after_append ends.before (changes_of m) (changes_of q) (λ k lt. whole_m k (omega (arith, lt, ends.count)))
+            ∙ ap (λ (l : List ℕ). l ++ changes_of q) ends.changes
+            ∙ sym (joined_changes tail q header q_is.header);
+        lengths = λ g. joined_new m q m_is.header q_is.header g ∙ sym (joined_new tail q header q_is.header g);
+      }
+
   -- the plans applied one after the other, to a file that is no longer than the first plan makes it
   pub renewed_joined : (g : ℕ) (x : List ℕ) → length x ≤ new_length (data_file g) m → renewed (data_file g) (joined m q) x ≡ renewed (data_file g) q (renewed (data_file g) m x)
   renewed_joined g x le =

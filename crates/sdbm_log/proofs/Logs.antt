@@ -5,7 +5,7 @@ use Rattle.std.proofs.lemmas.List.{get_or-append_right, get_or-drop, take-append
 use Rattle.sdbm_saves.specs.declared.disk.DiskFile.TheVariants.{Pages, Directory, Redo}
 use Rattle.sdbm_saves.specs.Disk.{Image, put, written, resized, Only, Follows, Torn, Within}
 use Rattle.sdbm_saves.specs.Redo.{data_file, new_length, old_length, count_of, changes_of, IsBetween, renewed, data_in, files, renewed_files, IsPlan, Knows, EndsWith, AlikeFor}
-use Rattle.sdbm_log.specs.Log.{first_plan, later_records, AreRecords, ArePlans, after_records, MayBeTorn, joined, joined_all, next_plan, log_plan, record_of, nonzero, is_whole, is_log, is_signed, empty_log, records_of, number_in, number_by, number_of, plan_of, with_plan, KnownBy, CanReplay, files_by, files_of, CanRecoverBy, CanRecover, Holds, HasRecords, CanFollow, IsGrowing, MayGrow, IsKeptLog, IsDurable, IsCommitted, IsLogFile, IsReady, size_at}
+use Rattle.sdbm_log.specs.Log.{first_plan, later_records, AreRecords, ArePlans, Stands, after_records, MayBeTorn, MayFollow, joined, joined_all, next_plan, log_plan, record_of, nonzero, is_whole, is_log, is_signed, empty_log, records_of, number_in, number_by, number_of, plan_of, with_plan, KnownBy, CanReplay, files_by, files_of, CanRecoverBy, CanRecover, Holds, HasRecords, CanFollow, IsGrowing, MayGrow, IsKeptLog, IsDurable, IsCommitted, IsLogFile, IsReady, size_at}
 use Rattle.sdbm_saves.proofs.Lists.{length-resized, written_before}
 use Rattle.sdbm_saves.proofs.Replays.{length-replayed, ends_itself}
 use Rattle.sdbm_log.proofs.Header.{log_same, log_marked, log_unmarked, log_mark, log_signed, signed_same, kept_self, unmarked_holds, holds_unmarked, kept_log, torn_records, written_records, head_torn, head_written, torn_byte, marked_records, marked_signed, long_kept, empty_signed, empty_records, written_first}
@@ -100,11 +100,11 @@ module _ (n : ℕ) (xs ys : List ℕ) (c : Image) (is : records_of c.redo ≡ xs
   pub rest_is : after_records (number_of c) (records_of c.redo) ≡ ys
   rest_is = ap (λ k. after_records k (records_of c.redo)) number_is ∙ ap (λ (l : List ℕ). after_records n l) is ∙ after_append n xs ys are
 
-  pub can_recover : ArePlans n xs → KnownBy n (log_plan n xs) c → MayBeTorn ys → CanRecover c
+  pub can_recover : ArePlans n xs → KnownBy n (log_plan n xs) c → MayFollow c.redo ys → CanRecover c
   can_recover plans known may = subst (λ b. CanRecoverBy b c) (sym log) (record {
     plans = subst (λ k. ArePlans k (records_of c.redo)) (sym number_is) (subst (λ (l : List ℕ). ArePlans n l) (sym is) (whole_slack n xs ys are plans));
     known = subst (λ k. KnownBy k (plan_of c) c) (sym number_is) (subst (λ (l : List ℕ). KnownBy n l c) (sym plan_is) known);
-    rest = subst (λ (l : List ℕ). MayBeTorn l) (sym rest_is) may;
+    rest = subst (λ (l : List ℕ). MayFollow c.redo l) (sym rest_is) may;
   })
 
   pub known : CanReplay c → KnownBy n (log_plan n xs) c
@@ -149,13 +149,7 @@ module _ (plan : List ℕ) (is_plan : IsPlan plan) (d s : Image) (knows : Knows 
   next_ends zero first follows known = ends_itself plan is_plan
   next_ends (suc n) first follows known = ends_with first plan known.0 is_plan follows
 
--- an image that a crash left of a log with n records: their plans are complete, know the data files, and result in these files
-pub record Stands (n : ℕ) (xs : List ℕ) (both : List ℕ × List ℕ) (d : Image) : Type 0 where
-  pub plans : ArePlans n xs
-  pub known : KnownBy n (log_plan n xs) d
-  pub made : with_plan n (log_plan n xs) d ≡ both
-
-stands_read : (n : ℕ) (xs slack : List ℕ) (both : List ℕ × List ℕ) (d : Image) → records_of d.redo ≡ xs ++ slack → AreRecords n xs → nonzero slack ≡ 0 → is_log d.redo ≡ true → Holds both d → Stands n xs both d
+pub stands_read : (n : ℕ) (xs slack : List ℕ) (both : List ℕ × List ℕ) (d : Image) → records_of d.redo ≡ xs ++ slack → AreRecords n xs → nonzero slack ≡ 0 → is_log d.redo ≡ true → Holds both d → Stands n xs both d
 stands_read n xs slack both d is are zeros log holds =
     let none : is_whole slack ≡ false = zeros_no slack zeros in
     let can : CanReplay d = replay_of d log holds.1 in
@@ -171,7 +165,7 @@ stands_none n xs both d none same = subst (λ k. Stands k xs both d) (sym none) 
 module _ (n : ℕ) (xs plan : List ℕ) (first : Image) (is_plan : IsPlan plan) (knows : Knows plan (files first)) (short : length plan < 4000000000) (are : AreRecords n xs)
     (follows : CanFollow n (log_plan n xs) plan) (d c : Image) (stands : Stands n xs (files first) d) (same : files c ≡ files d) (log : is_log c.redo ≡ true) where
   -- a log without any further complete record represents the same files
-  pub still_holds : (rest : List ℕ) → records_of c.redo ≡ xs ++ rest → is_whole rest ≡ false → MayBeTorn rest → Holds (files first) c
+  pub still_holds : (rest : List ℕ) → records_of c.redo ≡ xs ++ rest → is_whole rest ≡ false → MayFollow c.redo rest → Holds (files first) c
   still_holds rest stays none may = (
     files_are n xs rest c stays are none log ∙ with_same n (log_plan n xs) c d same ∙ stands.made,
     can_recover n xs rest c stays are none log stands.plans (known_same n (log_plan n xs) c d same stands.known) may,
@@ -193,7 +187,7 @@ module _ (n : ℕ) (xs plan : List ℕ) (first : Image) (is_plan : IsPlan plan) 
               (whole_next plan short is_plan n xs are stands.plans)
               (subst (λ (l : List ℕ). KnownBy (suc n) l c) (sym is_next)
               (known_same (suc n) (next_plan n (log_plan n xs) plan) c d same (next_known plan is_plan d first knows n (log_plan n xs) follows stands.known stands.made)))
-              (zeros_may rest none),
+              (λ single. zeros_may rest none),
         ),
         (
           omega (arith, number_is (suc n) (xs ++ record_of plan) rest c now all no log),
@@ -222,7 +216,7 @@ module _ (n end : ℕ) (xs slack plan : List ℕ) (first : Image) (is_plan : IsP
       (λ whole. let all : t ≡ record_of plan = record_is plan short t z (left_torn end (record_of plan) xs slack old new is ends zeros inside torn) none whole in
       inr (committed n xs plan first is_plan knows short are follows d c stands same log z (split ∙ ap (λ (l : List ℕ). xs ++ (l ++ z)) all) none).0)
       (λ no. inl (still_holds n xs plan first is_plan knows short are follows d c stands same log (t ++ z) split no
-      (record_may plan short t z (left_torn end (record_of plan) xs slack old new is ends zeros inside torn) none)))
+      (λ single. record_may plan short t z (left_torn end (record_of plan) xs slack old new is ends zeros inside torn) none)))
       (either (is_whole (t ++ z)) (λ yes. yes) (λ no. no))
 
 -- the commit byte is cleared when the data files are durable
@@ -267,7 +261,7 @@ half_done plan both d c some ends holds for =
         plans = subst (λ (l : List ℕ). ArePlans (number_by (is_log l) l) (records_of l)) (sym alike.redo) can.plans;
         known = subst (λ k. KnownBy k (plan_of c) c) (sym (number ∙ is))
             (subst (λ (l : List ℕ). IsPlan l × Knows l (files c)) (sym whole_is) (known_d.0, alike.known known_d.1));
-        rest = subst (λ (l : List ℕ). MayBeTorn (after_records (number_by (is_log l) l) (records_of l))) (sym alike.redo) can.rest;
+        rest = subst (λ (l : List ℕ). MayFollow l (after_records (number_by (is_log l) l) (records_of l))) (sym alike.redo) can.rest;
       }),
     )
 
@@ -294,14 +288,14 @@ known_some image some can =
     subst (λ k. KnownBy k (plan_of image) image) more (replay_of image (log_some image some) can).known
 
 pub recover_some : (image : Image) → is_log image.redo ≡ true → 1 ≤ number_of image → ArePlans (number_of image) (records_of image.redo) → IsPlan (plan_of image) → Knows (plan_of image) (files image)
-    → MayBeTorn (after_records (number_of image) (records_of image.redo)) → CanRecover image
+    → MayFollow image.redo (after_records (number_of image) (records_of image.redo)) → CanRecover image
 recover_some image log some whole is_plan knows may =
     let more : number_of image ≡ suc (number_of image - 1) = omega (arith, some) in
     subst (λ b. CanRecoverBy b image) (sym log) (record { plans = whole; known = subst (λ k. KnownBy k (plan_of image) image) (sym more) (is_plan, knows); rest = may })
 
 -- a log that was read, with its plans as one
 pub found_some : (image : Image) (count : ℕ) (plan : List ℕ) → is_log image.redo ≡ true → 1 ≤ count → count ≡ number_in (records_of image.redo) → ArePlans count (records_of image.redo) → plan ≡ log_plan count (records_of image.redo)
-    → IsPlan plan → Knows plan (files image) → MayBeTorn (after_records count (records_of image.redo)) → (1 ≤ number_of image) × ((plan ≡ plan_of image) × CanRecover image)
+    → IsPlan plan → Knows plan (files image) → MayFollow image.redo (after_records count (records_of image.redo)) → (1 ≤ number_of image) × ((plan ≡ plan_of image) × CanRecover image)
 found_some image count plan log some counted plans is is_plan knows may =
     let number : count ≡ number_of image = counted ∙ sym (ap (λ b. number_by b image.redo) log) in
     let whole : plan ≡ plan_of image = is ∙ ap (λ k. log_plan k (records_of image.redo)) number in (
@@ -309,25 +303,25 @@ found_some image count plan log some counted plans is is_plan knows may =
       (
         whole,
         recover_some image log (omega (arith, some, number)) (subst (λ k. ArePlans k (records_of image.redo)) number plans) (subst (λ (l : List ℕ). IsPlan l) whole is_plan)
-            (subst (λ (l : List ℕ). Knows l (files image)) whole knows) (subst (λ k. MayBeTorn (after_records k (records_of image.redo))) number may),
+            (subst (λ (l : List ℕ). Knows l (files image)) whole knows) (subst (λ k. MayFollow image.redo (after_records k (records_of image.redo))) number may),
       ),
     )
 
 -- a log with no records
-pub recover_none : (image : Image) → is_log image.redo ≡ true → number_of image ≡ 0 → MayBeTorn (records_of image.redo) → CanRecover image
+pub recover_none : (image : Image) → is_log image.redo ≡ true → number_of image ≡ 0 → MayFollow image.redo (records_of image.redo) → CanRecover image
 recover_none image log none may =
     subst (λ b. CanRecoverBy b image) (sym log)
-    (record { plans = subst (λ k. ArePlans k (records_of image.redo)) (sym none) tt; known = subst (λ k. KnownBy k (plan_of image) image) (sym none) tt; rest = subst (λ k. MayBeTorn (after_records k (records_of image.redo))) (sym none) may })
+    (record { plans = subst (λ k. ArePlans k (records_of image.redo)) (sym none) tt; known = subst (λ k. KnownBy k (plan_of image) image) (sym none) tt; rest = subst (λ k. MayFollow image.redo (after_records k (records_of image.redo))) (sym none) may })
 
-pub found_none : (image : Image) (count : ℕ) → is_log image.redo ≡ true → count ≡ 0 → count ≡ number_in (records_of image.redo) → MayBeTorn (after_records count (records_of image.redo)) → (number_of image ≡ 0) × CanRecover image
+pub found_none : (image : Image) (count : ℕ) → is_log image.redo ≡ true → count ≡ 0 → count ≡ number_in (records_of image.redo) → MayFollow image.redo (after_records count (records_of image.redo)) → (number_of image ≡ 0) × CanRecover image
 found_none image count log is counted may =
     let number : number_of image ≡ 0 = ap (λ b. number_by b image.redo) log ∙ sym counted ∙ is in
-    (number, recover_none image log number (subst (λ k. MayBeTorn (after_records k (records_of image.redo))) is may))
+    (number, recover_none image log number (subst (λ k. MayFollow image.redo (after_records k (records_of image.redo))) is may))
 
 pub files_none : (image : Image) → is_log image.redo ≡ true → number_of image ≡ 0 → files_of image ≡ files image
 files_none image log none = ap (λ b. files_by b image) log ∙ ap (λ k. with_plan k (plan_of image) image) none
 
-pub log_holds : (both : List ℕ × List ℕ) (c : Image) → is_log c.redo ≡ true → number_in (records_of c.redo) ≡ 0 → MayBeTorn (records_of c.redo) → files c ≡ both → Holds both c
+pub log_holds : (both : List ℕ × List ℕ) (c : Image) → is_log c.redo ≡ true → number_in (records_of c.redo) ≡ 0 → MayFollow c.redo (records_of c.redo) → files c ≡ both → Holds both c
 log_holds both c log none may same =
     let number : number_of c ≡ 0 = ap (λ b. number_by b c.redo) log ∙ none in
     (files_none c log number ∙ same, recover_none c log number may)
@@ -560,7 +554,7 @@ module _ (first : Image) (file : IsLogFile 0 first.redo) where
   none_here = none_first (records_of first.redo) file.place
 
   signed_left : (d : Image) → IsKeptLog first.redo d.redo → is_signed d.redo ≡ true
-  signed_left d kept = signed_same first.redo d.redo kept.signed ∙ file.signed
+  signed_left d kept = signed_same first.redo d.redo (λ i from to. kept.signed i from (omega (arith, to))) ∙ file.signed
 
   none_left : (d : Image) → IsKeptLog first.redo d.redo → number_in (records_of d.redo) ≡ 0
   none_left d kept = ap (λ (l : List ℕ). number_in l) kept.records ∙ none_here
@@ -602,7 +596,7 @@ module _ (first : Image) (file : IsLogFile 0 first.redo) where
       (λ new. log_holds (files first) c
       (ap (λ (o : Image). is_log o.redo) new ∙ marked_log d.redo (signed_left d kept))
       (ap (λ (o : Image). number_in (records_of o.redo)) new ∙ marked_none d.redo (none_left d kept))
-      (subst (λ (o : Image). MayBeTorn (records_of o.redo)) (sym new) (marked_may d.redo (zero_left d kept)))
+      (λ single. subst (λ (o : Image). MayBeTorn (records_of o.redo)) (sym new) (marked_may d.redo (zero_left d kept)))
       (ap (λ (o : Image). files o) new ∙ holds_none (files first) d (signed_left d kept) (none_left d kept) holds))
       (torn_byte 1 d c (long_left d kept) within)
 
@@ -635,7 +629,7 @@ marked_durable first third before after file durable is crash =
     record {
       kept = λ c now. let from = crash c now in
           subst (λ (o : Image). IsKeptLog o.redo c.redo) (sym is) (marking_kept first file from.0 c (durable.kept from.0 from.1) from.2);
-      now = log_holds (files third) third (ap (λ (o : Image). is_log o.redo) is ∙ mark_set first file) (ap (λ (o : Image). number_in (records_of o.redo)) is ∙ mark_number first file) (subst (λ (o : Image). MayBeTorn (records_of o.redo)) (sym is) (mark_may first file)) refl;
+      now = log_holds (files third) third (ap (λ (o : Image). is_log o.redo) is ∙ mark_set first file) (ap (λ (o : Image). number_in (records_of o.redo)) is ∙ mark_number first file) (λ single. subst (λ (o : Image). MayBeTorn (records_of o.redo)) (sym is) (mark_may first file)) refl;
       holds = λ c now. let from = crash c now in
           subst (λ (p : List ℕ × List ℕ). Holds p c) (sym same) (marking first file from.0 c (durable.kept from.0 from.1) (durable.holds from.0 from.1) from.2);
     }

@@ -15,7 +15,7 @@ OverZeros [] (c ∷ cs) = ⊥
 OverZeros (b ∷ bs) [] = ⊥
 OverZeros (b ∷ bs) (c ∷ cs) = ((c ≡ 0) ⊎ (c ≡ b)) × OverZeros bs cs
 
-no_more : (bytes left : List ℕ) → OverZeros bytes left → nonzero left ≤ nonzero bytes
+pub no_more : (bytes left : List ℕ) → OverZeros bytes left → nonzero left ≤ nonzero bytes
 no_more [] [] torn = omega arith
 no_more [] (c ∷ cs) torn = absurd torn
 no_more (b ∷ bs) [] torn = absurd torn
@@ -41,7 +41,7 @@ nonzero_append [] ys = omega arith
 nonzero_append (zero ∷ xs) ys = nonzero_append xs ys
 nonzero_append (suc x ∷ xs) ys = omega (arith, nonzero_append xs ys)
 
-nonzero_take : (k : ℕ) (xs : List ℕ) → nonzero (take k xs) ≤ nonzero xs
+pub nonzero_take : (k : ℕ) (xs : List ℕ) → nonzero (take k xs) ≤ nonzero xs
 nonzero_take k xs = omega (arith, nonzero_append (take k xs) (drop k xs), ap nonzero (take-append-drop k xs))
 
 pub nonzero_length : (xs : List ℕ) → nonzero xs ≤ length xs
@@ -69,7 +69,7 @@ over_zeros (b ∷ bs) (c ∷ cs) same each = (each 0 (omega arith), over_zeros b
 are_true : (p q : ℕ) (x : Bool) → p ≡ q → x ≡ true → (if p == q then x else false) ≡ true
 are_true p q x same is = grind (arith, nat_tests)
 
-same_true : (p q : ℕ) → (p == q) ≡ true → p ≡ q
+pub same_true : (p q : ℕ) → (p == q) ≡ true → p ≡ q
 same_true p q is = grind (arith, nat_tests)
 
 true_same : (p q : ℕ) → p ≡ q → (p == q) ≡ true
@@ -120,7 +120,7 @@ torn_body body (a ∷ b ∷ c ∷ d ∷ t) z small torn zeros four =
     let all : a ∷ b ∷ c ∷ d ∷ (t ++ z) ≡ digits w ++ (t ++ z) = ap (λ (l : List ℕ). l ++ (t ++ z)) head in
     omega (arith, ap weight_at all, weight_digits w (t ++ z) small, nonzero_append t z, zeros, no_more body t torn.1.1.1.1)
 
-same_length : (bytes left : List ℕ) → OverZeros bytes left → length left ≡ length bytes
+pub same_length : (bytes left : List ℕ) → OverZeros bytes left → length left ≡ length bytes
 same_length [] [] torn = refl
 same_length [] (c ∷ cs) torn = absurd torn
 same_length (b ∷ bs) [] torn = absurd torn
@@ -154,7 +154,7 @@ zeros_may rest none = record {
   size = λ four. absurd (omega (arith, four, nonzero_take 4 (drop 4 rest), nonzero_drop 4 rest none));
 }
 
-weight_front : (xs ys : List ℕ) → 4 ≤ length xs → weight_at (xs ++ ys) ≡ weight_at xs
+pub weight_front : (xs ys : List ℕ) → 4 ≤ length xs → weight_at (xs ++ ys) ≡ weight_at xs
 unfolding weight_at
 weight_front xs ys long =
     let first = get_or_append_left xs ys 0 0 (omega (arith, long)) in

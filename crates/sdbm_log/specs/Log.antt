@@ -2,6 +2,7 @@
 -- save, which is committed once the record is complete. Plans are applied to the data files without a sync, so a crash may leave a mix of
 -- old and new bytes in the data files. Applying all plans of the log again repairs the data files (a redo log: Gray and Reuter, Transaction
 -- Processing 1993, chapter 9). Byte 0 is the commit byte (mark), which is 1 while there are records. The next eight bytes are "sdbmlog1".
+-- Byte 9 is 0, or 1 if the log is shared (below).
 -- If byte 0 is 1 and the next eight bytes differ, the file is the committed plan of a single save (specs/Redo.antt of sdbm_saves).
 use Rattle.std.specs.Prelude.{Bool, true, false, if◌then◌else◌, ◌==◌, ◌⊎◌, ◌-◌, ◌*◌, ◌/◌, ◌%◌, Option, MatchOption, ◌<◌, ◌≤◌, ◌≡◌, ◌≢◌, ◌^◌, ℕ, zero, suc, ◌+◌, List, [], ◌∷◌, ◌++◌, length, take, drop, replicate, get_or}
 use Rattle.std.specs.Borrow.{Bor}
@@ -69,6 +70,15 @@ pub record MayBeTorn (rest : List ℕ) : Type 0 where
   pub weight : nonzero (take 4 rest) ≡ 4 → nonzero (drop 4 rest) ≤ weight_at rest
   pub size : nonzero (take 4 (drop 4 rest)) ≡ 4 → nonzero (drop (8 + size_at rest) rest) ≡ 0
 
+-- A log is shared if byte 9 is not 0. Several records of a shared log may have been written without a sync, so a crash may damage any of
+-- them. The log then ends before the first incomplete record.
+abbrev pub is_shared : List ℕ → Bool
+is_shared redo = if get_or redo 9 0 == 0 then false else true
+
+-- `rest` may follow the complete records of this redo file: at most one torn record, or any bytes if the log is shared
+abbrev pub MayFollow : List ℕ → List ℕ → Type 0
+MayFollow redo rest = is_shared redo ≡ false → MayBeTorn rest
+
 -- the bytes are n complete records and nothing else
 abbrev pub AreRecords : ℕ → List ℕ → Type 0
 AreRecords zero log = log ≡ []
@@ -134,12 +144,18 @@ abbrev pub KnownBy : ℕ → List ℕ → Image → Type 0
 KnownBy zero plan image = Unit {0}
 KnownBy (suc n) plan image = IsPlan plan × Knows plan (files image)
 
+-- The first n records of a log contain plans, which know the data files of the image. Applied to these files, they make `both`.
+pub record Stands (n : ℕ) (log : List ℕ) (both : List ℕ × List ℕ) (image : Image) : Type 0 where
+  pub plans : ArePlans n log
+  pub known : KnownBy n (log_plan n log) image
+  pub made : with_plan n (log_plan n log) image ≡ both
+
 -- The plans of a log can be applied again: each complete record contains a plan, the joined plan knows the data files, and the bytes after
--- the complete records may be a record that was never committed.
+-- the complete records may follow them.
 pub record CanReplay (image : Image) : Type 0 where
   pub plans : ArePlans (number_of image) (records_of image.redo)
   pub known : KnownBy (number_of image) (plan_of image) image
-  pub rest : MayBeTorn (after_records (number_of image) (records_of image.redo))
+  pub rest : MayFollow image.redo (after_records (number_of image) (records_of image.redo))
 
 -- the data files that an image represents, even if a crash left the image
 abbrev pub files_by : Bool → Image → List ℕ × List ℕ
@@ -161,11 +177,11 @@ CanRecover image = CanRecoverBy (is_log image.redo) image
 abbrev pub Holds : List ℕ × List ℕ → Image → Type 0
 Holds both image = (files_of image ≡ both) × CanRecover image
 
--- The log that a crash may leave, compared with the log that is read. The records and the signature are the same. The commit byte is the
--- same, or 0 if there are no records. The other bytes of the header may have any values.
+-- The log that a crash may leave, compared with the log that is read. The records, the signature and byte 9 are the same. The commit byte
+-- is the same, or 0 if there are no records. The other bytes of the header may have any values.
 pub record IsKeptLog (read left : List ℕ) : Type 0 where
   pub records : records_of left ≡ records_of read
-  pub signed : (i : ℕ) → 1 ≤ i → i < 9 → get_or left i 0 ≡ get_or read i 0
+  pub signed : (i : ℕ) → 1 ≤ i → i < 10 → get_or left i 0 ≡ get_or read i 0
   pub mark : (get_or left 0 0 ≡ get_or read 0 0) ⊎ ((get_or left 0 0 ≡ 0) × (number_in (records_of read) ≡ 0))
 
 abbrev pub KeepsLog : Image → (Image → Type 0) → Type 0

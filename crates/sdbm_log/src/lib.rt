@@ -19,11 +19,14 @@ mod tests;
 pub use header_notes::{
     AppliedHint, BootId, FileState, NOTES_LEN, NOTES_START, Notes, says_applied,
 };
-pub use log::Log;
+pub use log::{HEADER, Log};
 pub use making::make_steps;
 pub use opening::{OpenSteps, close_steps, open_steps, recover_steps};
 pub use reading::{ReadSteps, read_steps};
-pub use records::{LogFault, LogFiles, is_log, plan_of, records_end};
+pub use records::{
+    LogFault, LogFiles, SHARED_AT, first_plan, has_plan, is_log, is_whole, join_heads, plan_of,
+    push_record, records_end,
+};
 pub use runs::{Crashes, all_lists, all_runs};
-pub use saving::{SaveSteps, save_steps};
-pub use steps::Step;
+pub use saving::{SaveSteps, has_room, save_steps};
+pub use steps::{HEAD, RECORD_AT, RECORD_HEAD, Step, push_apply};

@@ -1,7 +1,7 @@
 // The position of the next record in a log.
 
-// The length of the header, in bytes.
-pub(crate) const HEADER: usize = 4096;
+/// The length of the header, in bytes.
+pub const HEADER: usize = 4096;
 
 /// The position of the next record in a log. Opening a log returns the first position, and each save returns the next position.
 #[derive(Clone, Copy, Debug, PartialEq, Eq)]

@@ -4,7 +4,7 @@ ghost use Rattle.sdbm_saves.specs.Redo.{number_at, count_of, IsPlan, Knows};
 ghost use Rattle.sdbm_saves.specs.Disk.{written};
 ghost use Rattle.sdbm_saves.specs.Drafts.{spelled};
 ghost use Rattle.sdbm_log.specs.Saving.{image_in, IsRedoPlan, HasNoPlan};
-ghost use Rattle.sdbm_log.specs.Log.{nonzero, digits, record_of, records_of, weight_at, size_at, is_whole, is_signed, is_log, number_in, first_plan, later_records, after_records, end_in, HasRecords, MayBeTorn, ArePlans, joined, log_plan, number_of, plan_of, CanRecover};
+ghost use Rattle.sdbm_log.specs.Log.{nonzero, digits, record_of, records_of, weight_at, size_at, is_whole, is_signed, is_log, number_in, first_plan, later_records, after_records, end_in, HasRecords, MayBeTorn, MayFollow, is_shared, ArePlans, joined, log_plan, number_of, plan_of, CanRecover};
 ghost use Rattle.sdbm_log.specs.declared.records.LogFault.TheVariants.{Foreign, Damaged};
 
 use crate::knowing::knows;
@@ -16,6 +16,9 @@ use std::alloc::{AllocError, Allocator, Global};
 const SDBM: usize = 1835164787;
 
 const LOG1: usize = 828862316;
+
+/// The offset of the byte that is not 0 if the log is shared.
+pub const SHARED_AT: usize = 9;
 
 /// The reason why the files cannot be recovered.
 #[derive(Clone, Copy, Debug, PartialEq, Eq)]
@@ -172,7 +175,7 @@ fn plan_of_log(alloc: Global, files: LogFiles<'_>) -> Result<Option<Vec<u8>>, Lo
     let log = records_of(files.redo);
     let count = wholes(log);
     let rest = after_records(count, log);
-    if !may_be_torn(rest) {
+    if !may_follow(files.redo, rest) {
         return Err(LogFault::Damaged);
     }
     if count == 0 {
@@ -223,6 +226,13 @@ fn after_records(count: usize, log: &[u8]) -> &[u8]
     rest
 }
 
+// Returns `true` if these bytes may follow the complete records of a redo file.
+fn may_follow(redo: &[u8], rest: &[u8]) -> bool
+    ensures { IsTrue result ↔ MayFollow redo.now rest.now }
+{
+    byte_at(redo, SHARED_AT) != 0 || may_be_torn(rest)
+}
+
 // Returns `true` if these bytes may be a record whose write a crash interrupted.
 fn may_be_torn(rest: &[u8]) -> bool
     ensures { IsTrue result ↔ MayBeTorn rest.now }
@@ -256,8 +266,8 @@ fn may_have_size(rest: &[u8]) -> bool
     nonzero(after_first(rest)) == 0
 }
 
-// Returns `true` if a log starts with a complete record.
-fn is_whole(log: &[u8]) -> bool
+/// Returns `true` if a log starts with a complete record.
+pub fn is_whole(log: &[u8]) -> bool
     ensures { result ≡ is_whole log.now }
 {
     if log.len() < 4 {
@@ -332,8 +342,8 @@ fn are_plans(count: usize, log: &[u8]) -> bool
     true
 }
 
-// Returns `true` if the first record of a log contains a plan.
-fn has_plan(log: &[u8]) -> bool
+/// Returns `true` if the first record of a log contains a plan.
+pub fn has_plan(log: &[u8]) -> bool
     ensures { IsTrue result ↔ (8 + size_at log.now ≤ length log.now) × IsPlan (first_plan log.now) }
 {
     if log.len() < 8 || size(log) > log.len() - 8 {
@@ -342,8 +352,8 @@ fn has_plan(log: &[u8]) -> bool
     is_plan(first_plan(log))
 }
 
-// Returns the plan of the first record of a log.
-fn first_plan(log: &[u8]) -> &[u8]
+/// Returns the plan of the first record of a log.
+pub fn first_plan(log: &[u8]) -> &[u8]
     requires { 8 + size_at log.now ≤ length log.now }
     ensures { result.now ≡ first_plan log.now }
 {
@@ -395,8 +405,8 @@ fn write_head<A: Allocator>(plan: &mut Vec<u8, A>, next: &[u8])
     join_heads(plan.as_mut_slice(), next);
 }
 
-// Writes the new lengths and the number of changes of the joined plan into the first plan.
-fn join_heads(plan: &mut [u8], next: &[u8])
+/// Writes the new lengths and the number of changes of the joined plan into the first plan.
+pub fn join_heads(plan: &mut [u8], next: &[u8])
     requires plan { 28 ≤ length plan.old }
     requires next { 28 ≤ length next.now }
     ensures { plan.new ≡ written 8 (take 8 (drop 8 next.now)) (written 24 (spelled (count_of plan.old + count_of next.now)) plan.old) }
@@ -406,8 +416,12 @@ fn join_heads(plan: &mut [u8], next: &[u8])
     write_in(plan, 8, &next[8..16]);
 }
 
-// Appends the record of a plan: its weight, its length, and the plan.
-pub(crate) fn push_record(bytes: &mut Vec<u8>, plan: &[u8]) -> Result<(), AllocError>
+/// Appends the record of a plan: its weight, its length, and the plan.
+///
+/// # Errors
+///
+/// `AllocError` if allocation fails.
+pub fn push_record(bytes: &mut Vec<u8>, plan: &[u8]) -> Result<(), AllocError>
     requires { length plan.now < 4000000000 }
     ensures { OnOk result (bytes.new.items ≡ bytes.old.items ++ record_of plan.now) }
 {

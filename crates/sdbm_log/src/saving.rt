@@ -109,8 +109,8 @@ fn push_room(commit: &mut Vec<Step>, log: Log, plan: &[u8]) -> Result<Log, Alloc
     })
 }
 
-// Returns `true` if a log can take the record of a plan without being emptied.
-fn has_room(log: Log, plan: &[u8]) -> bool
+/// Returns `true` if a log can take the record of a plan without being emptied.
+pub fn has_room(log: Log, plan: &[u8]) -> bool
     requires plan { 28 ≤ length plan.now }
     requires short { length plan.now < 3000000000 }
     ensures { IsTrue result ↔ CanTake log plan.now }

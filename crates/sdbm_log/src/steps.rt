@@ -36,13 +36,14 @@ pub enum Step {
     },
 }
 
-// The first bytes of a buffer of steps: the commit byte, and the first nine bytes of an empty log.
-pub(crate) const HEAD: [u8; 10] = *b"\x01\0sdbmlog1";
+/// The first bytes of a buffer of steps: the commit byte, and the first nine bytes of an empty log.
+pub const HEAD: [u8; 10] = *b"\x01\0sdbmlog1";
 
-// The offset of the record in a buffer of steps, and the offset of the plan in its record.
-pub(crate) const RECORD_AT: usize = 10;
+/// The offset of the record in a buffer of steps.
+pub const RECORD_AT: usize = 10;
 
-pub(crate) const RECORD_HEAD: usize = 8;
+/// The offset of the plan in its record.
+pub const RECORD_HEAD: usize = 8;
 
 // Adds the steps that sync the files that were read.
 pub(crate) fn push_settle(steps: &mut Vec<Step>) -> Result<(), AllocError>
@@ -88,8 +89,12 @@ pub(crate) fn push_commit(steps: &mut Vec<Step>, end: usize, len: usize) -> Resu
     ])
 }
 
-// Adds the steps that apply a plan. The plan begins at `from` in the buffer.
-pub(crate) fn push_apply(steps: &mut Vec<Step>, plan: &[u8], from: usize) -> Result<(), AllocError>
+/// Adds the steps that apply a plan. The plan begins at `from` in the buffer.
+///
+/// # Errors
+///
+/// `AllocError` if allocation fails.
+pub fn push_apply(steps: &mut Vec<Step>, plan: &[u8], from: usize) -> Result<(), AllocError>
     requires plan { IsPlan plan.now }
     requires short { length plan.now < 2 ^ 63 }
     requires near { from ≤ 4096 }

@@ -52,7 +52,12 @@ fn log(alloc: Global, cut: usize, hole: usize) -> Result<Vec<u8>, AllocError> {
 
 // Makes files with these bytes in the log, and a commit byte of 1.
 fn found(alloc: Global, pages: &[u8], log: &[u8]) -> Result<Found, AllocError> {
-    let mut redo = Vec::from_slice(alloc, b"\x01sdbmlog1")?;
+    found_in(alloc, b"\x01sdbmlog1\0", pages, log)
+}
+
+// Makes files whose redo file begins with `head`.
+fn found_in(alloc: Global, head: &[u8], pages: &[u8], log: &[u8]) -> Result<Found, AllocError> {
+    let mut redo = Vec::from_slice(alloc, head)?;
     redo.resize(4096, 0)?;
     redo.extend_from_slice(log)?;
     redo.resize(4096 + 200, 0)?;
@@ -73,7 +78,11 @@ fn files_of(found: &Found) -> LogFiles<'_> {
 
 // Returns `true` if files with these bytes of `.pag` and of the log represent the pages `meant`.
 fn reads(alloc: Global, pages: &[u8], log: &[u8], meant: &[u8]) -> Result<bool, AllocError> {
-    let found = found(alloc, pages, log)?;
+    means(alloc, found(alloc, pages, log)?, meant)
+}
+
+// Returns `true` if files represent the pages `meant`.
+fn means(alloc: Global, found: Found, meant: &[u8]) -> Result<bool, AllocError> {
     let Ok(plan) = plan_of(alloc, files_of(&found)) else {
         return Ok(false);
     };
@@ -152,6 +161,22 @@ fn a_record_that_is_damaged_before_another_is_refused(rt: HostRuntime) -> Result
         let damaged = damaged(rt.alloc(), hole)?;
         let fault = fault_of(rt.alloc(), &[0, 0, 0, 0], damaged.as_slice())?;
         assert_eq!(rt; fault, Some(LogFault::Damaged));
+    }
+    Ok(())
+}
+
+// Each byte of the first or of the second of three records is lost.
+#[test]
+fn a_shared_log_ends_before_its_first_damaged_record(rt: HostRuntime) -> Result<(), Fail> {
+    let head = b"\x01sdbmlog1\x01";
+    for hole in 0..9 {
+        let first = damaged(rt.alloc(), hole)?;
+        let mut second = record(rt.alloc(), 3, 5)?;
+        second.extend_from_slice(first.as_slice())?;
+        let none = found_in(rt.alloc(), head, &[0, 0, 0, 0], first.as_slice())?;
+        assert!(rt; means(rt.alloc(), none, &[0, 0, 0, 0])?);
+        let one = found_in(rt.alloc(), head, &[0, 0, 0, 0], second.as_slice())?;
+        assert!(rt; means(rt.alloc(), one, &[0, 0, 0, 5])?);
     }
     Ok(())
 }

@@ -1,7 +1,7 @@
 use Rattle.std.proofs.Common.{rules, ◌≡◌, ◌≤◌, inl, ℕ, List, refl, sym, ◌∙◌, ap, subst}
 use Rattle.sdbm_saves.specs.Redo.{IsPlan, Knows}
 use Rattle.sdbm_saves.proofs.Knowing.{never}
-use Rattle.sdbm_log.specs.Log.{records_of, number_in, ArePlans, after_records, MayBeTorn, log_plan, number_of, plan_of}
+use Rattle.sdbm_log.specs.Log.{records_of, number_in, ArePlans, after_records, MayFollow, log_plan, number_of, plan_of}
 use Rattle.sdbm_log.specs.Saving.{image_in}
 use Rattle.sdbm_log.proofs.Logs.{known_some, found_some, found_none}
 use Rattle.sdbm_log.proofs.records.plan_of_log.Goals as goal
@@ -29,7 +29,7 @@ returns-clause-some c =
     (subst (λ (l : List ℕ). IsPlan l) is_plan (c.if-not-is_plan.ensures.0 refl))
     (subst (λ (p : List ℕ × List ℕ). Knows c.in_ok-plan.plan.items p) (λ i. (c.contents.ensures.pages i, c.contents.ensures.directory i))
     (subst (λ (l : List ℕ). Knows l (c.contents.result.pages.now, c.contents.result.directory.now)) known_plan (c.in_ok-knows.ensures.0 c.if-not-branch.false)))
-    (subst (λ (l : List ℕ). MayBeTorn l) (c.after_records-rest.ensures ∙ ap (λ (l : List ℕ). after_records c.wholes-count.result l) log) (c.if-not-may_be_torn.ensures.0 refl)) in
+    (subst (λ (l : List ℕ). MayFollow image.redo l) (c.after_records-rest.ensures ∙ ap (λ (l : List ℕ). after_records c.wholes-count.result l) log) (c.if-not-may_follow.ensures.0 refl)) in
     (inl (c.requires, (found.0, found.1.0)), found.1.1)
 
 pub returns-then-count-eq0-clause-none : goal.returns-then-count-eq0-clause-none
@@ -37,5 +37,5 @@ returns-then-count-eq0-clause-none c = λ is_none.
     let image = image_in c.args.files in
     let log : c.records_of-log.result.now ≡ records_of image.redo = c.records_of-log.ensures in
     let found = found_none image c.wholes-count.result c.requires c.if-count-eq0.true (c.wholes-count.ensures ∙ ap number_in log)
-    (subst (λ (l : List ℕ). MayBeTorn l) (c.after_records-rest.ensures ∙ ap (λ (l : List ℕ). after_records c.wholes-count.result l) log) (c.if-not-may_be_torn.ensures.0 refl)) in
+    (subst (λ (l : List ℕ). MayFollow image.redo l) (c.after_records-rest.ensures ∙ ap (λ (l : List ℕ). after_records c.wholes-count.result l) log) (c.if-not-may_follow.ensures.0 refl)) in
     (inl (c.requires, found.0), found.1)

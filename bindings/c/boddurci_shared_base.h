@@ -1,0 +1,147 @@
+/* Declarations that the C files of shared bases share. Programs that use the library do not include this file. */
+#ifndef BODDURCI_SHARED_BASE_H
+#define BODDURCI_SHARED_BASE_H
+
+#include "boddurci_saves.h"
+
+#pragma GCC visibility push(hidden)
+
+/* ---- boddurci_shared_step.c: one call of a shared base, under its locks */
+
+enum boddurci_kind { BODDURCI_FETCH, BODDURCI_STORE, BODDURCI_DELETE, BODDURCI_RUN };
+
+/* The arguments and the results of a call. boddurci.h says what they mean. */
+struct boddurci_command {
+    enum boddurci_kind kind;
+    const uint8_t *key;
+    size_t key_length;
+    const uint8_t *bytes; /* the value of a store, the argument of a run */
+    size_t length;
+    uint8_t *room;        /* of a fetch, like the next two fields */
+    size_t room_length;
+    size_t *value_length;
+    uint32_t replace;     /* of a store */
+    uint32_t number;      /* of a run, like all fields below */
+    uint32_t has_blank;
+    size_t blank;
+    uint64_t per_second;  /* if it is not 0, `now` is read from the clock, with this number of units in a second */
+    uint64_t now, end, word;
+};
+
+/* A submitted program: its image, or the name of a stock program. */
+struct boddurci_program {
+    uint8_t *bytes;
+    size_t length;
+    int is_stock;
+};
+
+/* The tail of a log: its records that are not applied to the data files. Their joined plan is kept between calls. */
+struct boddurci_tail {
+    uint8_t *bytes;      /* NULL until there is a tail; the joined plan starts at byte BODDURCI_PLAN_AT */
+    size_t length;       /* of the joined plan, or 0 */
+    uint64_t plan_epoch; /* of the log of the joined plan */
+    size_t from, joined; /* the joined plan has the records between these ends */
+    uint64_t epoch;      /* as the note says, like the next four fields */
+    size_t applied, end; /* where the tail begins and ends */
+    uint64_t flushed;
+    int is_shared;
+    int is_touched;      /* this call has read a byte that the tail changes */
+    size_t owed;         /* the end of the records that must be flushed before this call returns, or 0 */
+};
+
+/* A shared base. Between two calls its files stay open, and it holds no lock. */
+struct boddurci_shared {
+    boddurci db;                   /* the database of one page during a call, meaningless between calls; and the programs */
+    char *name;                    /* as the caller gave it */
+    struct boddurci_place place;
+    struct boddurci_logged logged; /* its files stay open */
+    struct boddurci_notes notes;   /* the data files as this call found them */
+    struct boddurci_boot boot;
+    int files[3];                  /* open for reading, or -1 */
+    struct boddurci_note last[2];  /* the data files when their last page was last found to belong to the directory */
+    uint32_t flags;
+    int64_t wait;                  /* milliseconds; atomic */
+    pid_t process;                 /* the process that may use the base; 0 if it was forked during a call of another thread */
+    pthread_mutex_t mutex;         /* protects all fields except `wait` and `process` during a call */
+    struct boddurci_program *programs;
+    size_t program_count;
+    uint8_t *directory;            /* a buffer for .dir, of BODDURCI_SHORT_DIRECTORY bytes */
+    uint8_t *plan;                 /* a buffer for a plan and the head of its record */
+    size_t plan_room;
+    struct boddurci_tail tail;
+    uint8_t page[8192];
+    struct boddurci_shared *next;  /* in the list of all open shared bases */
+};
+
+enum { BODDURCI_SHORT_DIRECTORY = 262144 };
+
+/* Executes a command on a handle. */
+uint32_t boddurci_answer(boddurci *db, struct boddurci_command *command);
+
+/* Returns whether a command with this status may have changed its database. */
+int boddurci_may_change(const struct boddurci_command *command, uint32_t status);
+
+/* `boddurci_change_page` executes a command on the page of its key and saves the page. `boddurci_fetch_page` does a fetch, under BASE.lock
+ * shared; if a log must be recovered first, it sets *must_recover and does nothing else. If the page is not enough, both set *is_whole and
+ * change nothing. */
+uint32_t boddurci_change_page(boddurci_shared *shared, struct boddurci_command *command, int *is_whole, boddurci_fault *fault);
+uint32_t boddurci_fetch_page(boddurci_shared *shared, struct boddurci_command *command, int *must_recover, int *is_whole,
+                             boddurci_fault *fault);
+
+/* Applies the tail of the log if all its records are flushed and both locks are free. So the data files have all changes once the base is
+ * quiet. */
+void boddurci_try_to_apply(boddurci_shared *shared);
+
+/* Opens the redo file under the name, unless it is open. Sets *redo to -1 if it is missing. */
+uint32_t boddurci_open_redo(boddurci_shared *shared, int writes, int *redo, boddurci_fault *fault);
+
+/* Closes all files of a shared base except those of its locks and its folder. */
+void boddurci_drop_files(boddurci_shared *shared);
+
+/* ---- boddurci_shared_tail.c: changes of a shared base that are flushed later
+ *
+ * A change may return, or release the locks, once its record is written to the log. Its record is flushed later, together with those of
+ * other processes, and the data files are written when all records are flushed. A call that reads the data files lays the changes of these
+ * records over the bytes that it reads. */
+
+/* The tail is at most this long. */
+enum { BODDURCI_TAIL_MOST = 65536 };
+
+static inline int boddurci_has_tail(const struct boddurci_tail *tail)
+{
+    return tail->applied < tail->end;
+}
+
+/* `boddurci_no_tail` records that the log has no note. `boddurci_read_tail` reads the tail that a note describes, and joins its plans. The
+ * bytes of shared->plan are lost. STALE if the records are invalid. NO_MEMORY. */
+void boddurci_no_tail(struct boddurci_tail *tail);
+uint32_t boddurci_read_tail(boddurci_shared *shared, int redo, const struct boddurci_log_note *note, boddurci_fault *fault);
+
+/* Applies the changes of the tail to a part of a data file that begins at offset `from`. */
+int boddurci_lay_tail(struct boddurci_tail *tail, enum boddurci_file file, size_t from, uint8_t *part, size_t length);
+
+/* Saves by a plan in shared->plan with this length: appends its record, or saves it as boddurci_logged_save does. */
+uint32_t boddurci_save_or_append(boddurci_shared *shared, size_t length, boddurci_fault *fault);
+
+/* Syncs the log and applies its tail, under both locks. Reads the state of the data files again. */
+uint32_t boddurci_apply_tail(boddurci_shared *shared, boddurci_fault *fault);
+
+/* Leaves a note for the next call. Closes the log instead in two cases: if another program has written during this call, since the records
+ * may not belong to these files, or if the boot id is unknown, since a note is valid for one boot only. If this fails, the next call recovers
+ * the files. */
+void boddurci_leave_note(boddurci_shared *shared);
+
+/* Records that a reply depends on the tail, if it does. A call of a base without NO_FLUSH then flushes the tail before it returns. */
+void boddurci_owe_tail(boddurci_shared *shared);
+
+/* Returns once the records of a log up to `end` are flushed. The caller holds no lock. Processes that call it at the same time share a
+ * sync. */
+uint32_t boddurci_flush_log(boddurci_shared *shared, int redo, uint64_t epoch, size_t end, boddurci_fault *fault);
+
+/* Flushes all records that the log has now. `boddurci_flush_owed` flushes those of shared->tail.owed, if this call has to. Both then try to
+ * apply the tail. */
+uint32_t boddurci_flush_all(boddurci_shared *shared, boddurci_fault *fault);
+uint32_t boddurci_flush_owed(boddurci_shared *shared, boddurci_fault *fault);
+
+#pragma GCC visibility pop
+#endif

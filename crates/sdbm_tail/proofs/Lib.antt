@@ -1,0 +1,4 @@
+pub mod Cuts
+pub mod InRooms
+pub mod Parts
+pub mod Tails

@@ -1,0 +1,425 @@
+/* Tests the calls of shared bases whose changes are flushed later. tests/unflushed builds and runs it, with a folder as the argument. */
+#define _GNU_SOURCE
+#include "boddurci_files.h"
+#include <fcntl.h>
+#include <pthread.h>
+#include <signal.h>
+#include <stdio.h>
+#include <stdlib.h>
+#include <string.h>
+#include <sys/file.h>
+#include <sys/resource.h>
+#include <sys/stat.h>
+#include <sys/wait.h>
+#include <time.h>
+#include <unistd.h>
+
+#define BYTES(text) ((const uint8_t *)(text)), (sizeof(text) - 1)
+
+/* The words of the notes in the header of a log, which docs/DESIGN.md defines, and where the records begin. */
+enum { SHARED = 9, NOTE = 16, END = 24, APPLIED = 48, EPOCH = 56, BOOT = 64, CHECK = 144, FLUSHED = 152, HEADER = 4096 };
+enum { TAIL_MOST = 65536 };
+
+static boddurci_fault fault;
+static unsigned long looked;
+
+#define EXPECT(what)                                                                                                               \
+    do {                                                                                                                           \
+        looked++;                                                                                                                  \
+        if (!(what)) {                                                                                                             \
+            fprintf(stderr, "c_unflushed.c:%d: not so: %s (%s)\n", __LINE__, #what, fault.text);                                   \
+            exit(1);                                                                                                               \
+        }                                                                                                                          \
+    } while (0)
+
+static boddurci_shared *opened(const char *name, uint32_t flags)
+{
+    boddurci_shared *shared = boddurci_open_shared(name, flags, &fault);
+    EXPECT(shared != NULL && fault.status == BODDURCI_DONE);
+    return shared;
+}
+
+static uint32_t store(boddurci_shared *shared, const char *key, const char *value)
+{
+    return boddurci_shared_store(shared, (const uint8_t *)key, strlen(key), (const uint8_t *)value, strlen(value), 1, &fault);
+}
+
+static int stores(boddurci_shared *shared, const char *key, const char *value)
+{
+    return store(shared, key, value) == BODDURCI_DONE && fault.status == BODDURCI_DONE && fault.system == 0;
+}
+
+static int flushes(boddurci_shared *shared)
+{
+    return boddurci_shared_flush(shared, &fault) == BODDURCI_DONE && fault.status == BODDURCI_DONE;
+}
+
+static int has(boddurci_shared *shared, const char *key, const char *value)
+{
+    uint8_t room[BODDURCI_VALUE_MOST];
+    size_t length = 0;
+    uint32_t status = boddurci_shared_fetch(shared, (const uint8_t *)key, strlen(key), room, sizeof room, &length, &fault);
+    if (value == NULL)
+        return status == BODDURCI_MISSING;
+    return status == BODDURCI_DONE && length == strlen(value) && memcmp(room, value, length) == 0;
+}
+
+/* Returns whether the whole database has a pair. */
+static int is_in_files(const char *base, uint32_t flags, const char *key, const char *value)
+{
+    uint8_t room[BODDURCI_VALUE_MOST];
+    size_t length = 0;
+    boddurci_base *files = boddurci_open_files(base, flags, &fault);
+    uint32_t status = boddurci_fetch(boddurci_take(files), (const uint8_t *)key, strlen(key), room, sizeof room, &length);
+    boddurci_give(files);
+    boddurci_close_files(files);
+    return status == BODDURCI_DONE && length == strlen(value) && memcmp(room, value, length) == 0;
+}
+
+/* ---- the redo file */
+
+static int open_file(const char *base, const char *ending)
+{
+    char name[300];
+    snprintf(name, sizeof name, "%s%s", base, ending);
+    int file = open(name, O_RDWR);
+    EXPECT(file >= 0);
+    return file;
+}
+
+static void read_redo(const char *base, off_t at, uint8_t *bytes, size_t length)
+{
+    int file = open_file(base, ".redo");
+    EXPECT(pread(file, bytes, length, at) == (ssize_t)length);
+    close(file);
+}
+
+static void write_redo(const char *base, off_t at, const uint8_t *bytes, size_t length)
+{
+    int file = open_file(base, ".redo");
+    EXPECT(pwrite(file, bytes, length, at) == (ssize_t)length);
+    close(file);
+}
+
+static uint64_t word_of(const uint8_t *bytes)
+{
+    uint64_t word = 0;
+    for (int i = 8; i > 0; i--)
+        word = word << 8 | bytes[i - 1];
+    return word;
+}
+
+static uint64_t word_at(const char *base, off_t at)
+{
+    uint8_t bytes[8];
+    read_redo(base, at, bytes, sizeof bytes);
+    return word_of(bytes);
+}
+
+static void put_word(uint8_t *bytes, uint64_t word)
+{
+    for (int i = 0; i < 8; i++)
+        bytes[i] = (uint8_t)(word >> 8 * i);
+}
+
+static void put_check(uint8_t *bytes, size_t length)
+{
+    uint64_t check = 14695981039346656037u;
+    for (size_t i = 0; i < length; i++)
+        check = (check ^ bytes[i]) * 1099511628211u;
+    put_word(bytes + length, check);
+}
+
+static uint64_t tail_of(const char *base)
+{
+    return word_at(base, END) - word_at(base, APPLIED);
+}
+
+static int is_marked(const char *base)
+{
+    uint8_t mark;
+    read_redo(base, 0, &mark, 1);
+    return mark == 1;
+}
+
+/* Makes the note one of another boot of the system. */
+static void change_boot(const char *base)
+{
+    uint8_t note[CHECK + 8 - NOTE];
+    read_redo(base, NOTE, note, sizeof note);
+    note[BOOT - NOTE] ^= 1;
+    put_check(note, CHECK - NOTE);
+    write_redo(base, NOTE, note, sizeof note);
+}
+
+/* ---- who sees a change */
+
+static void test_views(void)
+{
+    boddurci_shared *later = opened("views", BODDURCI_NO_FLUSH), *now = opened("views", 0), *other = opened("views", BODDURCI_NO_FLUSH);
+    EXPECT(stores(later, "a", "0") && tail_of("views") == 0);
+    EXPECT(stores(later, "a", "1") && tail_of("views") != 0 && has(later, "a", "1") && has(other, "a", "1") && tail_of("views") != 0);
+    EXPECT(stores(other, "b", "1") && stores(later, "c", "1") && has(other, "c", "1") && has(later, "b", "1"));
+    EXPECT(is_in_files("views", BODDURCI_READ_ONLY, "a", "1") && is_in_files("views", BODDURCI_READ_ONLY, "b", "1"));
+    EXPECT(tail_of("views") != 0 && stores(later, "a", "2") && has(now, "a", "2") && word_at("views", FLUSHED + 8) == word_at("views", END));
+    /* A call that opens the whole base closes the log. */
+    EXPECT(stores(later, "a", "3") && is_in_files("views", 0, "a", "3") && !is_marked("views") && has(later, "a", "3"));
+    EXPECT(stores(later, "a", "4") && stores(later, "a", "5") && boddurci_shared_delete(later, BYTES("b"), &fault) == BODDURCI_DONE);
+    EXPECT(has(now, "b", NULL) && has(now, "a", "5") && boddurci_shared_delete(now, BYTES("b"), &fault) == BODDURCI_MISSING);
+    boddurci_close_shared(other);
+    boddurci_close_shared(now);
+    boddurci_close_shared(later);
+    EXPECT(tail_of("views") == 0);
+}
+
+/* A change that is flushed leaves no tail once no other call is in progress. */
+static void test_flushes(void)
+{
+    boddurci_shared *later = opened("flushes", BODDURCI_NO_FLUSH), *now = opened("flushes", 0);
+    EXPECT(flushes(later) && flushes(now) && access("flushes.redo", F_OK) != 0);
+    EXPECT(stores(now, "a", "1") && tail_of("flushes") == 0);
+    uint8_t is_shared;
+    read_redo("flushes", SHARED, &is_shared, 1);
+    EXPECT(is_shared == 0 && stores(later, "a", "2") && tail_of("flushes") == 0);
+    read_redo("flushes", SHARED, &is_shared, 1);
+    EXPECT(is_shared == 1 && stores(later, "a", "3") && tail_of("flushes") != 0 && flushes(now));
+    EXPECT(word_at("flushes", FLUSHED + 8) == word_at("flushes", END) && flushes(later) && tail_of("flushes") == 0);
+    EXPECT(stores(later, "a", "4") && stores(now, "b", "1") && tail_of("flushes") == 0);
+    EXPECT(boddurci_shared_flush(NULL, &fault) == BODDURCI_IS_CLOSED && boddurci_shared_flush(later, NULL) == BODDURCI_DONE);
+    EXPECT(stores(later, "a", "5"));
+    int lock = open_file("flushes", ".lock");
+    EXPECT(flock(lock, LOCK_EX) == 0 && flushes(later) && tail_of("flushes") != 0);
+    close(lock);
+    boddurci_close_shared(now);
+    EXPECT(tail_of("flushes") == 0 || flushes(later));
+    boddurci_close_shared(later);
+}
+
+/* The tail is applied before it exceeds its limit. */
+static void test_limit(void)
+{
+    char key[20], value[401];
+    uint64_t applied = 0, times = 0, most = 0;
+    boddurci_shared *later = opened("limit", BODDURCI_NO_FLUSH);
+    for (int i = 0; i < 600; i++) {
+        memset(value, 'a' + i % 26, 400);
+        value[400] = 0;
+        EXPECT(stores(later, (sprintf(key, "%d", i % 12), key), value) && has(later, key, value));
+        EXPECT(tail_of("limit") <= TAIL_MOST);
+        most = tail_of("limit") > most ? tail_of("limit") : most;
+        times += word_at("limit", APPLIED) != applied;
+        applied = word_at("limit", APPLIED);
+    }
+    EXPECT(times > 5 && times < 60 && most > TAIL_MOST / 2);
+    boddurci_close_shared(later);
+    EXPECT(tail_of("limit") == 0);
+}
+
+/* ---- interruptions */
+
+/* Makes changes in a child that is killed after them. */
+static void store_and_die(const char *base, const char *first, const char *second)
+{
+    int status;
+    pid_t child = fork();
+    if (child == 0) {
+        boddurci_shared *later = opened(base, BODDURCI_NO_FLUSH);
+        EXPECT(stores(later, "a", first) && stores(later, "b", first) && stores(later, "a", second));
+        kill(getpid(), SIGKILL);
+    }
+    EXPECT(waitpid(child, &status, 0) == child && WIFSIGNALED(status) && tail_of(base) != 0);
+}
+
+/* Damages the redo file as an interruption would, in one of several ways. `before` is the header before the last change. */
+static void damage(const char *base, int how, const uint8_t before[CHECK + 8])
+{
+    uint8_t flushed[24], junk[3] = {7, 9, 3};
+    if (how == 1)
+        write_redo(base, NOTE, before + NOTE, CHECK + 8 - NOTE);
+    if (how == 2)
+        write_redo(base, (off_t)(HEADER + word_at(base, END)), junk, sizeof junk);
+    if (how == 3)
+        change_boot(base);
+    if (how == 4)
+        write_redo(base, NOTE + 40, junk, sizeof junk);
+    if (how == 5) {
+        put_word(flushed, word_at(base, EPOCH));
+        put_word(flushed + 8, UINT64_MAX);
+        put_check(flushed, 16);
+        write_redo(base, FLUSHED, flushed, sizeof flushed);
+    }
+    if (how == 6) {
+        int pages = open_file(base, ".pag");
+        EXPECT(fchmod(pages, 0600) == 0);
+        close(pages);
+    }
+}
+
+/* After an interruption all changes are found, in whichever way the base is used first. */
+static void test_kills(void)
+{
+    enum { WAYS = 7, FIRSTS = 5 };
+    uint8_t before[CHECK + 8];
+    for (int how = 0; how < WAYS; how++)
+        for (int first = 0; first < FIRSTS; first++) {
+            char value[20], last[20];
+            sprintf(value, "v%d", how * FIRSTS + first);
+            sprintf(last, "w%d", how * FIRSTS + first);
+            store_and_die("kills", value, value);
+            boddurci_shared *later = opened("kills", BODDURCI_NO_FLUSH), *now = opened("kills", 0);
+            read_redo("kills", 0, before, sizeof before);
+            EXPECT(stores(later, "c", last));
+            damage("kills", how, before);
+            if (first == 0)
+                EXPECT(has(now, "c", last));
+            else if (first == 1)
+                EXPECT(is_in_files("kills", BODDURCI_READ_ONLY, "c", last));
+            else if (first == 2)
+                EXPECT(is_in_files("kills", 0, "c", last));
+            else
+                EXPECT(stores(first == 3 ? now : later, "d", last));
+            EXPECT(has(later, "a", value) && has(later, "b", value) && has(now, "c", last) && has(later, "d", first < 3 ? NULL : last));
+            EXPECT(boddurci_shared_delete(later, BYTES("d"), &fault) == (first < 3 ? BODDURCI_MISSING : BODDURCI_DONE));
+            EXPECT(flushes(later));
+            boddurci_close_shared(later);
+            boddurci_close_shared(now);
+        }
+}
+
+/* After a loss of power, the log ends before the first record that is not whole, and later changes continue from there. */
+static void test_lost_records(void)
+{
+    static const uint8_t zero;
+    uint64_t ends[3];
+    for (int lost = 0; lost < 3; lost++) {
+        boddurci_shared *later = opened("lost", BODDURCI_NO_FLUSH);
+        EXPECT(flushes(later) && stores(later, "a", "before") && stores(later, "b", "before") && flushes(later));
+        for (int i = 0; i < 3; i++) {
+            ends[i] = word_at("lost", END);
+            EXPECT(stores(later, i == 2 ? "b" : "a", i == 0 ? "first" : i == 1 ? "second" : "third"));
+        }
+        write_redo("lost", (off_t)(HEADER + ends[lost] + 10), &zero, 1);
+        change_boot("lost");
+        EXPECT(has(later, "a", lost == 0 ? "before" : lost == 1 ? "first" : "second") && has(later, "b", "before"));
+        EXPECT(stores(later, "b", "after") && has(later, "b", "after"));
+        EXPECT(is_in_files("lost", BODDURCI_READ_ONLY, "b", "after"));
+        boddurci_close_shared(later);
+    }
+}
+
+/* ---- processes */
+
+static int counts(boddurci_shared *shared, int times)
+{
+    uint64_t end, number;
+    for (int i = 0; i < times; i++)
+        if (boddurci_shared_add(shared, BYTES("n"), 1, 0, UINT64_MAX, &end, &number, &fault) != BODDURCI_DONE || end != 1)
+            return 0;
+    return 1;
+}
+
+/* A handle may be opened before a fork, even while the log has a tail. */
+static void test_forks(void)
+{
+    enum { CHILDREN = 6, TIMES = 60 };
+    uint64_t end, number;
+    boddurci_shared *later = opened("forks", BODDURCI_NO_FLUSH), *now = opened("forks", 0);
+    EXPECT(boddurci_shared_wait(later, 60000) == BODDURCI_DONE && boddurci_shared_wait(now, 60000) == BODDURCI_DONE);
+    EXPECT(counts(later, 3));
+    for (int i = 0; i < CHILDREN; i++)
+        if (fork() == 0) {
+            int is_right = counts(i % 2 ? later : now, TIMES) && (i % 3 != 0 || boddurci_shared_flush(later, &fault) == BODDURCI_DONE);
+            boddurci_close_shared(later);
+            boddurci_close_shared(now);
+            _exit(is_right ? 0 : 1);
+        }
+    EXPECT(counts(later, TIMES) && counts(now, TIMES));
+    for (int i = 0, status; i < CHILDREN; i++)
+        EXPECT(wait(&status) > 0 && status == 0);
+    EXPECT(boddurci_shared_add(now, BYTES("n"), 1, 0, UINT64_MAX, &end, &number, &fault) == BODDURCI_DONE);
+    EXPECT(number == 3 + TIMES * (CHILDREN + 2) + 1 && flushes(later));
+    boddurci_close_shared(later);
+    boddurci_close_shared(now);
+    EXPECT(tail_of("forks") == 0);
+}
+
+static boddurci_shared *of_thread;
+
+static void *flush_in_thread(void *unused)
+{
+    return flushes(of_thread) ? unused : "it was not flushed";
+}
+
+/* A call that flushes waits for the lock of the redo file, and a child that is forked meanwhile does not hold that lock. */
+static void test_waiting(void)
+{
+    int status;
+    void *why = NULL;
+    pthread_t thread;
+    of_thread = opened("waiting", BODDURCI_NO_FLUSH);
+    boddurci_shared *now = opened("waiting", 0);
+    EXPECT(stores(of_thread, "a", "1") && stores(of_thread, "a", "2"));
+    int redo = open_file("waiting", ".redo");
+    EXPECT(flock(redo, LOCK_EX) == 0 && pthread_create(&thread, NULL, flush_in_thread, NULL) == 0);
+    nanosleep(&(struct timespec){0, 50000000}, NULL);
+    EXPECT(word_at("waiting", FLUSHED + 8) != word_at("waiting", END));
+    /* No lock of the base is held meanwhile. */
+    boddurci_shared *later = opened("waiting", BODDURCI_NO_FLUSH | BODDURCI_NO_WAIT);
+    EXPECT(has(later, "a", "2") && stores(later, "a", "3"));
+    pid_t child = fork();
+    if (child == 0) {
+        pause();
+        _exit(0);
+    }
+    EXPECT(flock(redo, LOCK_UN) == 0 && pthread_join(thread, &why) == 0 && why == NULL);
+    EXPECT(stores(now, "a", "4") && has(now, "a", "4") && kill(child, SIGKILL) == 0 && waitpid(child, &status, 0) == child);
+    close(redo);
+    boddurci_close_shared(later);
+    boddurci_close_shared(now);
+    boddurci_close_shared(of_thread);
+}
+
+/* ---- faults */
+
+/* If a record or the blocks of the data files exceed the limits of this process, nothing changes. */
+static void test_too_long(void)
+{
+    struct rlimit most, less;
+    boddurci_shared *later = opened("long", BODDURCI_NO_FLUSH);
+    EXPECT(getrlimit(RLIMIT_FSIZE, &most) == 0 && stores(later, "a", "1") && stores(later, "a", "2"));
+    less = most;
+    less.rlim_cur = 1000;
+    EXPECT(setrlimit(RLIMIT_FSIZE, &less) == 0);
+    EXPECT(store(later, "a", "3") == BODDURCI_FILE_FAILED && has(later, "a", "2"));
+    EXPECT(setrlimit(RLIMIT_FSIZE, &most) == 0 && stores(later, "a", "4") && has(later, "a", "4") && flushes(later));
+    boddurci_close_shared(later);
+}
+
+/* Other users do not accept a redo file that has another owner than .pag. A call applies its tail before it removes the file. */
+static void test_owners(void)
+{
+    if (geteuid() != 0)
+        return;
+    boddurci_shared *later = opened("owners", BODDURCI_NO_FLUSH), *now = opened("owners", 0);
+    EXPECT(stores(later, "a", "1") && stores(later, "a", "2") && tail_of("owners") != 0);
+    EXPECT(chown("owners.redo", 7002, 7003) == 0 && stores(later, "b", "1") && access("owners.redo", F_OK) != 0);
+    EXPECT(has(later, "a", "2") && has(now, "b", "1") && is_in_files("owners", BODDURCI_READ_ONLY, "b", "1"));
+    boddurci_close_shared(now);
+    boddurci_close_shared(later);
+}
+
+int main(int count, char **words)
+{
+    EXPECT(count == 2 && chdir(words[1]) == 0);
+    test_views();
+    test_flushes();
+    test_limit();
+    test_kills();
+    test_lost_records();
+    test_forks();
+    test_waiting();
+    test_too_long();
+    test_owners();
+    printf("%lu checks\n", looked);
+    return 0;
+}

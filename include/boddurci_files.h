@@ -225,10 +225,10 @@ void boddurci_close_files(boddurci_base *base);
  * flushes waits without a limit until the flush of another process has ended.
  *
  * Costs. A call reads all of .dir, and only a few pages of .pag, even of a long one. It compares .dir with the directory of the handle's
- * last call. It checks .dir only if they differ, which takes some 4 microseconds for each KiB; with 900,000 pairs .dir has 8 KiB. A change
- * appends its record to the log in BASE.redo and syncs the log, so it costs one sync. If processes wait for each other, a change releases
- * the locks before the sync, and one sync serves the changes of several processes. The log stays open between the calls of all processes,
- * with its mark. A note in the header of the log says where the records end, for the next call. These calls take longer, and as much memory
+ * last call, or of its opening. It checks .dir only if they differ, which takes some 4 microseconds for each KiB; with 900,000 pairs .dir
+ * has 8 KiB. A change appends its record to the log in BASE.redo and syncs the log, so it costs one sync. If processes wait for each other, a
+ * change releases the locks before the sync, and one sync serves the changes of several processes. The log stays open between the calls of
+ * all processes, with its mark. A note in BASE.lock says where the records end, for the next call. These calls take longer, and as much memory
  * as opening the base:
  *
  * - calls that open the whole base: a change for which one page is not enough, a change after which the last page of .pag would be empty,
@@ -255,9 +255,9 @@ void boddurci_close_files(boddurci_base *base);
 typedef struct boddurci_shared boddurci_shared;
 
 /* Opens a shared base. The flags are WIDE, UNSIGNED_KEYS, MUST_EXIST, ANY_SIZE, NO_FLUSH, and NO_WAIT, with which each call tries a lock
- * only once. Other flags are ignored. With MUST_EXIST the call checks that the database exists. With WIDE and without ANY_SIZE it reads the database
- * once, as a reader, to find out whether its pages look small. Otherwise it reads no file. Returns NULL and sets *fault if one of these
- * checks fails, the name is invalid or the folder is missing. */
+ * only once. Other flags are ignored. With MUST_EXIST the call checks that the database exists. With WIDE and without ANY_SIZE it reads the
+ * database once, as a reader, to find out whether its pages look small. Returns NULL and sets *fault if one of these checks fails, the name is
+ * invalid or the folder is missing. The call also reads .dir and one page, without a lock, which makes the first call on the handle faster. */
 boddurci_shared *boddurci_open_shared(const char *base, uint32_t flags, boddurci_fault *fault);
 
 /* Closes the handle and frees its memory. With NO_FLUSH it flushes the changes first, but reports no failure: call boddurci_shared_flush to

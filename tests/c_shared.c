@@ -485,21 +485,21 @@ static void test_names(void)
     boddurci_close_shared(shared);
 }
 
-/* Changes the boot id in the note of the log, as if the note came from another boot of the system. docs/DESIGN.md defines the bytes of a
+/* Changes the boot id in the note about the log, as if the note came from another boot of the system. docs/DESIGN.md defines the bytes of a
  * note. */
 static void change_boot(const char *base)
 {
-    enum { NOTE = 16, BOOT = NOTE + 48, CHECK = NOTE + 128 };
+    enum { BOOT = 48, CHECK = 128 };
     uint64_t check = 14695981039346656037u;
-    struct bytes redo = read_file(base, ".redo");
-    EXPECT(redo.length > CHECK + 8 && redo.at[0] == 1 && memcmp(redo.at + NOTE, "sdbmnot3", 8) == 0);
-    redo.at[BOOT] ^= 1;
-    for (int i = NOTE; i < CHECK; i++)
-        check = (check ^ redo.at[i]) * 1099511628211u;
+    struct bytes lock = read_file(base, ".lock");
+    EXPECT(is_marked(base) && lock.length >= CHECK + 8 && memcmp(lock.at, "sdbmnot4", 8) == 0);
+    lock.at[BOOT] ^= 1;
+    for (int i = 0; i < CHECK; i++)
+        check = (check ^ lock.at[i]) * 1099511628211u;
     for (int i = 0; i < 8; i++)
-        redo.at[CHECK + i] = (uint8_t)(check >> 8 * i);
-    write_file(base, ".redo", redo.at, redo.length);
-    free(redo.at);
+        lock.at[CHECK + i] = (uint8_t)(check >> 8 * i);
+    write_file(base, ".lock", lock.at, lock.length);
+    free(lock.at);
 }
 
 /* After a loss of power the data files lack changes that the log has. The note is from an earlier boot, so the log must be recovered. */
@@ -947,6 +947,56 @@ static void test_replaced(void)
     boddurci_close_shared(shared);
 }
 
+static void swap(const char *one, const char *other, const char *ending)
+{
+    char a[20], b[20];
+    sprintf(a, "%s%s", one, ending);
+    sprintf(b, "%s%s", other, ending);
+    EXPECT(rename(a, "swapped") == 0 && rename(b, a) == 0 && rename("swapped", b) == 0);
+}
+
+/* The names of two databases are swapped just after some changes, so that the folder's time is the only sign of it. */
+static void test_swapped(void)
+{
+    static const char *const endings[3] = {".pag", ".dir", ".redo"};
+    static const struct timespec old = {0, 30000000};
+    char value[20];
+    boddurci_shared *shared = opened("one", 0), *other = opened("two", 0);
+    EXPECT(store(other, "who", "two") == BODDURCI_DONE && store(shared, "who", "one") == BODDURCI_DONE);
+    for (int i = 0; i < 30; i++) {
+        nanosleep(&old, NULL);
+        for (int times = 0; times < 5; times++)
+            EXPECT(store(shared, "a", "before") == BODDURCI_DONE);
+        for (int k = 0; k < 3; k++)
+            swap("one", "two", endings[k]);
+        sprintf(value, "%d", i);
+        EXPECT(store(shared, "a", value) == BODDURCI_DONE && has(shared, "who", i % 2 ? "one" : "two"));
+        EXPECT(has(shared, "a", value) && has(other, "a", "before"));
+    }
+    boddurci_close_shared(other);
+    boddurci_close_shared(shared);
+}
+
+/* The file of a lock is replaced just after some changes, and another process holds the new lock. */
+static void test_replaced_locks(void)
+{
+    static const struct timespec old = {0, 30000000};
+    boddurci_shared *shared = opened("replaced", BODDURCI_NO_WAIT);
+    for (int i = 0; i < 20; i++) {
+        const char *name = i % 2 ? "replaced.lock" : "replaced.writer";
+        EXPECT(store(shared, "a", "b") == BODDURCI_DONE);
+        nanosleep(&old, NULL);
+        for (int times = 0; times < 5; times++)
+            EXPECT(store(shared, "a", "b") == BODDURCI_DONE);
+        EXPECT(unlink(name) == 0);
+        int file = open(name, O_RDWR | O_CREAT, 0644);
+        EXPECT(file >= 0 && flock(file, LOCK_EX) == 0);
+        EXPECT(store(shared, "a", "c") == BODDURCI_LOCKED && has(shared, "a", "b") == (i % 2 == 0));
+        close(file);
+    }
+    boddurci_close_shared(shared);
+}
+
 /* ---- a log that gets full */
 
 static void test_long(void)
@@ -1174,6 +1224,8 @@ static int calls(const char *folder)
     test_waiting();
     test_signals();
     test_replaced();
+    test_swapped();
+    test_replaced_locks();
     test_long();
     test_forks();
     test_orphans();

@@ -16,8 +16,9 @@
 
 #define BYTES(text) ((const uint8_t *)(text)), (sizeof(text) - 1)
 
-/* The words of the notes in the header of a log, which docs/DESIGN.md defines, and where the records begin. */
-enum { SHARED = 9, NOTE = 16, END = 24, APPLIED = 48, EPOCH = 56, BOOT = 64, CHECK = 144, FLUSHED = 152, HEADER = 4096 };
+/* The words of the notes in BASE.lock and of the header of a log, which docs/DESIGN.md defines, and where the records begin. */
+enum { END = 8, APPLIED = 32, EPOCH = 40, BOOT = 48, CHECK = 128, FLUSHED = 136 };
+enum { SHARED = 9, EPOCH_OF_LOG = 24, HEADER = 4096 };
 enum { TAIL_MOST = 65536 };
 
 static boddurci_fault fault;
@@ -87,16 +88,18 @@ static int open_file(const char *base, const char *ending)
     return file;
 }
 
-static void read_redo(const char *base, off_t at, uint8_t *bytes, size_t length)
+/* Reads bytes of a file, with zeros past its end. */
+static void read_bytes(const char *base, const char *ending, off_t at, uint8_t *bytes, size_t length)
 {
-    int file = open_file(base, ".redo");
-    EXPECT(pread(file, bytes, length, at) == (ssize_t)length);
+    int file = open_file(base, ending);
+    memset(bytes, 0, length);
+    EXPECT(pread(file, bytes, length, at) >= 0);
     close(file);
 }
 
-static void write_redo(const char *base, off_t at, const uint8_t *bytes, size_t length)
+static void write_bytes(const char *base, const char *ending, off_t at, const uint8_t *bytes, size_t length)
 {
-    int file = open_file(base, ".redo");
+    int file = open_file(base, ending);
     EXPECT(pwrite(file, bytes, length, at) == (ssize_t)length);
     close(file);
 }
@@ -109,10 +112,11 @@ static uint64_t word_of(const uint8_t *bytes)
     return word;
 }
 
+/* Returns a word of the notes. */
 static uint64_t word_at(const char *base, off_t at)
 {
     uint8_t bytes[8];
-    read_redo(base, at, bytes, sizeof bytes);
+    read_bytes(base, ".lock", at, bytes, sizeof bytes);
     return word_of(bytes);
 }
 
@@ -138,18 +142,18 @@ static uint64_t tail_of(const char *base)
 static int is_marked(const char *base)
 {
     uint8_t mark;
-    read_redo(base, 0, &mark, 1);
+    read_bytes(base, ".redo", 0, &mark, 1);
     return mark == 1;
 }
 
 /* Makes the note one of another boot of the system. */
 static void change_boot(const char *base)
 {
-    uint8_t note[CHECK + 8 - NOTE];
-    read_redo(base, NOTE, note, sizeof note);
-    note[BOOT - NOTE] ^= 1;
-    put_check(note, CHECK - NOTE);
-    write_redo(base, NOTE, note, sizeof note);
+    uint8_t note[CHECK + 8];
+    read_bytes(base, ".lock", 0, note, sizeof note);
+    note[BOOT] ^= 1;
+    put_check(note, CHECK);
+    write_bytes(base, ".lock", 0, note, sizeof note);
 }
 
 /* ---- who sees a change */
@@ -179,9 +183,9 @@ static void test_flushes(void)
     EXPECT(flushes(later) && flushes(now) && access("flushes.redo", F_OK) != 0);
     EXPECT(stores(now, "a", "1") && tail_of("flushes") == 0);
     uint8_t is_shared;
-    read_redo("flushes", SHARED, &is_shared, 1);
+    read_bytes("flushes", ".redo", SHARED, &is_shared, 1);
     EXPECT(is_shared == 0 && stores(later, "a", "2") && tail_of("flushes") == 0);
-    read_redo("flushes", SHARED, &is_shared, 1);
+    read_bytes("flushes", ".redo", SHARED, &is_shared, 1);
     EXPECT(is_shared == 1 && stores(later, "a", "3") && tail_of("flushes") != 0 && flushes(now));
     EXPECT(word_at("flushes", FLUSHED + 8) == word_at("flushes", END) && flushes(later) && tail_of("flushes") == 0);
     EXPECT(stores(later, "a", "4") && stores(now, "b", "1") && tail_of("flushes") == 0);
@@ -230,44 +234,47 @@ static void store_and_die(const char *base, const char *first, const char *secon
     EXPECT(waitpid(child, &status, 0) == child && WIFSIGNALED(status) && tail_of(base) != 0);
 }
 
-/* Damages the redo file as an interruption would, in one of several ways. `before` is the header before the last change. */
-static void damage(const char *base, int how, const uint8_t before[CHECK + 8])
+enum damage { NONE, OLD_NOTE, JUNK, OTHER_BOOT, BAD_NOTE, FAILED_FLUSH, TOUCHED, NO_LOCK, OTHER_EPOCH, SHORT_LOCK, DAMAGES };
+
+/* Damages the files as an interruption might. `before` is the note before the last change. */
+static void damage(const char *base, enum damage how, const uint8_t before[CHECK + 8])
 {
     uint8_t flushed[24], junk[3] = {7, 9, 3};
-    if (how == 1)
-        write_redo(base, NOTE, before + NOTE, CHECK + 8 - NOTE);
-    if (how == 2)
-        write_redo(base, (off_t)(HEADER + word_at(base, END)), junk, sizeof junk);
-    if (how == 3)
-        change_boot(base);
-    if (how == 4)
-        write_redo(base, NOTE + 40, junk, sizeof junk);
-    if (how == 5) {
+    int lock = open_file(base, ".lock"), pages = open_file(base, ".pag");
+    switch (how) {
+    case OLD_NOTE: write_bytes(base, ".lock", 0, before, CHECK + 8); break;
+    case JUNK: write_bytes(base, ".redo", (off_t)(HEADER + word_at(base, END)), junk, sizeof junk); break;
+    case OTHER_BOOT: change_boot(base); break;
+    case BAD_NOTE: write_bytes(base, ".lock", 40, junk, sizeof junk); break;
+    case FAILED_FLUSH:
         put_word(flushed, word_at(base, EPOCH));
         put_word(flushed + 8, UINT64_MAX);
         put_check(flushed, 16);
-        write_redo(base, FLUSHED, flushed, sizeof flushed);
+        write_bytes(base, ".lock", FLUSHED, flushed, sizeof flushed);
+        break;
+    case TOUCHED: EXPECT(fchmod(pages, 0600) == 0); break;
+    case NO_LOCK: EXPECT(unlink("kills.lock") == 0); break;
+    case OTHER_EPOCH: write_bytes(base, ".redo", EPOCH_OF_LOG, junk, sizeof junk); break;
+    case SHORT_LOCK: EXPECT(ftruncate(lock, 50) == 0); break;
+    default: break;
     }
-    if (how == 6) {
-        int pages = open_file(base, ".pag");
-        EXPECT(fchmod(pages, 0600) == 0);
-        close(pages);
-    }
+    close(lock);
+    close(pages);
 }
 
 /* After an interruption all changes are found, in whichever way the base is used first. */
 static void test_kills(void)
 {
-    enum { WAYS = 7, FIRSTS = 5 };
+    enum { FIRSTS = 5 };
     uint8_t before[CHECK + 8];
-    for (int how = 0; how < WAYS; how++)
+    for (enum damage how = NONE; how < DAMAGES; how++)
         for (int first = 0; first < FIRSTS; first++) {
             char value[20], last[20];
             sprintf(value, "v%d", how * FIRSTS + first);
             sprintf(last, "w%d", how * FIRSTS + first);
             store_and_die("kills", value, value);
             boddurci_shared *later = opened("kills", BODDURCI_NO_FLUSH), *now = opened("kills", 0);
-            read_redo("kills", 0, before, sizeof before);
+            read_bytes("kills", ".lock", 0, before, sizeof before);
             EXPECT(stores(later, "c", last));
             damage("kills", how, before);
             if (first == 0)
@@ -298,7 +305,7 @@ static void test_lost_records(void)
             ends[i] = word_at("lost", END);
             EXPECT(stores(later, i == 2 ? "b" : "a", i == 0 ? "first" : i == 1 ? "second" : "third"));
         }
-        write_redo("lost", (off_t)(HEADER + ends[lost] + 10), &zero, 1);
+        write_bytes("lost", ".redo", (off_t)(HEADER + ends[lost] + 10), &zero, 1);
         change_boot("lost");
         EXPECT(has(later, "a", lost == 0 ? "before" : lost == 1 ? "first" : "second") && has(later, "b", "before"));
         EXPECT(stores(later, "b", "after") && has(later, "b", "after"));
@@ -402,7 +409,8 @@ static void test_owners(void)
         return;
     boddurci_shared *later = opened("owners", BODDURCI_NO_FLUSH), *now = opened("owners", 0);
     EXPECT(stores(later, "a", "1") && stores(later, "a", "2") && tail_of("owners") != 0);
-    EXPECT(chown("owners.redo", 7002, 7003) == 0 && stores(later, "b", "1") && access("owners.redo", F_OK) != 0);
+    EXPECT(chown("owners.redo", 7002, 7003) == 0 && nanosleep(&(struct timespec){0, 20000000}, NULL) == 0);
+    EXPECT(stores(later, "b", "1") && access("owners.redo", F_OK) != 0);
     EXPECT(has(later, "a", "2") && has(now, "b", "1") && is_in_files("owners", BODDURCI_READ_ONLY, "b", "1"));
     boddurci_close_shared(now);
     boddurci_close_shared(later);

@@ -6,6 +6,7 @@
 #include <fcntl.h>
 #include <pthread.h>
 #include <signal.h>
+#include <sys/resource.h>
 #include <sys/stat.h>
 #include <time.h>
 #include <unistd.h>
@@ -18,12 +19,22 @@ static int has_come(void)
     return sigpending(&pending) == 0 && sigismember(&pending, SIGXFSZ) == 1;
 }
 
+/* Returns the greatest length of a file that this process may write (RLIMIT_FSIZE). */
+static uint64_t most_bytes(void)
+{
+    struct rlimit most;
+    return getrlimit(RLIMIT_FSIZE, &most) == 0 && most.rlim_cur != RLIM_INFINITY ? most.rlim_cur : UINT64_MAX;
+}
+
 void boddurci_hold_signal(struct boddurci_disk *disk)
 {
     sigset_t only;
+    disk->most = most_bytes();
+    disk->is_too_long = disk->is_signal_held = 0;
+    if (disk->most == UINT64_MAX)
+        return;
     sigemptyset(&only);
     sigaddset(&only, SIGXFSZ);
-    disk->is_too_long = 0;
     disk->is_signal_held = pthread_sigmask(SIG_BLOCK, &only, &disk->mask) == 0;
     disk->was_signalled = disk->is_signal_held && sigismember(&disk->mask, SIGXFSZ) == 1 && has_come();
 }
@@ -33,12 +44,13 @@ void boddurci_give_signal(struct boddurci_disk *disk)
     static const struct timespec now = {0, 0};
     sigset_t only;
     int system = errno;
+    if (!disk->is_signal_held)
+        return;
     sigemptyset(&only);
     sigaddset(&only, SIGXFSZ);
-    if (disk->is_signal_held && disk->is_too_long && !disk->was_signalled && has_come())
+    if (disk->is_too_long && !disk->was_signalled && has_come())
         (void)!sigtimedwait(&only, NULL, &now);
-    if (disk->is_signal_held)
-        pthread_sigmask(SIG_SETMASK, &disk->mask, NULL);
+    pthread_sigmask(SIG_SETMASK, &disk->mask, NULL);
     disk->is_signal_held = 0;
     errno = system;
 }
@@ -56,6 +68,8 @@ void boddurci_disk_of(struct boddurci_disk *disk, struct boddurci_place *place)
     disk->is_too_long = 0;
     disk->has_reserved = 0;
     disk->keeps_room = 0;
+    disk->most = UINT64_MAX;
+    disk->redo.is_known = 0;
 }
 
 void boddurci_disk_drop(struct boddurci_disk *disk, enum boddurci_file file)
@@ -63,6 +77,15 @@ void boddurci_disk_drop(struct boddurci_disk *disk, enum boddurci_file file)
     if (disk->files[file] >= 0)
         close(disk->files[file]);
     disk->files[file] = -1;
+    if (file == BODDURCI_REDO)
+        disk->redo.is_known = 0;
+}
+
+struct boddurci_inode boddurci_disk_redo(struct boddurci_disk *disk)
+{
+    if (!disk->redo.is_known && disk->files[BODDURCI_REDO] >= 0)
+        disk->redo = boddurci_inode_of(disk->files[BODDURCI_REDO]);
+    return disk->redo;
 }
 
 void boddurci_disk_close(struct boddurci_disk *disk)
@@ -149,13 +172,20 @@ int boddurci_disk_zero(struct boddurci_disk *disk, enum boddurci_file file, uint
     return 0;
 }
 
+int boddurci_disk_find(struct boddurci_disk *disk, enum boddurci_file file)
+{
+    disk->last = file;
+    return open_found(disk, file) == 0 || errno == ENOENT ? 0 : -1;
+}
+
 int boddurci_disk_length(struct boddurci_disk *disk, enum boddurci_file file, uint64_t *length)
 {
     struct stat found;
-    disk->last = file;
     *length = 0;
-    if (open_found(disk, file) != 0)
-        return errno == ENOENT ? 0 : -1;
+    if (boddurci_disk_find(disk, file) != 0)
+        return -1;
+    if (disk->files[file] < 0)
+        return 0;
     if (boddurci_look_at(disk->files[file], &found) != 0)
         return -1;
     *length = (uint64_t)found.st_size;

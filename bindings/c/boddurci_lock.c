@@ -183,7 +183,7 @@ static int has_it_here(const struct boddurci_place *place, enum boddurci_file lo
 
 static int is_named(const struct boddurci_place *place, enum boddurci_file lock)
 {
-    return boddurci_is_named(place, lock, place->opened[lock]);
+    return boddurci_leads_to(place, lock, place->inodes[lock]);
 }
 
 /* Returns whether .pag is missing or this process may write it. If not, the process makes no lock files. */
@@ -235,6 +235,7 @@ static uint32_t open_lock(struct boddurci_place *place, enum boddurci_file lock,
     uint32_t status = BODDURCI_DONE;
     if (place->opened[lock] >= 0 && !is_named(place, lock))
         close_lock(place, lock);
+    int is_opened = place->opened[lock] < 0;
     for (int tries = 0; tries < 100 && status == BODDURCI_DONE && place->opened[lock] < 0; tries++) {
         status = boddurci_open_beside(place, lock, O_RDWR, &place->opened[lock], fault);
         if (reads && place->opened[lock] < 0)
@@ -244,6 +245,8 @@ static uint32_t open_lock(struct boddurci_place *place, enum boddurci_file lock,
     }
     if (status == BODDURCI_DONE && place->opened[lock] < 0)
         return boddurci_fail(fault, BODDURCI_MOVED, 0, "BASE.lock or BASE.writer comes and goes");
+    if (is_opened)
+        place->inodes[lock] = boddurci_inode_of(place->opened[lock]);
     if (status == BODDURCI_DONE && has_it_here(place, lock))
         return boddurci_fail(fault, BODDURCI_OPEN_HERE, 0, boddurci_files_text(BODDURCI_OPEN_HERE));
     return status;
@@ -354,15 +357,15 @@ uint32_t boddurci_take_shared(struct boddurci_place *place, int64_t milliseconds
 enum outcome { TAKEN, IS_BUSY, TRY_AGAIN, HAS_FAILED };
 
 /* Takes BASE.writer without waiting. The caller holds BASE.lock. On failure releases BASE.lock. */
-static enum outcome lock_writer(const struct boddurci_place *place, boddurci_fault *fault)
+static enum outcome lock_writer(struct boddurci_place *place, boddurci_fault *fault)
 {
     int files = place->opened[BODDURCI_LOCK], writer = place->opened[BODDURCI_WRITER];
-    enum outcome outcome = TRY_AGAIN;
-    if (is_named(place, BODDURCI_LOCK))
-        outcome = flock(writer, LOCK_EX | LOCK_NB) == 0 ? TAKEN : errno == EWOULDBLOCK ? IS_BUSY : HAS_FAILED;
+    enum outcome outcome = flock(writer, LOCK_EX | LOCK_NB) == 0 ? TAKEN : errno == EWOULDBLOCK ? IS_BUSY : HAS_FAILED;
     if (outcome == HAS_FAILED)
         not_taken(place, 0, fault);
-    if (outcome == TAKEN && is_named(place, BODDURCI_WRITER))
+    if (outcome == TAKEN)
+        boddurci_look_at_names(place);
+    if (outcome == TAKEN && (place->all.are_same || (is_named(place, BODDURCI_LOCK) && is_named(place, BODDURCI_WRITER))))
         return TAKEN;
     if (outcome == TAKEN)
         flock(writer, LOCK_UN);
@@ -395,8 +398,6 @@ static enum outcome try_both(struct boddurci_place *place, int64_t end, int is_o
  * exclusively. */
 static void note_both(struct boddurci_place *place)
 {
-    for (enum boddurci_file lock = BODDURCI_LOCK; lock <= BODDURCI_WRITER; lock++)
-        place->inodes[lock] = boddurci_inode_of(place->opened[lock]);
     flock(place->opened[BODDURCI_WRITER], LOCK_SH);
     note_held(place);
 }
@@ -604,15 +605,16 @@ static int are_open(const struct boddurci_place *place)
     return place->opened[BODDURCI_LOCK] >= 0 && place->opened[BODDURCI_WRITER] >= 0;
 }
 
-/* Tries once to take both locks for a call. Except at the first try, it does not touch BASE.lock while BASE.writer is busy. Sets *is_queued
- * to 1 if BASE.lock is busy. */
-static enum outcome try_call(struct boddurci_place *place, int is_first, int *is_queued, boddurci_fault *fault)
+/* Tries once to take both locks for a call. Unless `is_short` is 1, it first opens the lock files if they are closed or have lost their names,
+ * and does not touch BASE.lock while BASE.writer is busy. Sets *is_queued to 1 if BASE.lock is busy. */
+static enum outcome try_call(struct boddurci_place *place, int is_short, int *is_queued, boddurci_fault *fault)
 {
-    for (enum boddurci_file lock = BODDURCI_LOCK; lock <= BODDURCI_WRITER && !(is_first && are_open(place)); lock++)
+    is_short = is_short && are_open(place);
+    for (enum boddurci_file lock = BODDURCI_LOCK; lock <= BODDURCI_WRITER && !is_short; lock++)
         if (open_lock(place, lock, 0, fault) != BODDURCI_DONE)
             return HAS_FAILED;
     *is_queued = 0;
-    if (!is_first && is_busy(place->opened[BODDURCI_WRITER])) {
+    if (!is_short && is_busy(place->opened[BODDURCI_WRITER])) {
         announce_none(place);
         return IS_BUSY;
     }
@@ -642,14 +644,17 @@ static enum outcome queue(struct boddurci_place *place, int *tries, int *spins, 
     return IS_BUSY;
 }
 
-/* Takes both locks for a call. The wait continues after a signal. */
+/* Takes both locks for a call. The wait continues after a signal. After a try that found BASE.lock busy the next try is short, except for one
+ * in eight: a look at BASE.writer would disturb the next process that takes it. */
 static uint32_t take_to_change(struct boddurci_place *place, int64_t end, boddurci_fault *fault)
 {
-    int tries = 0, spins = 0, is_first = 1, is_queued;
+    enum { SHORT = 7 };
+    int tries = 0, spins = 0, shorts = 0, is_queued = 1;
     enum outcome outcome = TRY_AGAIN;
     while (outcome == TRY_AGAIN || outcome == IS_BUSY) {
-        outcome = try_call(place, is_first, &is_queued, fault);
-        is_first = 0;
+        int is_short = is_queued && shorts < SHORT;
+        shorts = is_short ? shorts + 1 : 0;
+        outcome = try_call(place, is_short, &is_queued, fault);
         place->has_waited = place->has_waited || outcome == IS_BUSY;
         if (outcome == IS_BUSY && is_queued && (end < 0 || now() < end))
             outcome = queue(place, &tries, &spins, fault);
@@ -686,7 +691,7 @@ uint32_t boddurci_take_call(struct boddurci_place *place, int reads, int64_t mil
 {
     int64_t end = end_of(milliseconds);
     uint32_t status = BODDURCI_INTERRUPTED;
-    place->has_waited = 0;
+    place->has_waited = place->all.are_same = 0;
     if (milliseconds != 0)
         let_go(place, reads ? WAITS : STARVES, end);
     if (!reads)
@@ -730,4 +735,13 @@ void boddurci_drop_locks(struct boddurci_place *place)
 {
     for (enum boddurci_file lock = BODDURCI_WRITER; lock >= BODDURCI_LOCK; lock--)
         close_lock(place, lock);
+}
+
+int boddurci_lock_file(struct boddurci_place *place)
+{
+    boddurci_fault unsaid;
+    int *opened = &place->opened[BODDURCI_LOCK];
+    if (*opened < 0 && boddurci_open_beside(place, BODDURCI_LOCK, O_RDWR, opened, &unsaid) == BODDURCI_DONE && *opened >= 0)
+        place->inodes[BODDURCI_LOCK] = boddurci_inode_of(*opened);
+    return *opened;
 }

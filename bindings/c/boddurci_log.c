@@ -299,7 +299,6 @@ static uint32_t do_open(struct boddurci_logged *logged, struct boddurci_bytes re
     if (is_written && boddurci_do_steps(disk, steps->at, steps->count, steps->bytes) == 0 && share(logged) == 0) {
         logged->is_open = 1;
         logged->is_given_up = 0;
-        logged->redo = boddurci_inode_of(disk->files[BODDURCI_REDO]);
         logged->emptied = now();
         return BODDURCI_DONE;
     }
@@ -366,7 +365,7 @@ uint32_t boddurci_logged_recover(struct boddurci_logged *logged, int are_names_s
     boddurci_fault second;
     struct boddurci_disk *disk = &logged->disk;
     *is_ended = 0;
-    if (logged->is_open && (are_names_same || boddurci_leads_to(disk->place, BODDURCI_REDO, logged->redo)))
+    if (logged->is_open && (are_names_same || boddurci_leads_to(disk->place, BODDURCI_REDO, boddurci_disk_redo(disk))))
         return BODDURCI_DONE;
     logged->is_open = 0;
     boddurci_disk_drop(disk, BODDURCI_REDO);
@@ -539,10 +538,10 @@ uint32_t boddurci_logged_share(struct boddurci_logged *logged, boddurci_fault *f
 /* Returns whether both data files exist or remain empty: only the steps of a usual save make a file. */
 static int have_files(struct boddurci_disk *disk, const struct boddurci_steps *steps)
 {
-    uint64_t after[2], length;
+    uint64_t after[2];
     boddurci_lengths_of(steps->bytes, 1, after);
     for (enum boddurci_file file = BODDURCI_PAGES; file <= BODDURCI_DIRECTORY; file++)
-        if (boddurci_disk_length(disk, file, &length) != 0 || (after[file] != 0 && disk->files[file] < 0))
+        if (boddurci_disk_find(disk, file) != 0 || (after[file] != 0 && disk->files[file] < 0))
             return 0;
     return 1;
 }

@@ -22,7 +22,12 @@ static struct timespec clock_of(clockid_t clock)
     return now;
 }
 
-static int is_same_time(struct timespec one, struct timespec other)
+struct timespec boddurci_tick(void)
+{
+    return clock_of(TICKING);
+}
+
+int boddurci_is_same_time(struct timespec one, struct timespec other)
 {
     return one.tv_sec == other.tv_sec && one.tv_nsec == other.tv_nsec;
 }
@@ -85,7 +90,7 @@ static const struct timespec never = {0, 0};
 /* Returns whether a time may be the base's own: it is the noted one, or not later than `latest`, the time of the last write of the base. */
 static int is_our_time(struct timespec noted, struct timespec is, struct timespec latest)
 {
-    return is_same_time(noted, is) || is.tv_sec < latest.tv_sec || (is.tv_sec == latest.tv_sec && is.tv_nsec <= latest.tv_nsec);
+    return boddurci_is_same_time(noted, is) || is.tv_sec < latest.tv_sec || (is.tv_sec == latest.tv_sec && is.tv_nsec <= latest.tv_nsec);
 }
 
 static enum boddurci_change change_of(const struct boddurci_note *noted, const struct boddurci_note *is, struct timespec latest, int is_local)
@@ -149,26 +154,49 @@ static int is_plain(const struct boddurci_place *place, enum boddurci_file file,
 void boddurci_note_names(struct boddurci_notes *notes, const struct boddurci_place *place, struct timespec folder,
                          const struct boddurci_note found[2])
 {
-    int is_known = notes->has_our_clock && !is_same_time(folder, never) && !is_same_time(notes->tick, never) && !is_near(folder, notes->tick);
+    int is_known = notes->has_our_clock && !boddurci_is_same_time(folder, never) && !boddurci_is_same_time(notes->tick, never) && !is_near(folder, notes->tick);
     for (enum boddurci_file file = BODDURCI_PAGES; file <= BODDURCI_DIRECTORY; file++)
         is_known = is_known && is_plain(place, file, &found[file]);
     notes->folder = is_known ? folder : never;
     notes->named = notes->tick;
 }
 
+void boddurci_look_at_names(struct boddurci_place *place)
+{
+    struct boddurci_names *all = &place->all;
+    all->are_same = 0;
+    if (!place->is_local)
+        return;
+    all->folder = boddurci_time_of_folder(place);
+    all->are_same = boddurci_is_same_time(boddurci_tick(), all->named) && boddurci_is_same_time(all->folder, all->then);
+}
+
+void boddurci_note_all_names(struct boddurci_place *place, const struct boddurci_note found[2])
+{
+    struct boddurci_names *all = &place->all;
+    struct timespec tick = boddurci_tick();
+    int is_second = boddurci_is_same_time(tick, all->looked);
+    int is_known = is_second && place->is_local && !boddurci_is_same_time(all->folder, never) && !is_near(all->folder, tick);
+    all->looked = tick;
+    for (enum boddurci_file file = BODDURCI_PAGES; is_known && file <= BODDURCI_DIRECTORY; file++)
+        is_known = is_plain(place, file, &found[file]);
+    all->named = is_known ? tick : never;
+    all->then = all->folder;
+}
+
 int boddurci_are_names_same(const struct boddurci_notes *notes, const struct boddurci_place *place)
 {
-    struct timespec tick = clock_of(TICKING);
-    if (is_same_time(notes->folder, never) || !is_same_time(tick, notes->tick) || !is_same_time(tick, notes->named))
+    struct timespec tick = boddurci_tick();
+    if (boddurci_is_same_time(notes->folder, never) || !boddurci_is_same_time(tick, notes->tick) || !boddurci_is_same_time(tick, notes->named))
         return 0;
-    return is_same_time(boddurci_time_of_folder(place), notes->folder);
+    return boddurci_is_same_time(boddurci_time_of_folder(place), notes->folder);
 }
 
 enum boddurci_change boddurci_look_before(struct boddurci_notes *notes, const struct boddurci_disk *disk, int may_be_quick, int are_names_same,
                                           struct boddurci_note found[2], enum boddurci_file *which)
 {
-    struct timespec tick = clock_of(TICKING);
-    notes->is_quick = may_be_quick && notes->has_our_clock && is_same_time(tick, notes->tick);
+    struct timespec tick = boddurci_tick();
+    notes->is_quick = may_be_quick && notes->has_our_clock && boddurci_is_same_time(tick, notes->tick);
     look_at_both(notes, disk, notes->is_quick && are_names_same, found);
     enum boddurci_change change = change_of_both(notes->files, found, notes->latest, notes->is_local, which);
     if (notes->is_quick && change == BODDURCI_SAME)
@@ -199,7 +227,7 @@ void boddurci_look_meanwhile(struct boddurci_notes *notes, const struct boddurci
 {
     enum boddurci_file which;
     struct boddurci_note now[2];
-    if (disk->has_reserved || is_same_time(clock_of(TICKING), notes->tick))
+    if (disk->has_reserved || boddurci_is_same_time(boddurci_tick(), notes->tick))
         return;
     notes->is_quick = 0;
     look_at_both(notes, disk, 1, now);
@@ -214,8 +242,8 @@ void boddurci_note_found(struct boddurci_notes *notes, const struct boddurci_not
 
 void boddurci_note_written(struct boddurci_notes *notes, const struct boddurci_disk *disk)
 {
-    struct timespec tick = clock_of(TICKING);
-    notes->is_quick = notes->has_our_clock && is_same_time(tick, notes->tick);
+    struct timespec tick = boddurci_tick();
+    notes->is_quick = notes->has_our_clock && boddurci_is_same_time(tick, notes->tick);
     look_at_both(notes, disk, 1, notes->files);
     notes->latest = notes->is_quick ? clock_of(CLOCK_REALTIME) : never;
     if (notes->is_quick)
@@ -239,7 +267,7 @@ static int note_lengths(struct boddurci_notes *notes, const uint64_t lengths[2])
 
 void boddurci_note_saved(struct boddurci_notes *notes, const struct boddurci_disk *disk, const uint64_t lengths[2])
 {
-    if (notes->has_our_clock && is_same_time(clock_of(TICKING), notes->tick) && note_lengths(notes, lengths))
+    if (notes->has_our_clock && boddurci_is_same_time(boddurci_tick(), notes->tick) && note_lengths(notes, lengths))
         notes->latest = clock_of(CLOCK_REALTIME);
     else
         boddurci_note_written(notes, disk);

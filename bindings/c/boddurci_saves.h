@@ -15,7 +15,7 @@
 
 #pragma GCC visibility push(hidden)
 
-/* BASE.pag, .dir, .redo, .lock and .writer. The last two are empty files that serve as locks. */
+/* BASE.pag, .dir, .redo, .lock and .writer. The last two serve as locks; the first of them also has the notes of shared bases. */
 enum boddurci_file { BODDURCI_PAGES, BODDURCI_DIRECTORY, BODDURCI_REDO, BODDURCI_LOCK, BODDURCI_WRITER, BODDURCI_FILES };
 
 /* The bytes of a file: a mapping of `room` bytes, or memory from malloc if `room` is 0. `boddurci_let_go` frees the bytes. */
@@ -94,6 +94,16 @@ struct boddurci_seen {
     ino_t number;
 };
 
+/* What a shared base knows about the names of its files. Two looks at the names within one clock tick find the same files, if the folder's time
+ * of change is the same and is clearly older than the tick. Later a mount may have replaced a file, which does not change that time. */
+struct boddurci_names {
+    int are_same;           /* in this call all names lead to the open files */
+    struct timespec folder; /* the folder's time of change when this call took the locks */
+    struct timespec looked; /* the coarse clock at the last call that looked at each name */
+    struct timespec named;  /* the coarse clock when all names last led to the open files, or 0 */
+    struct timespec then;   /* the folder's time of change at that look */
+};
+
 /* The place of a base: its folder and the names of its files. The folder stays open, so that the same files are used if the path changes.
  * `opened` and `is_early` are used for the locks only. */
 struct boddurci_place {
@@ -101,10 +111,11 @@ struct boddurci_place {
     char *names[BODDURCI_FILES];  /* of the files within the folder */
     struct boddurci_seen seen[2]; /* the data files, if they existed when they were last opened */
     int opened[BODDURCI_FILES];   /* the open file of a lock, or -1 */
-    struct boddurci_inode inodes[BODDURCI_FILES]; /* of the lock files, once they are locked */
+    struct boddurci_inode inodes[BODDURCI_FILES]; /* of the open lock files */
     int is_early[BODDURCI_FILES]; /* this process made the lock file while .pag was missing */
     int keeps_files;              /* BASE.lock stays locked between the calls of the base */
     int is_local;                 /* of a shared base: the folder is on a local file system */
+    struct boddurci_names all;    /* of a shared base */
     int has_waited;               /* the last change of a shared base had to wait for a lock, or for another call */
     struct boddurci_place *held;  /* the next place in the list of places whose locks this process holds */
     unsigned long holder;         /* the thread that took the locks, by its number in this_thread */
@@ -223,6 +234,9 @@ int boddurci_try_change(struct boddurci_place *place);
 void boddurci_give_call(struct boddurci_place *place, int reads);
 void boddurci_drop_locks(struct boddurci_place *place);
 
+/* Opens BASE.lock, which has the notes, unless it is open. Returns -1 if it is missing or cannot be opened. */
+int boddurci_lock_file(struct boddurci_place *place);
+
 /* ---- boddurci_holder.c: the process that holds a lock */
 
 /* Returns the process that holds a lock, exclusively or shared. Returns -1 if this process cannot see the holder, and 0 if there is no
@@ -310,6 +324,8 @@ struct boddurci_disk {
     int is_too_long;         /* a call failed with EFBIG after the mask was changed, and may have raised the signal */
     int has_reserved;        /* a save has allocated blocks of a data file, which may change its times */
     int keeps_room;          /* blocks past the ends of the data files belong to saves that are committed and not applied yet */
+    uint64_t most;           /* the process's limit on the length of a file (RLIMIT_FSIZE), at the last boddurci_hold_signal */
+    struct boddurci_inode redo; /* of the open redo file, once boddurci_disk_redo has read it */
 };
 
 /* `boddurci_disk_of` initializes the files of a place as closed, `boddurci_disk_drop` closes one, and `boddurci_disk_close` closes all. */
@@ -317,8 +333,12 @@ void boddurci_disk_of(struct boddurci_disk *disk, struct boddurci_place *place);
 void boddurci_disk_drop(struct boddurci_disk *disk, enum boddurci_file file);
 void boddurci_disk_close(struct boddurci_disk *disk);
 
-/* `boddurci_hold_signal` blocks SIGXFSZ for this thread, so that a write past the process's limit on the length of a file fails with EFBIG.
- * `boddurci_give_signal` discards the signal if writes of this thread raised it, and restores the mask. */
+/* Returns the inode of the open redo file. */
+struct boddurci_inode boddurci_disk_redo(struct boddurci_disk *disk);
+
+/* `boddurci_hold_signal` reads the process's limit on the length of a file. If there is a limit, it blocks SIGXFSZ for this thread, so that a
+ * write past the limit fails with EFBIG. `boddurci_give_signal` discards the signal if writes of this thread raised it, and restores the
+ * mask. Saves happen between these two calls. */
 void boddurci_hold_signal(struct boddurci_disk *disk);
 void boddurci_give_signal(struct boddurci_disk *disk);
 
@@ -329,7 +349,9 @@ int boddurci_disk_zero(struct boddurci_disk *disk, enum boddurci_file file, uint
 int boddurci_disk_resize(struct boddurci_disk *disk, enum boddurci_file file, uint64_t length);
 int boddurci_disk_sync(struct boddurci_disk *disk, enum boddurci_file file);
 
-/* Sets *length to the length of a file, or to 0 if it is missing. */
+/* `boddurci_disk_find` opens a file if it exists and is closed. `boddurci_disk_length` also sets *length to its length, or to 0 if it is
+ * missing. */
+int boddurci_disk_find(struct boddurci_disk *disk, enum boddurci_file file);
 int boddurci_disk_length(struct boddurci_disk *disk, enum boddurci_file file, uint64_t *length);
 
 /* Closes and removes the redo file, if it exists. */
@@ -359,7 +381,7 @@ int boddurci_do_steps(struct boddurci_disk *disk, const boddurci_step *steps, si
 int boddurci_do_in_memory(struct boddurci_bytes files[2], const struct boddurci_steps *steps);
 
 /* `boddurci_is_within_limits` returns whether the steps leave the data files within their greatest lengths. `boddurci_may_write` fails with
- * EFBIG if the process's limit (RLIMIT_FSIZE) forbids a step. */
+ * EFBIG if the process's limit on the length of a file forbids a step. */
 int boddurci_is_within_limits(const struct boddurci_steps *steps);
 int boddurci_may_write(struct boddurci_disk *disk, const struct boddurci_steps *steps);
 
@@ -385,8 +407,7 @@ struct boddurci_logged {
     struct boddurci_disk disk;
     struct boddurci_notes *notes;
     boddurci_log next; /* the place of the next record; valid if is_open */
-    struct boddurci_inode redo; /* the inode of the redo file; valid if is_open */
-    uint64_t epoch;    /* of the note in the header, while that note is valid; otherwise 0 */
+    uint64_t epoch;    /* of the notes of a shared base, while they are valid; otherwise 0 */
     int64_t emptied;   /* when the log was last empty, in nanoseconds */
     int is_open;
     int is_grown;      /* the log has more room than usual, or an attempt to get more failed */
@@ -476,6 +497,10 @@ int boddurci_is_local(int opened);
 void boddurci_note_opened(struct boddurci_notes *notes, const struct boddurci_disk *disk);
 void boddurci_note_system(struct boddurci_notes *notes, const struct boddurci_place *place);
 
+/* Reads the coarse clock, which ticks every few milliseconds, and compares two times. The system sets the times of files by that clock. */
+struct timespec boddurci_tick(void);
+int boddurci_is_same_time(struct timespec one, struct timespec other);
+
 /* Gets the folder's time of change, which changes with each new, removed or renamed name in it. Returns 0 if it is unknown. */
 struct timespec boddurci_time_of_folder(const struct boddurci_place *place);
 
@@ -487,6 +512,12 @@ void boddurci_note_names(struct boddurci_notes *notes, const struct boddurci_pla
 /* Returns whether, by the folder's time of change, all names still lead to the files of the last look at the names. It returns 0 after the
  * clock tick of that look: later a mount may have replaced a file, and a mount does not change the time of the folder. */
 int boddurci_are_names_same(const struct boddurci_notes *notes, const struct boddurci_place *place);
+
+/* The same for a call of a shared base. `boddurci_note_all_names` records that this call has looked at each name, and that all names lead to
+ * the open files; it does so from the second such call within a clock tick on, since it takes two more looks. `boddurci_look_at_names` finds out
+ * whether an earlier call within the same tick has recorded this, and no name has changed since. */
+void boddurci_look_at_names(struct boddurci_place *place);
+void boddurci_note_all_names(struct boddurci_place *place, const struct boddurci_note found[2]);
 
 /* Reads the state of the files under their names before a save. Returns how the files differ from the notes, and sets *which to the file
  * that differs. If no file differs, notes the state that was read. Within the clock tick of the last look the call may be quick: then it
@@ -587,7 +618,7 @@ struct boddurci_boot {
 
 void boddurci_boot_of_system(struct boddurci_boot *boot);
 
-/* A note in the header of the log: the place of the next record, and the end of the records that are applied to both data files. The records
+/* A note about the log: the place of the next record, and the end of the records that are applied to both data files. The records
  * after it are the tail of the log. The note has the state of each data file: its device, inode, length and time of the last change, or zeros
  * if the file was missing. Data files are written only when all records are flushed. */
 struct boddurci_log_note {
@@ -608,11 +639,15 @@ enum boddurci_noted {
     BODDURCI_UNKNOWN   /* the log has its mark, and must be recovered before a change */
 };
 
-/* Reads the header of an open redo file. Sets the note if the result is NOTED. `boddurci_look_at_note` is for a process that holds no lock.
- * It does not test whether a record follows. It returns UNKNOWN if a process writes the note meanwhile, even if it reads again. */
-enum { BODDURCI_RECORDS_AT = 4096 };
-enum boddurci_noted boddurci_find_note(int redo, const struct boddurci_boot *boot, struct boddurci_log_note *note);
-enum boddurci_noted boddurci_look_at_note(int redo, const struct boddurci_boot *boot, struct boddurci_log_note *note);
+/* Reads the notes about an open redo file in an open BASE.lock, which is -1 if it is missing. Sets the note if the result is NOTED.
+ * `boddurci_read_note` does not test whether the redo file has the room in the note, and whether a record follows: `boddurci_has_room` and
+ * `boddurci_has_next` do, the latter by the BODDURCI_NEXT bytes after the end of the records. `boddurci_look_at_note` is for a process that
+ * holds no lock. It makes neither test, and returns UNKNOWN if a process writes the note meanwhile, even if it reads again. */
+enum { BODDURCI_RECORDS_AT = 4096, BODDURCI_NEXT = 8 };
+enum boddurci_noted boddurci_read_note(int redo, int lock, const struct boddurci_boot *boot, struct boddurci_log_note *note);
+enum boddurci_noted boddurci_look_at_note(int redo, int lock, const struct boddurci_boot *boot, struct boddurci_log_note *note);
+int boddurci_has_room(int redo, const struct boddurci_log_note *note);
+int boddurci_has_next(const uint8_t next[BODDURCI_NEXT]);
 
 /* Returns the state of the file under a name in a folder, or of an open file (with AT_EMPTY_PATH). A reader requests no times: after such a
  * request, some file systems set new times at the next write. */
@@ -629,22 +664,21 @@ int boddurci_is_applied(const struct boddurci_place *place, int redo, boddurci_l
 /* Returns an epoch that no other log has: the time. */
 uint64_t boddurci_new_epoch(void);
 
-/* `boddurci_put_note` writes a note, without a sync. `boddurci_clear_note` clears both notes in an open redo file, and
- * `boddurci_clear_note_in` clears them in the bytes of a redo file. Clear the notes before the log is emptied, since later records may end
- * at the same place. */
-int boddurci_put_note(int redo, const struct boddurci_boot *boot, const struct boddurci_log_note *note, const struct boddurci_note files[2]);
+/* `boddurci_put_note` writes the first note to BASE.lock, without a sync, and `boddurci_put_flushed` the second one: the end of the flushed
+ * records of a log. For the latter the caller holds the lock of the redo file itself, and perhaps no other lock. `boddurci_put_epoch` writes
+ * the epoch of the notes to the header of the log, which makes them valid. `boddurci_clear_note` clears the epoch, and `boddurci_clear_note_in`
+ * clears it in the bytes of a redo file. Clear it before the log is emptied, since later records may end at the same place. */
+int boddurci_put_note(int lock, const struct boddurci_boot *boot, const struct boddurci_log_note *note, const struct boddurci_note files[2]);
+int boddurci_put_flushed(int lock, uint64_t epoch, uint64_t end);
+int boddurci_put_epoch(int redo, uint64_t epoch);
 int boddurci_clear_note(int redo);
 void boddurci_clear_note_in(struct boddurci_bytes *redo);
-
-/* Writes the second note: the end of the flushed records of a log. The caller holds the lock of the redo file itself, and perhaps no other
- * lock. */
-int boddurci_put_flushed(int redo, uint64_t epoch, uint64_t end);
 
 /* Returns whether the header of an open redo file says that several records may be unflushed. */
 int boddurci_is_log_shared(int redo);
 
-/* Reads the first bytes of the header of an open redo file and clears the mark and both notes in them. Sets *length to the number of bytes
- * to write back: only the mark if the file has no note. */
+/* Reads the first bytes of the header of an open redo file and clears the mark and the epoch of the notes in them. Sets *length to the number
+ * of bytes to write back: only the mark if the file has no such epoch. */
 enum { BODDURCI_HEADER_USED = 176 };
 int boddurci_unmarked_header(int redo, uint8_t header[BODDURCI_HEADER_USED], size_t *length);
 

@@ -67,17 +67,14 @@ static void forget_unnamed(const struct boddurci_place *place, enum boddurci_fil
 static void leave_files(boddurci_shared *shared, int is_idle)
 {
     struct boddurci_place *place = &shared->place;
-    int *redos[2] = {&shared->logged.disk.files[BODDURCI_REDO], &shared->files[BODDURCI_REDO]};
     for (enum boddurci_file lock = BODDURCI_LOCK; !is_idle && lock <= BODDURCI_WRITER; lock++)
         forget_unnamed(place, lock, &place->opened[lock]);
-    boddurci_drop_locks(place);
-    for (int i = 0; i < 2; i++) {
-        if (!is_idle)
-            forget_unnamed(place, BODDURCI_REDO, redos[i]);
-        if (*redos[i] >= 0)
-            close(*redos[i]);
-        *redos[i] = -1;
+    if (!is_idle) {
+        forget_unnamed(place, BODDURCI_REDO, &shared->logged.disk.files[BODDURCI_REDO]);
+        forget_unnamed(place, BODDURCI_REDO, &shared->files[BODDURCI_REDO]);
     }
+    boddurci_drop_locks(place);
+    boddurci_drop_redo(shared);
 }
 
 /* Closes the locks in a child. The next call opens these files again. If another thread of the parent was in a call, the child cannot
@@ -185,7 +182,7 @@ static int has_marked(const boddurci_shared *shared)
     struct boddurci_log_note note;
     if (boddurci_open_beside(&shared->place, BODDURCI_REDO, O_RDONLY, &redo, &unsaid) != BODDURCI_DONE || redo < 0)
         return 0;
-    int is_marked = boddurci_find_note(redo, &shared->boot, &note) != BODDURCI_UNMARKED;
+    int is_marked = boddurci_read_note(redo, -1, &shared->boot, &note) != BODDURCI_UNMARKED;
     close(redo);
     return is_marked;
 }
@@ -216,7 +213,10 @@ static uint32_t open_place(boddurci_shared *shared, const char *name, boddurci_f
     if (status != BODDURCI_DONE)
         return status;
     shared->name = strdup(name);
-    return shared->name != NULL ? status : boddurci_no_memory(fault);
+    if (shared->name == NULL)
+        return boddurci_no_memory(fault);
+    boddurci_read_ahead(shared);
+    return status;
 }
 
 boddurci_shared *boddurci_open_shared(const char *name, uint32_t flags, boddurci_fault *fault)

@@ -41,10 +41,12 @@ struct boddurci_tail {
     size_t length;       /* of the joined plan, or 0 */
     uint64_t plan_epoch; /* of the log of the joined plan */
     size_t from, joined; /* the joined plan has the records between these ends */
+    int changes_directory; /* the joined plan may change a byte of .dir */
     uint64_t epoch;      /* as the note says, like the next four fields */
     size_t applied, end; /* where the tail begins and ends */
     uint64_t flushed;
     int is_shared;
+    size_t room;         /* of the log when the length of the open redo file was last found to have it, or 0 */
     int is_touched;      /* this call has read a byte that the tail changes */
     size_t owed;         /* the end of the records that must be flushed before this call returns, or 0 */
 };
@@ -55,10 +57,13 @@ struct boddurci_shared {
     char *name;                    /* as the caller gave it */
     struct boddurci_place place;
     struct boddurci_logged logged; /* its files stay open */
-    struct boddurci_notes notes;   /* the data files as this call found them */
+    struct boddurci_notes notes;   /* the data files as this call found or left them */
     struct boddurci_boot boot;
     int files[3];                  /* open for reading, or -1 */
+    struct boddurci_inode redo;    /* of the redo file in files[BODDURCI_REDO] */
     struct boddurci_note last[2];  /* the data files when their last page was last found to belong to the directory */
+    struct boddurci_inode alike;   /* the redo file that was last found to have the owner, the group and the permissions of .pag */
+    struct timespec alike_at;      /* the coarse clock then */
     uint32_t flags;
     int64_t wait;                  /* milliseconds; atomic */
     pid_t process;                 /* the process that may use the base; 0 if it was forked during a call of another thread */
@@ -88,6 +93,10 @@ uint32_t boddurci_change_page(boddurci_shared *shared, struct boddurci_command *
 uint32_t boddurci_fetch_page(boddurci_shared *shared, struct boddurci_command *command, int *must_recover, int *is_whole,
                              boddurci_fault *fault);
 
+/* Reads and checks .dir for a new handle, without a lock, so that the first call only compares its bytes. If they are being written meanwhile,
+ * or are invalid, the first call checks them. */
+void boddurci_read_ahead(boddurci_shared *shared);
+
 /* Applies the tail of the log if all its records are flushed and both locks are free. So the data files have all changes once the base is
  * quiet. */
 void boddurci_try_to_apply(boddurci_shared *shared);
@@ -95,8 +104,9 @@ void boddurci_try_to_apply(boddurci_shared *shared);
 /* Opens the redo file under the name, unless it is open. Sets *redo to -1 if it is missing. */
 uint32_t boddurci_open_redo(boddurci_shared *shared, int writes, int *redo, boddurci_fault *fault);
 
-/* Closes all files of a shared base except those of its locks and its folder. */
+/* Closes all files of a shared base except those of its locks and its folder. `boddurci_drop_redo` closes only the redo file. */
 void boddurci_drop_files(boddurci_shared *shared);
+void boddurci_drop_redo(boddurci_shared *shared);
 
 /* ---- boddurci_shared_tail.c: changes of a shared base that are flushed later
  *
@@ -113,7 +123,7 @@ static inline int boddurci_has_tail(const struct boddurci_tail *tail)
 }
 
 /* `boddurci_no_tail` records that the log has no note. `boddurci_read_tail` reads the tail that a note describes, and joins its plans. The
- * bytes of shared->plan are lost. STALE if the records are invalid. NO_MEMORY. */
+ * bytes of shared->plan and shared->directory are lost. STALE if the records are invalid, or if the log has more records than the note says. NO_MEMORY. */
 void boddurci_no_tail(struct boddurci_tail *tail);
 uint32_t boddurci_read_tail(boddurci_shared *shared, int redo, const struct boddurci_log_note *note, boddurci_fault *fault);
 
@@ -125,11 +135,6 @@ uint32_t boddurci_save_or_append(boddurci_shared *shared, size_t length, boddurc
 
 /* Syncs the log and applies its tail, under both locks. Reads the state of the data files again. */
 uint32_t boddurci_apply_tail(boddurci_shared *shared, boddurci_fault *fault);
-
-/* Leaves a note for the next call. Closes the log instead in two cases: if another program has written during this call, since the records
- * may not belong to these files, or if the boot id is unknown, since a note is valid for one boot only. If this fails, the next call recovers
- * the files. */
-void boddurci_leave_note(boddurci_shared *shared);
 
 /* Records that a reply depends on the tail, if it does. A call of a base without NO_FLUSH then flushes the tail before it returns. */
 void boddurci_owe_tail(boddurci_shared *shared);

@@ -1,6 +1,7 @@
-/* Reads and writes the notes that calls of shared bases leave in the header of the log. One note has the end of the records, and the end of
- * those that are applied to both data files. So the next call appends its record at the end, without recovering the log. The other note has
- * the end of the records that are flushed. docs/DESIGN.md defines the bytes of both under "The log of saves". */
+/* Reads and writes the notes that calls of shared bases leave in BASE.lock. One note has the end of the records, and the end of those that are
+ * applied to both data files. So the next call appends its record at the end, without recovering the log. The other note has the end of the
+ * records that are flushed. Both are valid if the header of the log has their epoch. docs/DESIGN.md defines the bytes under "The log of
+ * saves". */
 #define _GNU_SOURCE
 #include "boddurci_saves.h"
 #include <errno.h>
@@ -10,22 +11,27 @@
 #include <time.h>
 #include <unistd.h>
 
-/* The header of a log, as words of 8 bytes, the lowest byte first. The note is the 17 words after the first two. The three words after it
- * are the flushed end, which is written without the locks. */
-enum { HEADER = BODDURCI_RECORDS_AT, WORD = 8, SHARED_AT = 9, NOTE_AT = 16 };
+enum { HEADER = BODDURCI_RECORDS_AT, WORD = 8 };
+
+/* The bytes of the header of a log: whether several records may be unflushed, and the signature and the epoch of the notes. An older version
+ * of the library had the notes in the OLD_NOTES bytes from NOTE_AT on. */
+enum { SHARED_AT = 9, NOTE_AT = 16, EPOCH_AT = NOTE_AT + WORD, LOOKED = EPOCH_AT + WORD, OLD_NOTES = 160 };
+_Static_assert(BODDURCI_HEADER_USED == NOTE_AT + OLD_NOTES, "the mark, the signature and the notes");
+static const uint8_t LOG_SIGNATURE[8] = "sdbmlog1", NOTE_SIGNATURE[8] = "sdbmnot4";
+enum { ANY_VERSION = 7 }; /* bytes of the signature */
+
+/* The notes, as words of 8 bytes, the lowest byte first. The second note is written without the locks. */
 enum { SIGNATURE, END, ROOM, COUNT, APPLIED, EPOCH, BOOT, STATES = BOOT + 2, CHECK = STATES + 8, NOTE_WORDS };
 enum { OF_EPOCH, FLUSHED, FLUSHED_CHECK, FLUSHED_WORDS };
-enum { FLUSHED_AT = NOTE_AT + NOTE_WORDS * WORD, BOTH_LENGTH = (NOTE_WORDS + FLUSHED_WORDS) * WORD };
-_Static_assert(BODDURCI_HEADER_USED == NOTE_AT + BOTH_LENGTH, "the mark, the signature and both notes");
-static const uint8_t LOG_SIGNATURE[8] = "sdbmlog1", NOTE_SIGNATURE[8] = "sdbmnot3";
+enum { FLUSHED_AT = NOTE_WORDS * WORD, NOTES_LENGTH = (NOTE_WORDS + FLUSHED_WORDS) * WORD };
 
 /* ---- bytes */
 
-static int write_at(int redo, off_t at, const uint8_t *bytes, size_t length)
+static int write_at(int opened, off_t at, const uint8_t *bytes, size_t length)
 {
     ssize_t put;
     do
-        put = pwrite(redo, bytes, length, at);
+        put = pwrite(opened, bytes, length, at);
     while (put < 0 && errno == EINTR);
     return put == (ssize_t)length ? 0 : -1;
 }
@@ -117,11 +123,10 @@ static uint64_t flushed_of(const uint8_t *bytes, uint64_t epoch, uint64_t applie
     return flushed > applied ? flushed : applied;
 }
 
-/* Reads a note from the bytes of a header. Returns 0 if the bytes have no note of this boot. */
-static int note_of(const uint8_t header[BODDURCI_HEADER_USED], const struct boddurci_boot *boot, struct boddurci_log_note *note)
+/* Reads a note from the bytes of BASE.lock. Returns 0 if they have no note of this epoch and this boot. */
+static int note_of(const uint8_t bytes[NOTES_LENGTH], uint64_t epoch, const struct boddurci_boot *boot, struct boddurci_log_note *note)
 {
-    const uint8_t *bytes = header + NOTE_AT;
-    int is_note = memcmp(header + 1, LOG_SIGNATURE, WORD) == 0 && memcmp(bytes, NOTE_SIGNATURE, WORD) == 0;
+    int is_note = memcmp(bytes, NOTE_SIGNATURE, WORD) == 0 && word_at(bytes + EPOCH * WORD) == epoch;
     if (!is_note || !boot->is_known || word_at(bytes + CHECK * WORD) != check_of(bytes, CHECK))
         return 0;
     if (word_at(bytes + BOOT * WORD) != boot->id[0] || word_at(bytes + (BOOT + 1) * WORD) != boot->id[1])
@@ -130,45 +135,68 @@ static int note_of(const uint8_t header[BODDURCI_HEADER_USED], const struct bodd
     note->log.room = (size_t)word_at(bytes + ROOM * WORD);
     note->log.count = (size_t)word_at(bytes + COUNT * WORD);
     note->applied = (size_t)word_at(bytes + APPLIED * WORD);
-    note->epoch = word_at(bytes + EPOCH * WORD);
-    note->flushed = flushed_of(header + FLUSHED_AT, note->epoch, note->applied);
-    note->is_shared = header[SHARED_AT] == 1;
+    note->epoch = epoch;
+    note->flushed = flushed_of(bytes + FLUSHED_AT, epoch, note->applied);
     for (int i = 0; i < 8; i++)
         note->states[i] = word_at(bytes + (STATES + i) * WORD);
     return note->applied <= note->log.end && note->log.end <= note->log.room && note->log.count <= note->log.end;
 }
 
-enum boddurci_noted boddurci_find_note(int redo, const struct boddurci_boot *boot, struct boddurci_log_note *note)
+/* Returns whether the header of a log has the signature of notes, of this version or of any. */
+static int is_noted(const uint8_t header[LOOKED], int is_any)
 {
-    uint8_t header[BODDURCI_HEADER_USED], next[WORD];
-    struct stat found;
+    return memcmp(header + 1, LOG_SIGNATURE, WORD) == 0 && memcmp(header + NOTE_AT, NOTE_SIGNATURE, is_any ? ANY_VERSION : WORD) == 0;
+}
+
+/* Reads the notes. The result is NOTED even if a flush has failed. */
+static enum boddurci_noted read_notes(int redo, int lock, const struct boddurci_boot *boot, struct boddurci_log_note *note)
+{
+    uint8_t header[LOOKED], bytes[NOTES_LENGTH];
     if (boddurci_read_at(redo, 0, header, sizeof header) != 0)
         return BODDURCI_UNKNOWN;
     if (header[0] != 1)
         return BODDURCI_UNMARKED;
-    if (!note_of(header, boot, note) || note->flushed == BODDURCI_FLUSH_FAILED)
+    if (lock < 0 || !is_noted(header, 0) || boddurci_read_at(lock, 0, bytes, sizeof bytes) != 0)
         return BODDURCI_UNKNOWN;
-    if (boddurci_look_at(redo, &found) != 0 || found.st_size < HEADER || note->log.room > (uint64_t)found.st_size - HEADER)
-        return BODDURCI_UNKNOWN;
-    /* A record begins with bytes that are not zero. So if the bytes after the end are zeros, no record follows. */
-    if (boddurci_read_at(redo, HEADER + note->log.end, next, sizeof next) != 0 || word_at(next) != 0)
-        return BODDURCI_UNKNOWN;
-    return BODDURCI_NOTED;
+    note->is_shared = header[SHARED_AT] == 1;
+    return note_of(bytes, word_at(header + EPOCH_AT), boot, note) ? BODDURCI_NOTED : BODDURCI_UNKNOWN;
 }
 
-enum boddurci_noted boddurci_look_at_note(int redo, const struct boddurci_boot *boot, struct boddurci_log_note *note)
+enum boddurci_noted boddurci_read_note(int redo, int lock, const struct boddurci_boot *boot, struct boddurci_log_note *note)
+{
+    enum boddurci_noted noted = read_notes(redo, lock, boot, note);
+    return noted == BODDURCI_NOTED && note->flushed == BODDURCI_FLUSH_FAILED ? BODDURCI_UNKNOWN : noted;
+}
+
+int boddurci_has_room(int redo, const struct boddurci_log_note *note)
+{
+    struct stat found;
+    return boddurci_look_at(redo, &found) == 0 && found.st_size >= HEADER && note->log.room <= (uint64_t)found.st_size - HEADER;
+}
+
+int boddurci_has_next(const uint8_t next[BODDURCI_NEXT])
+{
+    return word_at(next) != 0;
+}
+
+/* Like boddurci_read_note, but also tests whether the file has the room in the note, and whether a record follows. */
+static enum boddurci_noted find_note(int redo, int lock, const struct boddurci_boot *boot, struct boddurci_log_note *note)
+{
+    uint8_t next[BODDURCI_NEXT];
+    enum boddurci_noted noted = boddurci_read_note(redo, lock, boot, note);
+    if (noted != BODDURCI_NOTED)
+        return noted;
+    int is_read = boddurci_has_room(redo, note) && boddurci_read_at(redo, HEADER + note->log.end, next, sizeof next) == 0;
+    return is_read && !boddurci_has_next(next) ? BODDURCI_NOTED : BODDURCI_UNKNOWN;
+}
+
+enum boddurci_noted boddurci_look_at_note(int redo, int lock, const struct boddurci_boot *boot, struct boddurci_log_note *note)
 {
     enum { TRIES = 10 };
-    uint8_t header[BODDURCI_HEADER_USED];
-    for (int tries = 0; tries < TRIES; tries++) {
-        if (boddurci_read_at(redo, 0, header, sizeof header) != 0)
-            return BODDURCI_UNKNOWN;
-        if (header[0] != 1)
-            return BODDURCI_UNMARKED;
-        if (note_of(header, boot, note))
-            return BODDURCI_NOTED;
-    }
-    return BODDURCI_UNKNOWN;
+    enum boddurci_noted noted = BODDURCI_UNKNOWN;
+    for (int tries = 0; tries < TRIES && noted == BODDURCI_UNKNOWN; tries++)
+        noted = read_notes(redo, lock, boot, note);
+    return noted;
 }
 
 enum boddurci_change boddurci_change_since(const struct boddurci_log_note *note, const struct boddurci_note files[2])
@@ -192,7 +220,7 @@ int boddurci_is_applied(const struct boddurci_place *place, int redo, boddurci_l
     struct boddurci_log_note note;
     struct boddurci_note files[2];
     boddurci_boot_of_system(&boot);
-    if (boddurci_find_note(redo, &boot, &note) != BODDURCI_NOTED || note.applied != note.log.end)
+    if (find_note(redo, place->opened[BODDURCI_LOCK], &boot, &note) != BODDURCI_NOTED || note.applied != note.log.end)
         return 0;
     for (enum boddurci_file file = BODDURCI_PAGES; file <= BODDURCI_DIRECTORY; file++)
         files[file] = boddurci_state_of(place->folder, place->names[file], 0, 0);
@@ -207,7 +235,7 @@ uint64_t boddurci_new_epoch(void)
     return nanoseconds(time);
 }
 
-int boddurci_put_note(int redo, const struct boddurci_boot *boot, const struct boddurci_log_note *note, const struct boddurci_note files[2])
+int boddurci_put_note(int lock, const struct boddurci_boot *boot, const struct boddurci_log_note *note, const struct boddurci_note files[2])
 {
     uint64_t words[NOTE_WORDS] = {0, note->log.end, note->log.room, note->log.count, note->applied, note->epoch, boot->id[0], boot->id[1]};
     uint8_t bytes[NOTE_WORDS * WORD];
@@ -219,16 +247,24 @@ int boddurci_put_note(int redo, const struct boddurci_boot *boot, const struct b
         put_word(bytes + i * WORD, words[i]);
     memcpy(bytes, NOTE_SIGNATURE, WORD);
     put_word(bytes + CHECK * WORD, check_of(bytes, CHECK));
+    return write_at(lock, 0, bytes, sizeof bytes);
+}
+
+int boddurci_put_epoch(int redo, uint64_t epoch)
+{
+    uint8_t bytes[2 * WORD];
+    memcpy(bytes, NOTE_SIGNATURE, WORD);
+    put_word(bytes + WORD, epoch);
     return write_at(redo, NOTE_AT, bytes, sizeof bytes);
 }
 
-int boddurci_put_flushed(int redo, uint64_t epoch, uint64_t end)
+int boddurci_put_flushed(int lock, uint64_t epoch, uint64_t end)
 {
     uint8_t bytes[FLUSHED_WORDS * WORD];
     put_word(bytes + OF_EPOCH * WORD, epoch);
     put_word(bytes + FLUSHED * WORD, end);
     put_word(bytes + FLUSHED_CHECK * WORD, check_of(bytes, FLUSHED_CHECK));
-    return write_at(redo, FLUSHED_AT, bytes, sizeof bytes);
+    return write_at(lock, FLUSHED_AT, bytes, sizeof bytes);
 }
 
 int boddurci_is_log_shared(int redo)
@@ -237,32 +273,27 @@ int boddurci_is_log_shared(int redo)
     return boddurci_read_at(redo, SHARED_AT, &is_shared, 1) == 0 && is_shared == 1;
 }
 
-static int is_noted(const uint8_t header[NOTE_AT + WORD])
-{
-    return memcmp(header + 1, LOG_SIGNATURE, WORD) == 0 && memcmp(header + NOTE_AT, NOTE_SIGNATURE, WORD) == 0;
-}
-
 int boddurci_clear_note(int redo)
 {
-    static const uint8_t none[BOTH_LENGTH];
-    uint8_t header[NOTE_AT + WORD];
+    static const uint8_t none[OLD_NOTES];
+    uint8_t header[LOOKED];
     if (boddurci_read_at(redo, 0, header, sizeof header) != 0)
         return -1;
-    return is_noted(header) ? write_at(redo, NOTE_AT, none, sizeof none) : 0;
+    return is_noted(header, 1) ? write_at(redo, NOTE_AT, none, sizeof none) : 0;
 }
 
 int boddurci_unmarked_header(int redo, uint8_t header[BODDURCI_HEADER_USED], size_t *length)
 {
     if (boddurci_read_at(redo, 0, header, BODDURCI_HEADER_USED) != 0)
         return -1;
-    *length = is_noted(header) ? BODDURCI_HEADER_USED : 1;
+    *length = is_noted(header, 1) ? BODDURCI_HEADER_USED : 1;
     header[0] = 0;
-    memset(header + NOTE_AT, 0, BOTH_LENGTH);
+    memset(header + NOTE_AT, 0, OLD_NOTES);
     return 0;
 }
 
 void boddurci_clear_note_in(struct boddurci_bytes *redo)
 {
-    if (redo->length >= HEADER && is_noted(redo->at))
-        memset(redo->at + NOTE_AT, 0, BOTH_LENGTH);
+    if (redo->length >= HEADER && is_noted(redo->at, 1))
+        memset(redo->at + NOTE_AT, 0, OLD_NOTES);
 }

@@ -25,6 +25,12 @@ static void drop(int *file)
     *file = -1;
 }
 
+void boddurci_drop_redo(boddurci_shared *shared)
+{
+    drop(&shared->files[BODDURCI_REDO]);
+    boddurci_disk_drop(&shared->logged.disk, BODDURCI_REDO);
+}
+
 static void drop_data(boddurci_shared *shared)
 {
     for (enum boddurci_file file = BODDURCI_PAGES; file <= BODDURCI_DIRECTORY; file++) {
@@ -37,8 +43,7 @@ static void drop_data(boddurci_shared *shared)
 void boddurci_drop_files(boddurci_shared *shared)
 {
     drop_data(shared);
-    drop(&shared->files[BODDURCI_REDO]);
-    boddurci_disk_drop(&shared->logged.disk, BODDURCI_REDO);
+    boddurci_drop_redo(shared);
 }
 
 /* Returns whether the names of the data files still lead to the open files. */
@@ -64,16 +69,24 @@ static uint32_t open_data(boddurci_shared *shared, boddurci_fault *fault)
     return status;
 }
 
+/* Returns the state of a data file: of the open file if the names are the same, otherwise of the file under the name. */
+static struct boddurci_note state_of(const struct boddurci_place *place, enum boddurci_file file, int has_times)
+{
+    const struct boddurci_seen *seen = &place->seen[file];
+    if (place->all.are_same && seen->is_there)
+        return boddurci_state_of(seen->opened, "", AT_EMPTY_PATH, has_times);
+    return boddurci_state_of(place->folder, place->names[file], 0, has_times);
+}
+
 /* Reads the state of the data files under their names, and opens these files unless they are already open. Another program may have
  * replaced the files that were open. */
 static uint32_t find_files(boddurci_shared *shared, int has_times, boddurci_fault *fault)
 {
     enum { TRIES = 3 };
-    const struct boddurci_place *place = &shared->place;
     uint32_t status = BODDURCI_DONE;
     for (int tries = 0; status == BODDURCI_DONE; tries++) {
         for (enum boddurci_file file = BODDURCI_PAGES; file <= BODDURCI_DIRECTORY; file++)
-            shared->notes.files[file] = boddurci_state_of(place->folder, place->names[file], 0, has_times);
+            shared->notes.files[file] = state_of(&shared->place, file, has_times);
         if (are_named(shared))
             break;
         status = tries < TRIES ? open_data(shared, fault) : boddurci_fail(fault, BODDURCI_MOVED, 0, "BASE.pag or BASE.dir comes and goes");
@@ -105,17 +118,22 @@ static int file_of(boddurci_shared *shared, enum boddurci_file file)
 
 uint32_t boddurci_open_redo(boddurci_shared *shared, int writes, int *redo, boddurci_fault *fault)
 {
-    int *written = &shared->logged.disk.files[BODDURCI_REDO], *file = writes || *written >= 0 ? written : &shared->files[BODDURCI_REDO];
     const struct boddurci_place *place = &shared->place;
-    uint32_t status = BODDURCI_DONE;
-    if (*file >= 0 && !boddurci_is_named(place, BODDURCI_REDO, *file)) {
-        drop(written);
-        drop(&shared->files[BODDURCI_REDO]);
-        file = writes ? written : &shared->files[BODDURCI_REDO];
+    struct boddurci_disk *disk = &shared->logged.disk;
+    *redo = writes || disk->files[BODDURCI_REDO] >= 0 ? disk->files[BODDURCI_REDO] : shared->files[BODDURCI_REDO];
+    if (*redo >= 0) {
+        int is_written = *redo == disk->files[BODDURCI_REDO];
+        if (place->all.are_same || boddurci_leads_to(place, BODDURCI_REDO, is_written ? boddurci_disk_redo(disk) : shared->redo))
+            return BODDURCI_DONE;
+        boddurci_drop_redo(shared);
     }
-    if (*file < 0)
-        status = boddurci_open_beside(place, BODDURCI_REDO, writes ? O_RDWR : O_RDONLY, file, fault);
-    *redo = *file;
+    shared->tail.room = 0;
+    uint32_t status = boddurci_open_beside(place, BODDURCI_REDO, writes ? O_RDWR : O_RDONLY, redo, fault);
+    if (writes)
+        disk->files[BODDURCI_REDO] = *redo;
+    else
+        shared->files[BODDURCI_REDO] = *redo;
+    shared->redo = boddurci_inode_of(shared->files[BODDURCI_REDO]);
     return status;
 }
 
@@ -150,7 +168,6 @@ static uint32_t continue_log(boddurci_shared *shared, int redo, const struct bod
     logged->next = note->log;
     logged->epoch = note->epoch;
     logged->is_open = 1;
-    logged->redo.is_known = 0;
     return status;
 }
 
@@ -166,7 +183,7 @@ static uint32_t settle_log(boddurci_shared *shared, boddurci_fault *fault)
     logged->is_open = logged->is_given_up = 0;
     boddurci_no_tail(&shared->tail);
     if (boddurci_open_redo(shared, 1, &redo, &second) == BODDURCI_DONE)
-        noted = redo < 0 ? BODDURCI_UNMARKED : boddurci_find_note(redo, &shared->boot, &note);
+        noted = redo < 0 ? BODDURCI_UNMARKED : boddurci_read_note(redo, boddurci_lock_file(&shared->place), &shared->boot, &note);
     if (noted == BODDURCI_UNMARKED)
         return BODDURCI_DONE;
     enum boddurci_change change = noted == BODDURCI_NOTED ? change_since(&note, shared->notes.files) : BODDURCI_OTHERS;
@@ -178,26 +195,47 @@ static uint32_t settle_log(boddurci_shared *shared, boddurci_fault *fault)
     return status != BODDURCI_DONE || change == BODDURCI_SAME ? status : boddurci_logged_renew(logged, fault);
 }
 
+/* Returns whether the log has a tail, and the data files are not those to which it belongs. */
+static int is_changed_tail(const struct boddurci_place *place, const struct boddurci_log_note *note)
+{
+    struct boddurci_note files[2];
+    if (note->applied == note->log.end)
+        return 0;
+    for (enum boddurci_file file = BODDURCI_PAGES; file <= BODDURCI_DIRECTORY; file++)
+        files[file] = boddurci_state_of(place->folder, place->names[file], 0, 1);
+    return change_since(note, files) != BODDURCI_SAME;
+}
+
 /* Reads the tail of the log for a fetch. Sets *must_recover to 1 if the log must be recovered first. */
 static uint32_t look_at_log(boddurci_shared *shared, int *must_recover, boddurci_fault *fault)
 {
     int redo;
     struct boddurci_log_note note;
-    struct boddurci_note files[2];
     const struct boddurci_place *place = &shared->place;
     uint32_t status = boddurci_open_redo(shared, 0, &redo, fault);
     boddurci_no_tail(&shared->tail);
     if (status != BODDURCI_DONE || redo < 0)
         return status;
-    enum boddurci_noted noted = boddurci_find_note(redo, &shared->boot, &note);
+    enum boddurci_noted noted = boddurci_read_note(redo, place->opened[BODDURCI_LOCK], &shared->boot, &note);
     *must_recover = noted == BODDURCI_UNKNOWN && !boddurci_has_writer(place);
-    if (noted != BODDURCI_NOTED || note.applied == note.log.end)
-        return status;
-    for (enum boddurci_file file = BODDURCI_PAGES; file <= BODDURCI_DIRECTORY; file++)
-        files[file] = boddurci_state_of(place->folder, place->names[file], 0, 1);
-    status = change_since(&note, files) == BODDURCI_SAME ? boddurci_read_tail(shared, redo, &note, fault) : BODDURCI_STALE;
-    *must_recover = status == BODDURCI_STALE;
+    if (noted == BODDURCI_NOTED)
+        status = is_changed_tail(place, &note) ? BODDURCI_STALE : boddurci_read_tail(shared, redo, &note, fault);
+    *must_recover = *must_recover || status == BODDURCI_STALE;
     return *must_recover ? BODDURCI_DONE : status;
+}
+
+/* Returns whether the redo file has the owner, the group and the permissions of .pag. Looks at most once in a clock tick. */
+static int is_alike(boddurci_shared *shared)
+{
+    struct timespec tick = boddurci_tick();
+    struct boddurci_inode redo = boddurci_disk_redo(&shared->logged.disk), *alike = &shared->alike;
+    if (redo.is_known && redo.device == alike->device && redo.number == alike->number && boddurci_is_same_time(tick, shared->alike_at))
+        return 1;
+    if (!boddurci_is_like_pages(&shared->place, shared->logged.disk.files[BODDURCI_REDO]))
+        return 0;
+    *alike = redo;
+    shared->alike_at = tick;
+    return 1;
 }
 
 /* Closes an open log and removes the redo file if it does not have the owner, the group and the permissions of .pag, since other users
@@ -207,7 +245,7 @@ static void remove_unlike(boddurci_shared *shared)
     boddurci_fault unsaid;
     struct boddurci_disk *disk = &shared->logged.disk;
     int redo = disk->files[BODDURCI_REDO];
-    if (!shared->logged.is_open || boddurci_is_like_pages(&shared->place, redo))
+    if (!shared->logged.is_open || is_alike(shared))
         return;
     if (boddurci_apply_tail(shared, &unsaid) != BODDURCI_DONE)
         return;
@@ -447,6 +485,8 @@ uint32_t boddurci_change_page(boddurci_shared *shared, struct boddurci_command *
     uint32_t status = find_files(shared, 1, fault);
     if (status == BODDURCI_DONE)
         status = settle_log(shared, fault);
+    if (status == BODDURCI_DONE && !shared->place.all.are_same)
+        boddurci_note_all_names(&shared->place, shared->notes.files);
     if (status == BODDURCI_DONE)
         status = has_to_exist(shared, fault);
     if (status == BODDURCI_DONE)
@@ -485,6 +525,18 @@ uint32_t boddurci_fetch_page(boddurci_shared *shared, struct boddurci_command *c
     return status;
 }
 
+void boddurci_read_ahead(boddurci_shared *shared)
+{
+    int is_whole;
+    struct part part;
+    boddurci_fault unsaid;
+    const struct boddurci_command command = {.kind = BODDURCI_FETCH, .key = BODDURCI_NO_BYTES};
+    boddurci_no_tail(&shared->tail);
+    if (find_files(shared, 0, &unsaid) == BODDURCI_DONE)
+        (void)!open_page(shared, &command, &part, &is_whole, &unsaid);
+    memset(shared->last, 0, sizeof shared->last);
+}
+
 /* ---- after a call */
 
 static int is_flushed_tail(const struct boddurci_log_note *note)
@@ -500,7 +552,8 @@ static void apply_flushed(boddurci_shared *shared)
     struct boddurci_log_note note;
     if (find_files(shared, 1, &unsaid) != BODDURCI_DONE || boddurci_open_redo(shared, 1, &redo, &unsaid) != BODDURCI_DONE || redo < 0)
         return;
-    if (boddurci_find_note(redo, &shared->boot, &note) != BODDURCI_NOTED || !is_flushed_tail(&note))
+    int lock = shared->place.opened[BODDURCI_LOCK];
+    if (boddurci_read_note(redo, lock, &shared->boot, &note) != BODDURCI_NOTED || !is_flushed_tail(&note))
         return;
     if (change_since(&note, shared->notes.files) == BODDURCI_SAME && continue_log(shared, redo, &note, &unsaid) == BODDURCI_DONE)
         (void)!boddurci_apply_tail(shared, &unsaid);
@@ -510,7 +563,8 @@ void boddurci_try_to_apply(boddurci_shared *shared)
 {
     struct boddurci_log_note note;
     int redo = shared->logged.disk.files[BODDURCI_REDO];
-    if (redo < 0 || boddurci_look_at_note(redo, &shared->boot, &note) != BODDURCI_NOTED || !is_flushed_tail(&note))
+    int lock = shared->place.opened[BODDURCI_LOCK];
+    if (redo < 0 || boddurci_look_at_note(redo, lock, &shared->boot, &note) != BODDURCI_NOTED || !is_flushed_tail(&note))
         return;
     if (!boddurci_try_change(&shared->place))
         return;

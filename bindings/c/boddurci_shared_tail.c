@@ -4,6 +4,7 @@
 #include "boddurci_shared_base.h"
 #include <errno.h>
 #include <fcntl.h>
+#include <sched.h>
 #include <stdlib.h>
 #include <string.h>
 #include <sys/file.h>
@@ -27,39 +28,66 @@ static void begin_plan(struct boddurci_tail *tail)
     tail->length = 0;
     tail->plan_epoch = tail->epoch;
     tail->from = tail->joined = tail->applied;
+    tail->changes_directory = 0;
 }
 
-/* Joins the records at the end of the tail that are not in the joined plan yet. The bytes of shared->plan are lost if there are such
- * records. */
-static uint32_t catch_up(boddurci_shared *shared, int redo, boddurci_fault *fault)
+/* Returns whether the plan of a record may change a byte of .dir. */
+static int changes_directory(boddurci_shared *shared, const uint8_t *record, size_t length)
 {
+    enum { NEW_LENGTH = 12 };
+    uint32_t is_touched = 0;
+    const uint8_t *plan = record + HEAD;
+    uint64_t whole = boddurci_number_at(plan + NEW_LENGTH);
+    size_t part = whole < BODDURCI_SHORT_DIRECTORY ? (size_t)whole : BODDURCI_SHORT_DIRECTORY;
+    uint32_t status = boddurci_log_lay(plan, length - HEAD, BODDURCI_DIRECTORY, 0, shared->directory, part, &is_touched);
+    return status != BODDURCI_DONE || is_touched || whole > part;
+}
+
+/* Joins the plans of the records in shared->plan, which begin where the joined plan ends. */
+static uint32_t join(boddurci_shared *shared, size_t length)
+{
+    size_t used = 0;
     struct boddurci_tail *tail = &shared->tail;
-    size_t length = tail->end - tail->joined, used = 0;
     uint8_t *plan = tail->bytes + BODDURCI_PLAN_AT;
-    if (length != 0 && boddurci_read_at(redo, BODDURCI_RECORDS_AT + tail->joined, shared->plan, length) != 0)
-        return boddurci_fail_by_system(fault, "BASE.redo cannot be read");
-    for (size_t at = 0; at < length; at += used)
-        if (boddurci_log_join(plan, BODDURCI_TAIL_MOST, &tail->length, shared->plan + at, length - at, &used) != BODDURCI_DONE) {
+    for (size_t at = 0; at < length; at += used) {
+        const uint8_t *record = shared->plan + at;
+        if (boddurci_log_join(plan, BODDURCI_TAIL_MOST, &tail->length, record, length - at, &used) != BODDURCI_DONE) {
             begin_plan(tail);
             return BODDURCI_STALE;
         }
+        tail->changes_directory = tail->changes_directory || changes_directory(shared, record, used);
+    }
     tail->joined = tail->end;
     return BODDURCI_DONE;
 }
 
-/* Joins the plans of all records of the tail. */
-static uint32_t join_tail(boddurci_shared *shared, int redo, boddurci_fault *fault)
+/* Begins a new joined plan if the present one is not of this tail. */
+static uint32_t prepare_plan(struct boddurci_tail *tail, boddurci_fault *fault)
 {
-    struct boddurci_tail *tail = &shared->tail;
-    if (!boddurci_has_tail(tail))
-        return BODDURCI_DONE;
     if (tail->end - tail->applied > BODDURCI_TAIL_MOST)
         return BODDURCI_STALE;
     if (tail->bytes == NULL && (tail->bytes = malloc(BODDURCI_PLAN_AT + BODDURCI_TAIL_MOST)) == NULL)
         return boddurci_no_memory(fault);
     if (tail->length == 0 || tail->plan_epoch != tail->epoch || tail->from != tail->applied || tail->joined > tail->end)
         begin_plan(tail);
-    return catch_up(shared, redo, fault);
+    return BODDURCI_DONE;
+}
+
+/* Joins the plans of all records of the tail, and checks that no record follows. Reads only the records that are not in the joined plan yet.
+ * The bytes of shared->plan and shared->directory are lost. */
+static uint32_t join_tail(boddurci_shared *shared, int redo, boddurci_fault *fault)
+{
+    struct boddurci_tail *tail = &shared->tail;
+    int has_tail = boddurci_has_tail(tail);
+    uint32_t status = has_tail ? prepare_plan(tail, fault) : BODDURCI_DONE;
+    if (status != BODDURCI_DONE)
+        return status;
+    size_t from = has_tail ? tail->joined : tail->end, length = tail->end - from;
+    if (boddurci_read_at(redo, BODDURCI_RECORDS_AT + from, shared->plan, length + BODDURCI_NEXT) != 0)
+        return boddurci_fail_by_system(fault, "BASE.redo cannot be read");
+    if (boddurci_has_next(shared->plan + length))
+        return BODDURCI_STALE;
+    return has_tail ? join(shared, length) : BODDURCI_DONE;
 }
 
 uint32_t boddurci_read_tail(boddurci_shared *shared, int redo, const struct boddurci_log_note *note, boddurci_fault *fault)
@@ -70,13 +98,16 @@ uint32_t boddurci_read_tail(boddurci_shared *shared, int redo, const struct bodd
     tail->end = note->log.end;
     tail->flushed = note->flushed;
     tail->is_shared = note->is_shared;
+    if (tail->room != note->log.room && !boddurci_has_room(redo, note))
+        return BODDURCI_STALE;
+    tail->room = note->log.room;
     return join_tail(shared, redo, fault);
 }
 
 int boddurci_lay_tail(struct boddurci_tail *tail, enum boddurci_file file, size_t from, uint8_t *part, size_t length)
 {
     uint32_t is_touched = 0;
-    if (!boddurci_has_tail(tail))
+    if (!boddurci_has_tail(tail) || (file == BODDURCI_DIRECTORY && !tail->changes_directory))
         return 0;
     if (boddurci_log_lay(tail->bytes + BODDURCI_PLAN_AT, tail->length, file, from, part, length, &is_touched) != BODDURCI_DONE) {
         errno = EIO;
@@ -88,13 +119,26 @@ int boddurci_lay_tail(struct boddurci_tail *tail, enum boddurci_file file, size_
 
 /* ---- saving */
 
-void boddurci_leave_note(boddurci_shared *shared)
+/* Notes the state of both data files after this call has written them. */
+static void note_written(boddurci_shared *shared)
+{
+    const struct boddurci_place *place = &shared->place;
+    for (enum boddurci_file file = BODDURCI_PAGES; file <= BODDURCI_DIRECTORY; file++) {
+        int opened = shared->logged.disk.files[file], folder = opened >= 0 ? opened : place->folder;
+        const char *name = opened >= 0 ? "" : place->names[file];
+        shared->notes.files[file] = boddurci_state_of(folder, name, opened >= 0 ? AT_EMPTY_PATH : 0, 1);
+    }
+}
+
+/* Leaves a note for the next call, with the noted state of the data files. Closes the log instead in two cases: if another program has written during this call, since the records
+ * may not belong to these files, or if the boot id is unknown, since a note is valid for one boot only. If this fails, the next call recovers
+ * the files. */
+static void leave_note(boddurci_shared *shared)
 {
     boddurci_fault unsaid;
     struct boddurci_logged *logged = &shared->logged;
     struct boddurci_tail *tail = &shared->tail;
     struct boddurci_log_note note = {.log = logged->next, .applied = tail->applied};
-    struct boddurci_note files[2];
     boddurci_settle_locks(&shared->place);
     if (!boddurci_logged_is_marked(logged))
         return;
@@ -102,18 +146,15 @@ void boddurci_leave_note(boddurci_shared *shared)
         (void)!boddurci_logged_renew(logged, &unsaid);
         return;
     }
-    for (enum boddurci_file file = BODDURCI_PAGES; file <= BODDURCI_DIRECTORY; file++) {
-        int opened = logged->disk.files[file];
-        if (opened >= 0)
-            files[file] = boddurci_state_of(opened, "", AT_EMPTY_PATH, 1);
-        else
-            files[file] = boddurci_state_of(shared->place.folder, shared->place.names[file], 0, 1);
-    }
-    if (logged->epoch == 0)
+    int redo = logged->disk.files[BODDURCI_REDO], is_new = logged->epoch == 0;
+    if (is_new)
         logged->epoch = boddurci_new_epoch();
     note.epoch = tail->epoch = logged->epoch;
     tail->end = logged->next.end;
-    (void)!boddurci_put_note(logged->disk.files[BODDURCI_REDO], &shared->boot, &note, files);
+    int is_put = boddurci_put_note(shared->place.opened[BODDURCI_LOCK], &shared->boot, &note, shared->notes.files) == 0;
+    is_put = is_put && (!is_new || boddurci_put_epoch(redo, note.epoch) == 0);
+    if (!is_put && tail->applied == tail->end)
+        (void)!boddurci_logged_renew(logged, &unsaid);
 }
 
 uint32_t boddurci_apply_tail(boddurci_shared *shared, boddurci_fault *fault)
@@ -122,7 +163,8 @@ uint32_t boddurci_apply_tail(boddurci_shared *shared, boddurci_fault *fault)
     struct boddurci_logged *logged = &shared->logged;
     if (!boddurci_has_tail(tail))
         return BODDURCI_DONE;
-    uint32_t status = join_tail(shared, logged->disk.files[BODDURCI_REDO], fault);
+    /* If this call has a plan in shared->plan, all records are joined already. */
+    uint32_t status = tail->joined < tail->end ? join_tail(shared, logged->disk.files[BODDURCI_REDO], fault) : BODDURCI_DONE;
     if (status == BODDURCI_STALE)
         return boddurci_fail(fault, BODDURCI_BAD_REDO, 0, boddurci_files_text(BODDURCI_BAD_REDO));
     shared->notes.is_overtaken = 0;
@@ -135,9 +177,8 @@ uint32_t boddurci_apply_tail(boddurci_shared *shared, boddurci_fault *fault)
         return status;
     tail->applied = tail->flushed = tail->end;
     tail->owed = tail->length = 0;
-    boddurci_leave_note(shared);
-    for (enum boddurci_file file = BODDURCI_PAGES; file <= BODDURCI_DIRECTORY; file++)
-        shared->notes.files[file] = boddurci_state_of(shared->place.folder, shared->place.names[file], 0, 1);
+    note_written(shared);
+    leave_note(shared);
     return status;
 }
 
@@ -176,9 +217,11 @@ static uint32_t append(boddurci_shared *shared, struct boddurci_bytes plan, int 
         return status;
     shared->notes.is_overtaken = 0;
     status = boddurci_logged_append(logged, plan, is_appended, fault);
-    /* A refused append may have changed the times of the data files. */
+    /* Even a refused append may have changed the times of the data files. */
+    if (logged->disk.has_reserved)
+        note_written(shared);
     if (*is_appended || status != BODDURCI_DONE)
-        boddurci_leave_note(shared);
+        leave_note(shared);
     if (*is_appended && !(shared->flags & BODDURCI_NO_FLUSH))
         tail->owed = tail->end;
     return status;
@@ -194,8 +237,10 @@ static uint32_t save(boddurci_shared *shared, struct boddurci_bytes plan, boddur
     shared->notes.is_overtaken = 0;
     status = boddurci_logged_save(&shared->logged, plan, &is_left, fault);
     shared->tail.applied = shared->tail.end = shared->logged.next.end;
-    if (status == BODDURCI_DONE && !is_left)
-        boddurci_leave_note(shared);
+    if (status == BODDURCI_DONE && !is_left) {
+        note_written(shared);
+        leave_note(shared);
+    }
     return status;
 }
 
@@ -219,47 +264,75 @@ void boddurci_owe_tail(boddurci_shared *shared)
         tail->owed = tail->end;
 }
 
-/* Writes the flushed end. A fetch has the redo file open for reading only, so the file is opened again if necessary. Preserves errno. */
-static void put_flushed(const boddurci_shared *shared, int redo, uint64_t epoch, uint64_t end)
+/* Writes the flushed end. A lock may be open for reading only, so the file is opened again if necessary. Preserves errno. */
+static void put_flushed(const boddurci_shared *shared, uint64_t epoch, uint64_t end)
 {
     boddurci_fault unsaid;
     int system = errno, opened = -1;
-    if (boddurci_put_flushed(redo, epoch, end) != 0 && errno == EBADF &&
-        boddurci_open_beside(&shared->place, BODDURCI_REDO, O_RDWR, &opened, &unsaid) == BODDURCI_DONE && opened >= 0)
+    if (boddurci_put_flushed(shared->place.opened[BODDURCI_LOCK], epoch, end) != 0 && errno == EBADF &&
+        boddurci_open_beside(&shared->place, BODDURCI_LOCK, O_RDWR, &opened, &unsaid) == BODDURCI_DONE && opened >= 0)
         (void)!boddurci_put_flushed(opened, epoch, end);
     if (opened >= 0)
         close(opened);
     errno = system;
 }
 
-/* Flushes a log up to `end`, unless that is done, for a process that holds the lock of the redo file. If the log was emptied or recovered
- * meanwhile, all its former records are durable. After a failed flush the next call recovers the log, since a further flush might succeed
- * without writing the lost bytes. */
+/* Returns whether the records of a log up to `end` are flushed, as its notes say. Sets the note, and *noted to its kind. If the log was
+ * emptied or recovered meanwhile, all its former records are durable. */
+static int is_flushed(const boddurci_shared *shared, int redo, uint64_t epoch, size_t end, enum boddurci_noted *noted,
+                      struct boddurci_log_note *note)
+{
+    *noted = boddurci_look_at_note(redo, shared->place.opened[BODDURCI_LOCK], &shared->boot, note);
+    if (*noted != BODDURCI_NOTED)
+        return *noted == BODDURCI_UNMARKED;
+    return note->epoch != epoch || (note->flushed >= end && note->flushed != BODDURCI_FLUSH_FAILED);
+}
+
+/* Flushes a log up to `end`, unless that is done, for a process that holds the lock of the redo file. After a failed flush the next call
+ * recovers the log, since a further flush might succeed without writing the lost bytes. */
 static int flush_alone(const boddurci_shared *shared, int redo, uint64_t epoch, size_t end)
 {
+    enum boddurci_noted noted;
     struct boddurci_log_note note;
-    enum boddurci_noted noted = boddurci_look_at_note(redo, &shared->boot, &note);
-    if (noted == BODDURCI_UNMARKED || (noted == BODDURCI_NOTED && note.epoch != epoch))
+    if (is_flushed(shared, redo, epoch, end, &noted, &note))
         return 0;
-    int has_failed = noted == BODDURCI_NOTED && note.flushed == BODDURCI_FLUSH_FAILED;
-    if (noted == BODDURCI_NOTED && !has_failed && note.flushed >= end)
-        return 0;
-    if (has_failed) {
+    if (noted == BODDURCI_NOTED && note.flushed == BODDURCI_FLUSH_FAILED) {
         errno = EIO;
         return -1;
     }
     int status = boddurci_keep_opened(redo);
     if (status != 0 || noted == BODDURCI_NOTED)
-        put_flushed(shared, redo, epoch, status != 0 ? BODDURCI_FLUSH_FAILED : note.log.end);
+        put_flushed(shared, epoch, status != 0 ? BODDURCI_FLUSH_FAILED : note.log.end);
     return status;
+}
+
+/* Waits while another process flushes: until the records up to `end` are flushed, or this process has the lock of the redo file. At first it
+ * polls, since a flush often takes less time than to wake a process. Sets *is_locked to 1 if it took the lock. Returns 1 if the records are
+ * flushed. */
+static int wait_for_flush(const boddurci_shared *shared, int redo, uint64_t epoch, size_t end, int *is_locked)
+{
+    enum { TRIES = 400 };
+    enum boddurci_noted noted;
+    struct boddurci_log_note note;
+    for (int tries = 0; tries < TRIES; tries++) {
+        *is_locked = flock(redo, LOCK_EX | LOCK_NB) == 0;
+        if (*is_locked || errno != EWOULDBLOCK)
+            return 0;
+        sched_yield();
+        if (is_flushed(shared, redo, epoch, end, &noted, &note))
+            return 1;
+    }
+    do
+        *is_locked = flock(redo, LOCK_EX) == 0;
+    while (!*is_locked && errno == EINTR);
+    return 0;
 }
 
 uint32_t boddurci_flush_log(boddurci_shared *shared, int redo, uint64_t epoch, size_t end, boddurci_fault *fault)
 {
     int is_locked;
-    do
-        is_locked = flock(redo, LOCK_EX) == 0;
-    while (!is_locked && errno == EINTR);
+    if (wait_for_flush(shared, redo, epoch, end, &is_locked))
+        return boddurci_no_fault(fault);
     int status = flush_alone(shared, redo, epoch, end), system = errno;
     if (is_locked)
         flock(redo, LOCK_UN);
@@ -274,7 +347,7 @@ uint32_t boddurci_flush_all(boddurci_shared *shared, boddurci_fault *fault)
     uint32_t status = boddurci_open_redo(shared, 0, &redo, fault);
     enum boddurci_noted noted = BODDURCI_UNMARKED;
     if (status == BODDURCI_DONE && redo >= 0)
-        noted = boddurci_look_at_note(redo, &shared->boot, &note);
+        noted = boddurci_look_at_note(redo, boddurci_lock_file(&shared->place), &shared->boot, &note);
     if (noted == BODDURCI_NOTED)
         status = boddurci_flush_log(shared, redo, note.epoch, note.log.end, fault);
     else if (noted == BODDURCI_UNKNOWN && boddurci_keep_opened(redo) != 0)

@@ -3,7 +3,6 @@
 #include "boddurci_saves.h"
 #include <errno.h>
 #include <string.h>
-#include <sys/resource.h>
 
 static enum boddurci_file file_of(const boddurci_step *step)
 {
@@ -69,19 +68,11 @@ int boddurci_is_within_limits(const struct boddurci_steps *steps)
     return 1;
 }
 
-/* Returns the greatest length of a file that this process may write (RLIMIT_FSIZE). */
-static uint64_t most_bytes(void)
-{
-    struct rlimit most;
-    return getrlimit(RLIMIT_FSIZE, &most) == 0 && most.rlim_cur != RLIM_INFINITY ? most.rlim_cur : UINT64_MAX;
-}
-
 int boddurci_may_write(struct boddurci_disk *disk, const struct boddurci_steps *steps)
 {
-    uint64_t most = most_bytes();
     for (size_t i = 0; i < steps->count; i++) {
         const boddurci_step *step = &steps->at[i];
-        if (step->kind == BODDURCI_SYNC || step->at + step->length <= most)
+        if (step->kind == BODDURCI_SYNC || step->at + step->length <= disk->most)
             continue;
         disk->last = file_of(step);
         errno = EFBIG;
@@ -154,7 +145,7 @@ static int try_behind(struct boddurci_disk *disk, uint64_t size)
     uint64_t length;
     if (boddurci_disk_length(disk, BODDURCI_REDO, &length) != 0)
         return -1;
-    if (length + size > most_bytes())
+    if (length + size > disk->most)
         return 0;
     int status = boddurci_disk_reserve(disk, BODDURCI_REDO, length, size);
     if (status > 0)

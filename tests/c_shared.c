@@ -494,8 +494,12 @@ static void change_boot(const char *base)
     struct bytes lock = read_file(base, ".lock");
     EXPECT(is_marked(base) && lock.length >= CHECK + 8 && memcmp(lock.at, "sdbmnot4", 8) == 0);
     lock.at[BOOT] ^= 1;
-    for (int i = 0; i < CHECK; i++)
-        check = (check ^ lock.at[i]) * 1099511628211u;
+    for (int i = 0; i < CHECK; i += 8) {
+        uint64_t word = 0;
+        for (int k = 8; k > 0; k--)
+            word = word << 8 | lock.at[i + k - 1];
+        check = (check ^ word) * 1099511628211u;
+    }
     for (int i = 0; i < 8; i++)
         lock.at[CHECK + i] = (uint8_t)(check >> 8 * i);
     write_file(base, ".lock", lock.at, lock.length);

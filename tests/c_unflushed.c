@@ -129,8 +129,8 @@ static void put_word(uint8_t *bytes, uint64_t word)
 static void put_check(uint8_t *bytes, size_t length)
 {
     uint64_t check = 14695981039346656037u;
-    for (size_t i = 0; i < length; i++)
-        check = (check ^ bytes[i]) * 1099511628211u;
+    for (size_t i = 0; i < length; i += 8)
+        check = (check ^ word_of(bytes + i)) * 1099511628211u;
     put_word(bytes + length, check);
 }
 
@@ -380,6 +380,9 @@ static void test_waiting(void)
     }
     EXPECT(flock(redo, LOCK_UN) == 0 && pthread_join(thread, &why) == 0 && why == NULL);
     EXPECT(stores(now, "a", "4") && has(now, "a", "4") && kill(child, SIGKILL) == 0 && waitpid(child, &status, 0) == child);
+    /* If a stopped process holds the lock of the redo file, a call flushes without it. */
+    EXPECT(flock(redo, LOCK_EX) == 0 && stores(later, "a", "5") && stores(now, "a", "6") && has(now, "a", "6"));
+    EXPECT(word_at("waiting", FLUSHED + 8) == word_at("waiting", END));
     close(redo);
     boddurci_close_shared(later);
     boddurci_close_shared(now);

@@ -50,12 +50,12 @@ static void put_word(uint8_t *bytes, uint64_t word)
         bytes[i] = (uint8_t)(word >> 8 * i);
 }
 
-/* Returns the FNV-1a hash of the words of a note, by which a partly written note is detected. */
+/* Returns a hash of the words of a note, by which a partly written note is detected: that of FNV-1a, with words instead of bytes. */
 static uint64_t check_of(const uint8_t *bytes, int words)
 {
     uint64_t check = 14695981039346656037u;
-    for (int i = 0; i < words * WORD; i++)
-        check = (check ^ bytes[i]) * 1099511628211u;
+    for (int i = 0; i < words; i++)
+        check = (check ^ word_at(bytes + i * WORD)) * 1099511628211u;
     return check;
 }
 

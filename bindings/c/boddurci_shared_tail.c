@@ -151,8 +151,10 @@ static void leave_note(boddurci_shared *shared)
         logged->epoch = boddurci_new_epoch();
     note.epoch = tail->epoch = logged->epoch;
     tail->end = logged->next.end;
-    int is_put = boddurci_put_note(shared->place.opened[BODDURCI_LOCK], &shared->boot, &note, shared->notes.files) == 0;
-    is_put = is_put && (!is_new || boddurci_put_epoch(redo, note.epoch) == 0);
+    int lock = shared->place.opened[BODDURCI_LOCK];
+    int is_put = boddurci_put_note(lock, &shared->boot, &note, shared->notes.files) == 0;
+    if (is_put && is_new)
+        is_put = boddurci_put_flushed(lock, note.epoch, note.applied) == 0 && boddurci_put_epoch(redo, note.epoch) == 0;
     if (!is_put && tail->applied == tail->end)
         (void)!boddurci_logged_renew(logged, &unsaid);
 }
@@ -288,7 +290,7 @@ static int is_flushed(const boddurci_shared *shared, int redo, uint64_t epoch, s
     return note->epoch != epoch || (note->flushed >= end && note->flushed != BODDURCI_FLUSH_FAILED);
 }
 
-/* Flushes a log up to `end`, unless that is done, for a process that holds the lock of the redo file. After a failed flush the next call
+/* Flushes a log up to `end`, unless that is done, for a process that holds the lock of the redo file or has waited long for it. After a failed flush the next call
  * recovers the log, since a further flush might succeed without writing the lost bytes. */
 static int flush_alone(const boddurci_shared *shared, int redo, uint64_t epoch, size_t end)
 {
@@ -307,24 +309,25 @@ static int flush_alone(const boddurci_shared *shared, int redo, uint64_t epoch, 
 }
 
 /* Waits while another process flushes: until the records up to `end` are flushed, or this process has the lock of the redo file. At first it
- * polls, since a flush often takes less time than to wake a process. Sets *is_locked to 1 if it took the lock. Returns 1 if the records are
- * flushed. */
+ * polls, since a flush often takes less time than to wake a process. After half a second it flushes without the lock, since the other process
+ * may be stopped. Sets *is_locked to 1 if it took the lock. Returns 1 if the records are flushed. */
 static int wait_for_flush(const boddurci_shared *shared, int redo, uint64_t epoch, size_t end, int *is_locked)
 {
-    enum { TRIES = 400 };
+    enum { POLLS = 400, RESTS = 1000 };
+    static const struct timespec moment = {0, 500000};
     enum boddurci_noted noted;
     struct boddurci_log_note note;
-    for (int tries = 0; tries < TRIES; tries++) {
+    for (int tries = 0; tries < POLLS + RESTS; tries++) {
         *is_locked = flock(redo, LOCK_EX | LOCK_NB) == 0;
         if (*is_locked || errno != EWOULDBLOCK)
             return 0;
-        sched_yield();
+        if (tries < POLLS)
+            sched_yield();
+        else
+            nanosleep(&moment, NULL);
         if (is_flushed(shared, redo, epoch, end, &noted, &note))
             return 1;
     }
-    do
-        *is_locked = flock(redo, LOCK_EX) == 0;
-    while (!*is_locked && errno == EINTR);
     return 0;
 }
 

@@ -246,8 +246,8 @@ void boddurci_close_files(boddurci_base *base);
  *
  * Other programs. A program that does not know the locks, such as Perl's SDBM_File, may write between two calls, and the next call reads
  * the written data. It must not write during a call: the call would not notice the write before its commit. A write that keeps the lengths,
- * within the same tick of the clock as the last call, may remain unnoticed too. (A tick has some milliseconds on systems without
- * fine-grained times.) Such a program sees the last changes with NO_FLUSH, and those of processes that wait for each other, only after a
+ * within the same tick of the clock as the last call, may remain unnoticed too. (A tick has some
+ * milliseconds.) Such a program sees the last changes with NO_FLUSH, and those of processes that wait for each other, only after a
  * flush while no other call is in progress. It must not write before that flush: the next call might return BAD_REDO.
  *
  * Time. The caller of boddurci_shared_run sets `now` before the call waits for the locks, so `now` may be in the past when the program runs,

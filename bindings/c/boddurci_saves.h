@@ -619,8 +619,8 @@ struct boddurci_boot {
 void boddurci_boot_of_system(struct boddurci_boot *boot);
 
 /* A note about the log: the place of the next record, and the end of the records that are applied to both data files. The records
- * after it are the tail of the log. The note has the state of each data file: its device, inode, length and time of the last change, or zeros
- * if the file was missing. Data files are written only when all records are flushed. */
+ * after it are the tail of the log. The note has the state of each data file: its device, inode, length, and a time after which the library has
+ * not changed it, or zeros if the file was missing. Data files are written only when all records are flushed. */
 struct boddurci_log_note {
     boddurci_log log;
     size_t applied;   /* the end of the applied records */
@@ -653,9 +653,12 @@ int boddurci_has_next(const uint8_t next[BODDURCI_NEXT]);
  * request, some file systems set new times at the next write. */
 struct boddurci_note boddurci_state_of(int folder, const char *name, int how, int has_times);
 
-/* Returns how the data files differ from the state in a note: SAME; WRITTEN if a program that does not know the log has written them; or
- * OTHERS for other files. */
+/* Returns how the data files differ from the state in a note: SAME; WRITTEN if a program that does not know the log has written them, since
+ * a length differs or a time is later; or OTHERS for other files. A time of 0 was not read. */
 enum boddurci_change boddurci_change_since(const struct boddurci_log_note *note, const struct boddurci_note files[2]);
+
+/* Sets the noted times of both data files, and the latest time, to those in a note. */
+void boddurci_take_times(const struct boddurci_log_note *note, struct boddurci_notes *notes);
 
 /* Returns whether a note says that all records of an open redo file are applied to the data files under the names. If so, sets the place of
  * the next record. */

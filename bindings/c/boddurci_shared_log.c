@@ -82,7 +82,7 @@ static uint64_t nanoseconds(struct timespec time)
     return (uint64_t)time.tv_sec * 1000000000u + (uint64_t)time.tv_nsec;
 }
 
-/* Sets four words to the state of a file, or to zeros if it is missing. */
+/* Sets four words to the state of a file, or to zeros if it is missing. The time is 0 if it was not read. */
 static void put_state(uint64_t words[4], const struct boddurci_note *state)
 {
     memset(words, 0, 4 * sizeof *words);
@@ -208,10 +208,23 @@ enum boddurci_change boddurci_change_since(const struct boddurci_log_note *note,
         put_state(is, &files[file]);
         if (is[0] != was[0] || is[1] != was[1])
             return BODDURCI_OTHERS;
-        if (is[2] != was[2] || is[3] != was[3])
+        if (is[2] != was[2] || is[3] > was[3])
             change = BODDURCI_WRITTEN;
     }
     return change;
+}
+
+void boddurci_take_times(const struct boddurci_log_note *note, struct boddurci_notes *notes)
+{
+    enum { SECOND = 1000000000 };
+    uint64_t latest = 0;
+    for (enum boddurci_file file = BODDURCI_PAGES; file <= BODDURCI_DIRECTORY; file++) {
+        uint64_t time = note->states[4 * file + 3];
+        latest = time > latest ? time : latest;
+        notes->files[file].changed = (struct timespec){(time_t)(time / SECOND), (long)(time % SECOND)};
+        notes->files[file].written = notes->files[file].changed;
+    }
+    notes->latest = (struct timespec){(time_t)(latest / SECOND), (long)(latest % SECOND)};
 }
 
 int boddurci_is_applied(const struct boddurci_place *place, int redo, boddurci_log *log)

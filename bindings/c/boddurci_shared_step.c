@@ -78,12 +78,27 @@ static struct boddurci_note state_of(const struct boddurci_place *place, enum bo
     return boddurci_state_of(place->folder, place->names[file], 0, has_times);
 }
 
+/* Returns whether a call has to read the times of the data files: the handle has not done so within this clock tick. After a look at the
+ * times of a file, the system sets new times at the next write. Then the inodes have to be written too, and on some file systems each sync of
+ * the log waits for that. */
+static int needs_times(boddurci_shared *shared)
+{
+    struct boddurci_notes *notes = &shared->notes;
+    struct timespec tick = boddurci_tick();
+    notes->is_quick = notes->is_local && boddurci_is_same_time(tick, notes->tick);
+    if (!notes->is_quick)
+        notes->tick = tick;
+    return !notes->is_quick;
+}
+
 /* Reads the state of the data files under their names, and opens these files unless they are already open. Another program may have
  * replaced the files that were open. */
 static uint32_t find_files(boddurci_shared *shared, int has_times, boddurci_fault *fault)
 {
     enum { TRIES = 3 };
+    static const struct timespec never = {0, 0};
     uint32_t status = BODDURCI_DONE;
+    shared->notes.latest = never;
     for (int tries = 0; status == BODDURCI_DONE; tries++) {
         for (enum boddurci_file file = BODDURCI_PAGES; file <= BODDURCI_DIRECTORY; file++)
             shared->notes.files[file] = state_of(&shared->place, file, has_times);
@@ -147,6 +162,7 @@ static uint32_t recover(boddurci_shared *shared, boddurci_fault *fault)
     logged->is_open = 0;
     boddurci_disk_drop(&logged->disk, BODDURCI_REDO);
     uint32_t status = boddurci_logged_recover(logged, 0, &is_ended, fault);
+    shared->notes.is_quick = 0;
     return status == BODDURCI_DONE ? find_files(shared, 1, fault) : status;
 }
 
@@ -158,13 +174,15 @@ static enum boddurci_change change_since(const struct boddurci_log_note *note, c
     return change != BODDURCI_SAME && note->applied != note->log.end ? BODDURCI_OTHERS : change;
 }
 
-/* Continues the log that a note describes. */
-static uint32_t continue_log(boddurci_shared *shared, int redo, const struct boddurci_log_note *note, boddurci_fault *fault)
+/* Continues the log that a note describes. If the data files have not changed since, their times are those in the note. */
+static uint32_t continue_log(boddurci_shared *shared, int redo, const struct boddurci_log_note *note, int are_same, boddurci_fault *fault)
 {
     struct boddurci_logged *logged = &shared->logged;
     uint32_t status = boddurci_read_tail(shared, redo, note, fault);
     if (status != BODDURCI_DONE)
         return status;
+    if (are_same)
+        boddurci_take_times(note, &shared->notes);
     logged->next = note->log;
     logged->epoch = note->epoch;
     logged->is_open = 1;
@@ -185,24 +203,28 @@ static uint32_t settle_log(boddurci_shared *shared, boddurci_fault *fault)
     if (boddurci_open_redo(shared, 1, &redo, &second) == BODDURCI_DONE)
         noted = redo < 0 ? BODDURCI_UNMARKED : boddurci_read_note(redo, boddurci_lock_file(&shared->place), &shared->boot, &note);
     if (noted == BODDURCI_UNMARKED)
-        return BODDURCI_DONE;
+        return shared->notes.is_quick ? find_files(shared, 1, fault) : BODDURCI_DONE;
     enum boddurci_change change = noted == BODDURCI_NOTED ? change_since(&note, shared->notes.files) : BODDURCI_OTHERS;
-    uint32_t status = change != BODDURCI_OTHERS ? continue_log(shared, redo, &note, fault) : BODDURCI_STALE;
+    uint32_t status = change != BODDURCI_OTHERS ? continue_log(shared, redo, &note, change == BODDURCI_SAME, fault) : BODDURCI_STALE;
     if (status == BODDURCI_STALE) {
         boddurci_no_tail(&shared->tail);
         return recover(shared, fault);
     }
-    return status != BODDURCI_DONE || change == BODDURCI_SAME ? status : boddurci_logged_renew(logged, fault);
+    if (status != BODDURCI_DONE || change == BODDURCI_SAME)
+        return status;
+    status = boddurci_logged_renew(logged, fault);
+    return status == BODDURCI_DONE && shared->notes.is_quick ? find_files(shared, 1, fault) : status;
 }
 
 /* Returns whether the log has a tail, and the data files are not those to which it belongs. */
-static int is_changed_tail(const struct boddurci_place *place, const struct boddurci_log_note *note)
+static int is_changed_tail(boddurci_shared *shared, const struct boddurci_log_note *note)
 {
     struct boddurci_note files[2];
     if (note->applied == note->log.end)
         return 0;
+    int has_times = needs_times(shared);
     for (enum boddurci_file file = BODDURCI_PAGES; file <= BODDURCI_DIRECTORY; file++)
-        files[file] = boddurci_state_of(place->folder, place->names[file], 0, 1);
+        files[file] = state_of(&shared->place, file, has_times);
     return change_since(note, files) != BODDURCI_SAME;
 }
 
@@ -219,7 +241,7 @@ static uint32_t look_at_log(boddurci_shared *shared, int *must_recover, boddurci
     enum boddurci_noted noted = boddurci_read_note(redo, place->opened[BODDURCI_LOCK], &shared->boot, &note);
     *must_recover = noted == BODDURCI_UNKNOWN && !boddurci_has_writer(place);
     if (noted == BODDURCI_NOTED)
-        status = is_changed_tail(place, &note) ? BODDURCI_STALE : boddurci_read_tail(shared, redo, &note, fault);
+        status = is_changed_tail(shared, &note) ? BODDURCI_STALE : boddurci_read_tail(shared, redo, &note, fault);
     *must_recover = *must_recover || status == BODDURCI_STALE;
     return *must_recover ? BODDURCI_DONE : status;
 }
@@ -482,7 +504,7 @@ uint32_t boddurci_change_page(boddurci_shared *shared, struct boddurci_command *
     shared->tail.owed = 0;
     shared->tail.is_touched = 0;
     boddurci_hold_signal(&shared->logged.disk);
-    uint32_t status = find_files(shared, 1, fault);
+    uint32_t status = find_files(shared, needs_times(shared), fault);
     if (status == BODDURCI_DONE)
         status = settle_log(shared, fault);
     if (status == BODDURCI_DONE && !shared->place.all.are_same)
@@ -532,6 +554,7 @@ void boddurci_read_ahead(boddurci_shared *shared)
     boddurci_fault unsaid;
     const struct boddurci_command command = {.kind = BODDURCI_FETCH, .key = BODDURCI_NO_BYTES};
     boddurci_no_tail(&shared->tail);
+    boddurci_note_system(&shared->notes, &shared->place);
     if (find_files(shared, 0, &unsaid) == BODDURCI_DONE)
         (void)!open_page(shared, &command, &part, &is_whole, &unsaid);
     memset(shared->last, 0, sizeof shared->last);
@@ -550,12 +573,12 @@ static void apply_flushed(boddurci_shared *shared)
     int redo;
     boddurci_fault unsaid;
     struct boddurci_log_note note;
-    if (find_files(shared, 1, &unsaid) != BODDURCI_DONE || boddurci_open_redo(shared, 1, &redo, &unsaid) != BODDURCI_DONE || redo < 0)
+    if (find_files(shared, needs_times(shared), &unsaid) != BODDURCI_DONE || boddurci_open_redo(shared, 1, &redo, &unsaid) != BODDURCI_DONE || redo < 0)
         return;
     int lock = shared->place.opened[BODDURCI_LOCK];
     if (boddurci_read_note(redo, lock, &shared->boot, &note) != BODDURCI_NOTED || !is_flushed_tail(&note))
         return;
-    if (change_since(&note, shared->notes.files) == BODDURCI_SAME && continue_log(shared, redo, &note, &unsaid) == BODDURCI_DONE)
+    if (change_since(&note, shared->notes.files) == BODDURCI_SAME && continue_log(shared, redo, &note, 1, &unsaid) == BODDURCI_DONE)
         (void)!boddurci_apply_tail(shared, &unsaid);
 }
 

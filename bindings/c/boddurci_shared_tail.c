@@ -8,6 +8,7 @@
 #include <stdlib.h>
 #include <string.h>
 #include <sys/file.h>
+#include <time.h>
 #include <unistd.h>
 
 /* A record is this much longer than its plan. */
@@ -119,14 +120,21 @@ int boddurci_lay_tail(struct boddurci_tail *tail, enum boddurci_file file, size_
 
 /* ---- saving */
 
-/* Notes the state of both data files after this call has written them. */
+/* Notes the state of both data files after this call has written them. On a local file system the present time is as good as the times of
+ * the files, which are not later. */
 static void note_written(boddurci_shared *shared)
 {
+    struct timespec now;
     const struct boddurci_place *place = &shared->place;
+    int has_times = !shared->notes.is_local;
+    clock_gettime(CLOCK_REALTIME, &now);
     for (enum boddurci_file file = BODDURCI_PAGES; file <= BODDURCI_DIRECTORY; file++) {
         int opened = shared->logged.disk.files[file], folder = opened >= 0 ? opened : place->folder;
         const char *name = opened >= 0 ? "" : place->names[file];
-        shared->notes.files[file] = boddurci_state_of(folder, name, opened >= 0 ? AT_EMPTY_PATH : 0, 1);
+        struct boddurci_note *is = &shared->notes.files[file];
+        *is = boddurci_state_of(folder, name, opened >= 0 ? AT_EMPTY_PATH : 0, has_times);
+        if (!has_times)
+            is->changed = is->written = now;
     }
 }
 

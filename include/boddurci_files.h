@@ -222,7 +222,7 @@ void boddurci_close_files(boddurci_base *base);
  * its locks at most 5 seconds, or as long as boddurci_shared_wait sets, and then returns LOCKED, with nothing changed. The text names the
  * process that holds the lock, if the system reports it. The wait continues after a signal. While a process has the base open by
  * boddurci_open_files, or by a session of dbm, each change returns LOCKED, and a fetch reads the last save of that process. A call that
- * flushes waits at most half a second for the flush of another process, and then flushes by itself.
+ * flushes waits some half a second for the flush of another process, and then flushes by itself.
  *
  * Costs. A call reads all of .dir, and only a few pages of .pag, even of a long one. It compares .dir with the directory of the handle's
  * last call, or of its opening. It checks .dir only if they differ, which takes some 4 microseconds for each KiB; with 900,000 pairs .dir
@@ -246,9 +246,9 @@ void boddurci_close_files(boddurci_base *base);
  *
  * Other programs. A program that does not know the locks, such as Perl's SDBM_File, may write between two calls, and the next call reads
  * the written data. It must not write during a call: the call would not notice the write before its commit. A write that keeps the lengths,
- * within the same tick of the clock as the last call, may remain unnoticed too. (A tick has some
- * milliseconds.) Such a program sees the last changes with NO_FLUSH, and those of processes that wait for each other, only after a
- * flush while no other call is in progress. It must not write before that flush: the next call might return BAD_REDO.
+ * within the same tick of the clock as the last call, may remain unnoticed too. (A tick has some milliseconds.) Such a program sees the
+ * last changes with NO_FLUSH, and those of processes that wait for each other, only after a flush while no other call is in progress. It
+ * must not write before that flush: the next call might return BAD_REDO.
  *
  * Time. The caller of boddurci_shared_run sets `now` before the call waits for the locks, so `now` may be in the past when the program runs,
  * and earlier than the time of a run before. boddurci_shared_run_now reads the clock once the call has the locks. */
@@ -257,7 +257,7 @@ typedef struct boddurci_shared boddurci_shared;
 /* Opens a shared base. The flags are WIDE, UNSIGNED_KEYS, MUST_EXIST, ANY_SIZE, NO_FLUSH, and NO_WAIT, with which each call tries a lock
  * only once. Other flags are ignored. With MUST_EXIST the call checks that the database exists. With WIDE and without ANY_SIZE it reads the
  * database once, as a reader, to find out whether its pages look small. Returns NULL and sets *fault if one of these checks fails, the name is
- * invalid or the folder is missing. The call also reads .dir and one page, without a lock, which makes the first call on the handle faster. */
+ * invalid or the folder is missing. The call also reads .dir and one or two pages, without a lock, which makes the first call on the handle faster. */
 boddurci_shared *boddurci_open_shared(const char *base, uint32_t flags, boddurci_fault *fault);
 
 /* Closes the handle and frees its memory. With NO_FLUSH it flushes the changes first, but reports no failure: call boddurci_shared_flush to

@@ -452,7 +452,7 @@ static void test_adding(void)
     EXPECT(boddurci_shared_add(shared, key, sizeof key, 1, 0, 7, &end, &number, &fault) == BODDURCI_PAIR_TOO_LARGE);
     EXPECT(fault.status == BODDURCI_PAIR_TOO_LARGE && end == 9 && number == 9);
     boddurci_base *service = boddurci_open_files("adding", 0, &fault);
-    EXPECT(boddurci_shared_add(other, BYTES("a"), 1, 0, 7, &end, &number, &fault) == BODDURCI_LOCKED && end == 9 && number == 9);
+    EXPECT(boddurci_shared_add(other, BYTES("a"), 1, 0, 7, &end, &number, &fault) == BODDURCI_OPEN_HERE && end == 9 && number == 9);
     boddurci_close_files(service);
     EXPECT(boddurci_shared_add(other, BYTES("a"), 1, 0, 7, &end, &number, NULL) == BODDURCI_DONE && end == 1 && number == 2);
     boddurci_close_shared(other);
@@ -489,7 +489,7 @@ static void test_names(void)
  * note. */
 static void change_boot(const char *base)
 {
-    enum { BOOT = 48, CHECK = 128 };
+    enum { BOOT = 64, CHECK = 144 };
     uint64_t check = 14695981039346656037u;
     struct bytes lock = read_file(base, ".lock");
     EXPECT(is_marked(base) && lock.length >= CHECK + 8 && memcmp(lock.at, "sdbmnot4", 8) == 0);

@@ -17,7 +17,7 @@
 #define BYTES(text) ((const uint8_t *)(text)), (sizeof(text) - 1)
 
 /* The words of the notes in BASE.lock and of the header of a log, which docs/DESIGN.md defines, and where the records begin. */
-enum { END = 8, APPLIED = 32, EPOCH = 40, BOOT = 48, CHECK = 128, FLUSHED = 136 };
+enum { END = 8, APPLIED = 32, EPOCH = 56, BOOT = 64, CHECK = 144, FLUSHED = 152, FAILED = 176 };
 enum { SHARED = 9, EPOCH_OF_LOG = 24, HEADER = 4096 };
 enum { TAIL_MOST = 65536 };
 
@@ -239,7 +239,7 @@ enum damage { NONE, OLD_NOTE, JUNK, OTHER_BOOT, BAD_NOTE, FAILED_FLUSH, TOUCHED,
 /* Damages the files as an interruption might. `before` is the note before the last change. */
 static void damage(const char *base, enum damage how, const uint8_t before[CHECK + 8])
 {
-    uint8_t flushed[24], junk[3] = {7, 9, 3};
+    uint8_t epoch[8], junk[3] = {7, 9, 3};
     int lock = open_file(base, ".lock"), pages = open_file(base, ".pag");
     switch (how) {
     case OLD_NOTE: write_bytes(base, ".lock", 0, before, CHECK + 8); break;
@@ -247,10 +247,8 @@ static void damage(const char *base, enum damage how, const uint8_t before[CHECK
     case OTHER_BOOT: change_boot(base); break;
     case BAD_NOTE: write_bytes(base, ".lock", 40, junk, sizeof junk); break;
     case FAILED_FLUSH:
-        put_word(flushed, word_at(base, EPOCH));
-        put_word(flushed + 8, UINT64_MAX);
-        put_check(flushed, 16);
-        write_bytes(base, ".lock", FLUSHED, flushed, sizeof flushed);
+        put_word(epoch, word_at(base, EPOCH));
+        write_bytes(base, ".lock", FAILED, epoch, sizeof epoch);
         break;
     case TOUCHED: EXPECT(fchmod(pages, 0600) == 0); break;
     case NO_LOCK: EXPECT(unlink("kills.lock") == 0); break;
@@ -312,6 +310,123 @@ static void test_lost_records(void)
         EXPECT(is_in_files("lost", BODDURCI_READ_ONLY, "b", "after"));
         boddurci_close_shared(later);
     }
+}
+
+/* ---- notes that do not belong to the log */
+
+struct copy {
+    uint8_t bytes[3][1 << 17];
+    ssize_t lengths[3];
+};
+
+static const char *const endings[3] = {".pag", ".dir", ".redo"};
+
+static void copy_of(const char *base, struct copy *copy)
+{
+    for (int i = 0; i < 3; i++) {
+        int file = open_file(base, endings[i]);
+        copy->lengths[i] = pread(file, copy->bytes[i], sizeof copy->bytes[i], 0);
+        EXPECT(copy->lengths[i] >= 0 && (i == 2 || copy->lengths[i] < (ssize_t)sizeof copy->bytes[i]));
+        close(file);
+    }
+}
+
+/* Puts the copies back: as new files, or into the present files. The rest of the redo file is zeros, up to its present length. */
+static void restore(const char *base, const struct copy *copy, int is_new)
+{
+    for (int i = 0; i < 3; i++) {
+        char name[300];
+        struct stat found;
+        snprintf(name, sizeof name, "%s%s", base, endings[i]);
+        EXPECT(stat(name, &found) == 0 && (!is_new || unlink(name) == 0));
+        int file = open(name, O_RDWR | O_CREAT, 0644);
+        EXPECT(file >= 0 && ftruncate(file, copy->lengths[i]) == 0);
+        EXPECT(pwrite(file, copy->bytes[i], (size_t)copy->lengths[i], 0) == copy->lengths[i]);
+        EXPECT(i < 2 || ftruncate(file, found.st_size) == 0);
+        close(file);
+    }
+}
+
+/* A copy of all files of the database is put back after later changes. Its log has a tail that is not in its data files. */
+static void test_restored(void)
+{
+    static struct copy before;
+    for (int how = 0; how < 8; how++) {
+        char value[20];
+        sprintf(value, "%d", how);
+        store_and_die("restored", "x", value);
+        copy_of("restored", &before);
+        boddurci_shared *later = opened("restored", BODDURCI_NO_FLUSH), *now = opened("restored", 0);
+        EXPECT(stores(later, "a", "later") && stores(now, "c", "later") && flushes(now));
+        if (how / 2 % 2)
+            EXPECT(stores(later, "a", "unflushed"));
+        restore("restored", &before, how % 2);
+        if (how / 4)
+            EXPECT(is_in_files("restored", BODDURCI_READ_ONLY, "a", value) && is_in_files("restored", 0, "a", value));
+        EXPECT(has(now, "a", value) && has(later, "b", "x") && stores(later, "d", value) && has(now, "a", value) && flushes(now));
+        boddurci_close_shared(now);
+        boddurci_close_shared(later);
+        EXPECT(is_in_files("restored", 0, "a", value));
+    }
+}
+
+/* A handle joins the plans of one log, and then appends to another log, which the same call must apply and remove. */
+static void test_other_log(void)
+{
+    if (geteuid() != 0)
+        return;
+    boddurci_shared *later = opened("other", BODDURCI_NO_FLUSH), *now = opened("other", 0);
+    for (int i = 0; i < 60; i++)
+        EXPECT(stores(later, "a", i % 2 ? "old" : "odd") && has(later, "a", i % 2 ? "old" : "odd"));
+    EXPECT(is_in_files("other", 0, "a", "old") && stores(now, "a", "new") && stores(now, "y", "new"));
+    EXPECT(chown("other.redo", 7002, 7003) == 0 && nanosleep(&(struct timespec){0, 20000000}, NULL) == 0);
+    EXPECT(stores(later, "z", "1") && has(now, "a", "new") && has(now, "z", "1") && has(later, "y", "new"));
+    EXPECT(is_in_files("other", 0, "a", "new") && is_in_files("other", 0, "z", "1"));
+    boddurci_close_shared(now);
+    boddurci_close_shared(later);
+}
+
+/* A flush is of the log under the name, even just after many changes of another log. */
+static void test_removed_log(void)
+{
+    boddurci_shared *one = opened("removed", BODDURCI_NO_FLUSH), *other = opened("removed", BODDURCI_NO_FLUSH);
+    for (int times = 0; times < 5; times++) {
+        EXPECT(stores(other, "a", "0") && nanosleep(&(struct timespec){0, 30000000}, NULL) == 0);
+        for (int i = 0; i < 300; i++)
+            EXPECT(stores(one, "a", i % 2 ? "1" : "2"));
+        EXPECT(is_in_files("removed", 0, "a", "1") && unlink("removed.redo") == 0);
+        EXPECT(stores(other, "a", "2") && stores(other, "a", "3") && flushes(one));
+        EXPECT(word_at("removed", FLUSHED + 8) == word_at("removed", END));
+    }
+    boddurci_close_shared(one);
+    boddurci_close_shared(other);
+}
+
+/* A user who may not write BASE.lock leaves no record without a note. */
+static void test_other_user(void)
+{
+    int status;
+    if (geteuid() != 0)
+        return;
+    EXPECT(mkdir("user", 0755) == 0 && chmod(".", 0755) == 0);
+    boddurci_shared *later = opened("user/db", BODDURCI_NO_FLUSH);
+    EXPECT(stores(later, "a", "1") && stores(later, "b", "1"));
+    EXPECT(chmod("user", 0777) == 0 && chmod("user/db.pag", 0666) == 0 && chmod("user/db.dir", 0666) == 0 && chmod("user/db.redo", 0666) == 0);
+    EXPECT(chmod("user/db.lock", 0644) == 0 && chmod("user/db.writer", 0644) == 0);
+    for (int i = 0; i < 3; i++) {
+        const char *value = i % 2 ? "odd" : "even";
+        pid_t child = fork();
+        if (child == 0) {
+            EXPECT(setgid(65534) == 0 && setuid(65534) == 0);
+            boddurci_shared *shared = opened("user/db", i % 2 ? 0 : BODDURCI_NO_FLUSH);
+            EXPECT(stores(shared, "a", value) && has(shared, "a", value));
+            kill(getpid(), SIGKILL);
+        }
+        EXPECT(waitpid(child, &status, 0) == child && WIFSIGNALED(status));
+        EXPECT(is_in_files("user/db", BODDURCI_READ_ONLY, "a", value) && has(later, "a", value) && flushes(later));
+        EXPECT(stores(later, "b", value) && has(later, "b", value));
+    }
+    boddurci_close_shared(later);
 }
 
 /* ---- processes */
@@ -405,6 +520,23 @@ static void test_too_long(void)
     boddurci_close_shared(later);
 }
 
+/* A process that may not write files can still fetch, and flush what others wrote. */
+static void test_no_writes(void)
+{
+    int status;
+    static const struct rlimit none = {0, 0};
+    boddurci_shared *later = opened("none", BODDURCI_NO_FLUSH);
+    EXPECT(stores(later, "a", "1") && stores(later, "a", "2") && tail_of("none") != 0);
+    pid_t child = fork();
+    if (child == 0) {
+        boddurci_shared *now = opened("none", 0);
+        _exit(setrlimit(RLIMIT_FSIZE, &none) == 0 && has(now, "a", "2") && boddurci_shared_flush(now, &fault) == BODDURCI_DONE ? 0 : 1);
+    }
+    EXPECT(waitpid(child, &status, 0) == child && WIFEXITED(status) && WEXITSTATUS(status) == 0);
+    EXPECT(stores(later, "a", "3") && flushes(later) && word_at("none", FLUSHED + 8) == word_at("none", END));
+    boddurci_close_shared(later);
+}
+
 /* Other users do not accept a redo file that has another owner than .pag. A call applies its tail before it removes the file. */
 static void test_owners(void)
 {
@@ -427,9 +559,14 @@ int main(int count, char **words)
     test_limit();
     test_kills();
     test_lost_records();
+    test_restored();
+    test_other_log();
+    test_removed_log();
+    test_other_user();
     test_forks();
     test_waiting();
     test_too_long();
+    test_no_writes();
     test_owners();
     printf("%lu checks\n", looked);
     return 0;

@@ -228,6 +228,18 @@ static void close_lock(struct boddurci_place *place, enum boddurci_file lock)
     place->opened[lock] = -1;
 }
 
+/* Notes the inode of a lock file that was opened. A lock that was opened while .pag was missing may have been accepted although other users may
+ * write it. Its notes are not used then. */
+static void note_opened(struct boddurci_place *place, enum boddurci_file lock)
+{
+    enum { MISSING = 07777 };
+    struct stat found;
+    int opened = place->opened[lock], is_private = boddurci_look_at(opened, &found) == 0 && (found.st_mode & (S_IWGRP | S_IWOTH)) == 0;
+    place->inodes[lock] = boddurci_inode_of(opened);
+    if (lock == BODDURCI_LOCK)
+        place->has_safe_notes = is_private || boddurci_mode_of_pages(place, MISSING) != MISSING;
+}
+
 /* Opens the file of a lock, for writing if this user is allowed to. If the file that is open has lost its name, opens the file that has the
  * name now. A writer makes a missing file. OPEN_HERE if this thread holds the lock. */
 static uint32_t open_lock(struct boddurci_place *place, enum boddurci_file lock, int reads, boddurci_fault *fault)
@@ -245,8 +257,8 @@ static uint32_t open_lock(struct boddurci_place *place, enum boddurci_file lock,
     }
     if (status == BODDURCI_DONE && place->opened[lock] < 0)
         return boddurci_fail(fault, BODDURCI_MOVED, 0, "BASE.lock or BASE.writer comes and goes");
-    if (is_opened)
-        place->inodes[lock] = boddurci_inode_of(place->opened[lock]);
+    if (is_opened && place->opened[lock] >= 0)
+        note_opened(place, lock);
     if (status == BODDURCI_DONE && has_it_here(place, lock))
         return boddurci_fail(fault, BODDURCI_OPEN_HERE, 0, boddurci_files_text(BODDURCI_OPEN_HERE));
     return status;
@@ -652,7 +664,7 @@ static uint32_t take_to_change(struct boddurci_place *place, int64_t end, boddur
     int tries = 0, spins = 0, shorts = 0, is_queued = 1;
     enum outcome outcome = TRY_AGAIN;
     while (outcome == TRY_AGAIN || outcome == IS_BUSY) {
-        int is_short = is_queued && shorts < SHORT;
+        int is_short = is_queued && shorts < SHORT && (end < 0 || now() < end);
         shorts = is_short ? shorts + 1 : 0;
         outcome = try_call(place, is_short, &is_queued, fault);
         place->has_waited = place->has_waited || outcome == IS_BUSY;
@@ -724,6 +736,7 @@ int boddurci_try_change(struct boddurci_place *place)
 
 void boddurci_give_call(struct boddurci_place *place, int reads)
 {
+    place->all.are_same = 0;
     forget_held(place);
     if (!reads)
         flock(place->opened[BODDURCI_WRITER], LOCK_UN);
@@ -737,11 +750,16 @@ void boddurci_drop_locks(struct boddurci_place *place)
         close_lock(place, lock);
 }
 
-int boddurci_lock_file(struct boddurci_place *place)
+int boddurci_notes_of(const struct boddurci_place *place)
+{
+    return place->opened[BODDURCI_LOCK] >= 0 && place->has_safe_notes ? place->opened[BODDURCI_LOCK] : -1;
+}
+
+int boddurci_open_notes(struct boddurci_place *place)
 {
     boddurci_fault unsaid;
     int *opened = &place->opened[BODDURCI_LOCK];
     if (*opened < 0 && boddurci_open_beside(place, BODDURCI_LOCK, O_RDWR, opened, &unsaid) == BODDURCI_DONE && *opened >= 0)
-        place->inodes[BODDURCI_LOCK] = boddurci_inode_of(*opened);
-    return *opened;
+        note_opened(place, BODDURCI_LOCK);
+    return boddurci_notes_of(place);
 }

@@ -260,13 +260,13 @@ static uint32_t read_files(struct boddurci_logged *logged, struct boddurci_bytes
     return status;
 }
 
-/* Clears the note of a shared base, before the log is emptied. */
-static int clear_note(struct boddurci_logged *logged)
+/* Clears the epoch of the notes of shared bases, before the log is emptied. */
+static int clear_epoch(struct boddurci_logged *logged)
 {
     struct boddurci_disk *disk = &logged->disk;
     disk->last = BODDURCI_REDO;
     logged->epoch = 0;
-    return disk->files[BODDURCI_REDO] < 0 ? 0 : boddurci_clear_note(disk->files[BODDURCI_REDO]);
+    return disk->files[BODDURCI_REDO] < 0 ? 0 : boddurci_clear_epoch(disk->files[BODDURCI_REDO]);
 }
 
 static int make_shared(struct boddurci_disk *disk)
@@ -293,8 +293,8 @@ static int share(struct boddurci_logged *logged)
 static uint32_t do_open(struct boddurci_logged *logged, struct boddurci_bytes redo, const struct boddurci_steps *steps, boddurci_fault *fault)
 {
     struct boddurci_disk *disk = &logged->disk;
-    boddurci_clear_note_in(&redo);
-    int is_written = redo.length != 0 ? boddurci_disk_write(disk, BODDURCI_REDO, 0, redo.at, redo.length) == 0 : clear_note(logged) == 0;
+    boddurci_clear_epoch_in(&redo);
+    int is_written = redo.length != 0 ? boddurci_disk_write(disk, BODDURCI_REDO, 0, redo.at, redo.length) == 0 : clear_epoch(logged) == 0;
     logged->epoch = 0;
     if (is_written && boddurci_do_steps(disk, steps->at, steps->count, steps->bytes) == 0 && share(logged) == 0) {
         logged->is_open = 1;
@@ -440,7 +440,7 @@ static int commit(struct boddurci_logged *logged, const struct boddurci_steps *s
     int appends = only_append(steps);
     if (!appends && boddurci_take_files(logged->disk.place) != 0)
         return -1;
-    if ((appends || clear_note(logged) == 0) && boddurci_do_steps(&logged->disk, steps->at, steps->committed, steps->bytes) == 0)
+    if ((appends || clear_epoch(logged) == 0) && boddurci_do_steps(&logged->disk, steps->at, steps->committed, steps->bytes) == 0)
         return 0;
     give_up(logged);
     return -1;
@@ -579,7 +579,7 @@ uint32_t boddurci_logged_append(struct boddurci_logged *logged, struct boddurci_
 static uint32_t lose(struct boddurci_logged *logged, boddurci_fault *fault)
 {
     uint32_t status = cannot_be_written(&logged->disk, fault);
-    (void)!clear_note(logged);
+    (void)!clear_epoch(logged);
     give_up(logged);
     return status;
 }
@@ -657,9 +657,9 @@ uint32_t boddurci_logged_mark(struct boddurci_logged *logged, boddurci_fault *fa
 
 /* ---- closing */
 
-/* Clears the mark and the note of a shared base by one write, since the process may be killed between two writes. If it had cleared only
- * the note, the marked log would be recovered, although another program may have written the data files since. If it had cleared only the
- * mark, the note could later apply to other records that end at the same place. */
+/* Clears the mark and the epoch of the notes of shared bases by one write, since the process may be killed between two writes. If it had
+ * cleared only the epoch, the marked log would be recovered, although another program may have written the data files since. If it had
+ * cleared only the mark, a note could later apply to other records that end at the same place. */
 static int clear_mark(struct boddurci_disk *disk)
 {
     uint8_t header[BODDURCI_HEADER_USED];
@@ -671,7 +671,7 @@ static int clear_mark(struct boddurci_disk *disk)
 }
 
 /* Executes a step that closes the log. The steps are the syncs of both data files, the write that clears the mark, and the sync of the redo
- * file. For the write, calls clear_mark, which also overwrites the note with zeros. If a sync fails, clears the note: the data files may
+ * file. For the write, calls clear_mark, which also clears the epoch. If a sync fails, clears the epoch: the data files may
  * lack written bytes, so the next call has to recover them. */
 static int close_by(struct boddurci_logged *logged, const boddurci_step *step)
 {
@@ -681,7 +681,7 @@ static int close_by(struct boddurci_logged *logged, const boddurci_step *step)
     if (boddurci_do_steps(disk, step, 1, (const uint8_t *)step) == 0)
         return 0;
     int system = errno, last = (int)disk->last;
-    (void)!clear_note(logged);
+    (void)!clear_epoch(logged);
     disk->last = (enum boddurci_file)last;
     errno = system;
     return -1;

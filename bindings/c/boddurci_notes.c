@@ -154,7 +154,8 @@ static int is_plain(const struct boddurci_place *place, enum boddurci_file file,
 void boddurci_note_names(struct boddurci_notes *notes, const struct boddurci_place *place, struct timespec folder,
                          const struct boddurci_note found[2])
 {
-    int is_known = notes->has_our_clock && !boddurci_is_same_time(folder, never) && !boddurci_is_same_time(notes->tick, never) && !is_near(folder, notes->tick);
+    int has_times = !boddurci_is_same_time(folder, never) && !boddurci_is_same_time(notes->tick, never);
+    int is_known = notes->has_our_clock && has_times && !is_near(folder, notes->tick);
     for (enum boddurci_file file = BODDURCI_PAGES; file <= BODDURCI_DIRECTORY; file++)
         is_known = is_known && is_plain(place, file, &found[file]);
     notes->folder = is_known ? folder : never;

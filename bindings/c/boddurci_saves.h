@@ -112,6 +112,7 @@ struct boddurci_place {
     struct boddurci_seen seen[2]; /* the data files, if they existed when they were last opened */
     int opened[BODDURCI_FILES];   /* the open file of a lock, or -1 */
     struct boddurci_inode inodes[BODDURCI_FILES]; /* of the open lock files */
+    int has_safe_notes;           /* only users who may write .pag may write the open BASE.lock */
     int is_early[BODDURCI_FILES]; /* this process made the lock file while .pag was missing */
     int keeps_files;              /* BASE.lock stays locked between the calls of the base */
     int is_local;                 /* of a shared base: the folder is on a local file system */
@@ -234,8 +235,10 @@ int boddurci_try_change(struct boddurci_place *place);
 void boddurci_give_call(struct boddurci_place *place, int reads);
 void boddurci_drop_locks(struct boddurci_place *place);
 
-/* Opens BASE.lock, which has the notes, unless it is open. Returns -1 if it is missing or cannot be opened. */
-int boddurci_lock_file(struct boddurci_place *place);
+/* `boddurci_notes_of` returns the open BASE.lock, which has the notes, or -1 if it is closed or other users might have written it.
+ * `boddurci_open_notes` opens it first, if it exists and is closed. */
+int boddurci_notes_of(const struct boddurci_place *place);
+int boddurci_open_notes(struct boddurci_place *place);
 
 /* ---- boddurci_holder.c: the process that holds a lock */
 
@@ -624,30 +627,32 @@ void boddurci_boot_of_system(struct boddurci_boot *boot);
 struct boddurci_log_note {
     boddurci_log log;
     size_t applied;   /* the end of the applied records */
+    size_t last;      /* where the last bytes of the records begin, up to BODDURCI_WITNESS_MOST bytes of the last record */
+    uint64_t witness; /* the hash of these bytes: another log would hardly have the same */
     uint64_t epoch;   /* differs for each log that was empty meanwhile */
-    uint64_t flushed; /* the records before this end are flushed; or BODDURCI_FLUSH_FAILED */
+    uint64_t flushed; /* the records before this end are flushed */
+    int has_failed;   /* a flush has failed, so the log must be recovered */
     int is_shared;    /* several records may be unflushed, as the header says */
     uint64_t states[8];
 };
 
-/* This flushed end says that a flush has failed: the log must be recovered. */
-#define BODDURCI_FLUSH_FAILED UINT64_MAX
-
 enum boddurci_noted {
     BODDURCI_UNMARKED, /* the redo file has no mark: the data files are the database */
-    BODDURCI_NOTED,    /* the log has its mark, a note of this boot, and no record after the end in the note */
+    BODDURCI_NOTED,    /* the log has its mark and a note of this boot */
     BODDURCI_UNKNOWN   /* the log has its mark, and must be recovered before a change */
 };
 
 /* Reads the notes about an open redo file in an open BASE.lock, which is -1 if it is missing. Sets the note if the result is NOTED.
- * `boddurci_read_note` does not test whether the redo file has the room in the note, and whether a record follows: `boddurci_has_room` and
- * `boddurci_has_next` do, the latter by the BODDURCI_NEXT bytes after the end of the records. `boddurci_look_at_note` is for a process that
- * holds no lock. It makes neither test, and returns UNKNOWN if a process writes the note meanwhile, even if it reads again. */
-enum { BODDURCI_RECORDS_AT = 4096, BODDURCI_NEXT = 8 };
+ * `boddurci_read_note` does not test whether the redo file has the room in the note, and whether its records end where the note says:
+ * `boddurci_has_room` and `boddurci_is_end` do. The latter gets the last bytes of the records, their length without the BODDURCI_NEXT bytes
+ * that follow, and their witness. `boddurci_look_at_note` is for a process that holds no lock. It makes neither test, returns NOTED even if a
+ * flush has failed, and returns UNKNOWN if a process writes the note meanwhile, even if it reads again. */
+enum { BODDURCI_RECORDS_AT = 4096, BODDURCI_NEXT = 8, BODDURCI_WITNESS_MOST = 256 };
 enum boddurci_noted boddurci_read_note(int redo, int lock, const struct boddurci_boot *boot, struct boddurci_log_note *note);
 enum boddurci_noted boddurci_look_at_note(int redo, int lock, const struct boddurci_boot *boot, struct boddurci_log_note *note);
 int boddurci_has_room(int redo, const struct boddurci_log_note *note);
-int boddurci_has_next(const uint8_t next[BODDURCI_NEXT]);
+int boddurci_is_end(const uint8_t *bytes, size_t length, uint64_t witness);
+uint64_t boddurci_witness_of(const uint8_t *bytes, size_t length);
 
 /* Returns the state of the file under a name in a folder, or of an open file (with AT_EMPTY_PATH). A reader requests no times: after such a
  * request, some file systems set new times at the next write. */
@@ -667,15 +672,17 @@ int boddurci_is_applied(const struct boddurci_place *place, int redo, boddurci_l
 /* Returns an epoch that no other log has: the time. */
 uint64_t boddurci_new_epoch(void);
 
-/* `boddurci_put_note` writes the first note to BASE.lock, without a sync, and `boddurci_put_flushed` the second one: the end of the flushed
- * records of a log. For the latter the caller holds the lock of the redo file itself, and perhaps no other lock. `boddurci_put_epoch` writes
- * the epoch of the notes to the header of the log, which makes them valid. `boddurci_clear_note` clears the epoch, and `boddurci_clear_note_in`
- * clears it in the bytes of a redo file. Clear it before the log is emptied, since later records may end at the same place. */
+/* `boddurci_put_note` writes the first note to BASE.lock, without a sync. `boddurci_put_flushed` writes the second one, the end of the flushed
+ * records of a log, and `boddurci_put_failed` the epoch of a log whose flush has failed; their callers may hold no lock. `boddurci_put_epoch`
+ * writes the epoch of the notes to the header of the log, which makes them valid. `boddurci_clear_epoch` clears the epoch, and
+ * `boddurci_clear_epoch_in` clears it in the bytes of a redo file. Clear it before the log is emptied, since later records may end at the same
+ * place. */
 int boddurci_put_note(int lock, const struct boddurci_boot *boot, const struct boddurci_log_note *note, const struct boddurci_note files[2]);
 int boddurci_put_flushed(int lock, uint64_t epoch, uint64_t end);
+int boddurci_put_failed(int lock, uint64_t epoch);
 int boddurci_put_epoch(int redo, uint64_t epoch);
-int boddurci_clear_note(int redo);
-void boddurci_clear_note_in(struct boddurci_bytes *redo);
+int boddurci_clear_epoch(int redo);
+void boddurci_clear_epoch_in(struct boddurci_bytes *redo);
 
 /* Returns whether the header of an open redo file says that several records may be unflushed. */
 int boddurci_is_log_shared(int redo);

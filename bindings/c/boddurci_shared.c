@@ -241,10 +241,8 @@ static void finish_tail(boddurci_shared *shared)
 {
     boddurci_fault unsaid;
     int could_be_cancelled;
-    if (shared->logged.disk.files[BODDURCI_REDO] < 0)
-        return;
     pthread_setcancelstate(PTHREAD_CANCEL_DISABLE, &could_be_cancelled);
-    if (shared->flags & BODDURCI_NO_FLUSH)
+    if (shared->tail.is_later)
         (void)!boddurci_flush_all(shared, &unsaid);
     else
         boddurci_try_to_apply(shared);

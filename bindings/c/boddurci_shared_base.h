@@ -42,12 +42,15 @@ struct boddurci_tail {
     uint64_t plan_epoch; /* of the log of the joined plan */
     size_t from, joined; /* the joined plan has the records between these ends */
     int changes_directory; /* the joined plan may change a byte of .dir */
-    uint64_t epoch;      /* as the note says, like the next four fields */
+    uint64_t epoch;      /* as the note says, like the next six fields */
     size_t applied, end; /* where the tail begins and ends */
+    size_t last;         /* where the last bytes of the log begin */
+    uint64_t witness;    /* the hash of these bytes */
     uint64_t flushed;
     int is_shared;
     size_t room;         /* of the log when the length of the open redo file was last found to have it, or 0 */
     int is_touched;      /* this call has read a byte that the tail changes */
+    int is_later;        /* a call of this handle has left a record that is flushed later than the call */
     size_t owed;         /* the end of the records that must be flushed before this call returns, or 0 */
 };
 
@@ -123,7 +126,7 @@ static inline int boddurci_has_tail(const struct boddurci_tail *tail)
 }
 
 /* `boddurci_no_tail` records that the log has no note. `boddurci_read_tail` reads the tail that a note describes, and joins its plans. The
- * bytes of shared->plan and shared->directory are lost. STALE if the records are invalid, or if the log has more records than the note says. NO_MEMORY. */
+ * bytes of shared->plan and shared->directory are lost. STALE if the records are invalid, or do not end as the note says. NO_MEMORY. */
 void boddurci_no_tail(struct boddurci_tail *tail);
 uint32_t boddurci_read_tail(boddurci_shared *shared, int redo, const struct boddurci_log_note *note, boddurci_fault *fault);
 

@@ -13,17 +13,18 @@
 
 enum { HEADER = BODDURCI_RECORDS_AT, WORD = 8 };
 
-/* The bytes of the header of a log: whether several records may be unflushed, and the signature and the epoch of the notes. An older version
- * of the library had the notes in the OLD_NOTES bytes from NOTE_AT on. */
+/* The bytes of the header of a log: whether several records may be unflushed, and a signature and the epoch of the notes. An earlier version
+ * of the library had a note with this signature in the OLD_NOTES bytes from NOTE_AT on, and clears these bytes when it opens the log. */
 enum { SHARED_AT = 9, NOTE_AT = 16, EPOCH_AT = NOTE_AT + WORD, LOOKED = EPOCH_AT + WORD, OLD_NOTES = 160 };
 _Static_assert(BODDURCI_HEADER_USED == NOTE_AT + OLD_NOTES, "the mark, the signature and the notes");
-static const uint8_t LOG_SIGNATURE[8] = "sdbmlog1", NOTE_SIGNATURE[8] = "sdbmnot4";
+static const uint8_t LOG_SIGNATURE[8] = "sdbmlog1", EPOCH_SIGNATURE[8] = "sdbmnot2", NOTE_SIGNATURE[8] = "sdbmnot4";
 enum { ANY_VERSION = 7 }; /* bytes of the signature */
 
-/* The notes, as words of 8 bytes, the lowest byte first. The second note is written without the locks. */
-enum { SIGNATURE, END, ROOM, COUNT, APPLIED, EPOCH, BOOT, STATES = BOOT + 2, CHECK = STATES + 8, NOTE_WORDS };
+/* The notes, as words of 8 bytes, the lowest byte first. The second note, and the epoch of a log whose flush has failed, are written without
+ * the locks. */
+enum { SIGNATURE, END, ROOM, COUNT, APPLIED, LAST, WITNESS, EPOCH, BOOT, STATES = BOOT + 2, CHECK = STATES + 8, NOTE_WORDS };
 enum { OF_EPOCH, FLUSHED, FLUSHED_CHECK, FLUSHED_WORDS };
-enum { FLUSHED_AT = NOTE_WORDS * WORD, NOTES_LENGTH = (NOTE_WORDS + FLUSHED_WORDS) * WORD };
+enum { FLUSHED_AT = NOTE_WORDS * WORD, FAILED_AT = FLUSHED_AT + FLUSHED_WORDS * WORD, NOTES_LENGTH = FAILED_AT + WORD };
 
 /* ---- bytes */
 
@@ -50,13 +51,32 @@ static void put_word(uint8_t *bytes, uint64_t word)
         bytes[i] = (uint8_t)(word >> 8 * i);
 }
 
-/* Returns a hash of the words of a note, by which a partly written note is detected: that of FNV-1a, with words instead of bytes. */
+/* Adds a word to a hash: that of FNV-1a, with words instead of bytes. */
+static uint64_t hashed(uint64_t hash, uint64_t word)
+{
+    return (hash ^ word) * 1099511628211u;
+}
+
+static const uint64_t FIRST_HASH = 14695981039346656037u;
+
+/* Returns the hash of the words of a note, by which a partly written note is detected. */
 static uint64_t check_of(const uint8_t *bytes, int words)
 {
-    uint64_t check = 14695981039346656037u;
+    uint64_t check = FIRST_HASH;
     for (int i = 0; i < words; i++)
-        check = (check ^ word_at(bytes + i * WORD)) * 1099511628211u;
+        check = hashed(check, word_at(bytes + i * WORD));
     return check;
+}
+
+uint64_t boddurci_witness_of(const uint8_t *bytes, size_t length)
+{
+    uint64_t witness = FIRST_HASH;
+    size_t at = 0;
+    for (; length - at >= WORD; at += WORD)
+        witness = hashed(witness, word_at(bytes + at));
+    for (; at < length; at++)
+        witness = hashed(witness, bytes[at]);
+    return witness;
 }
 
 /* ---- states of the data files */
@@ -135,17 +155,22 @@ static int note_of(const uint8_t bytes[NOTES_LENGTH], uint64_t epoch, const stru
     note->log.room = (size_t)word_at(bytes + ROOM * WORD);
     note->log.count = (size_t)word_at(bytes + COUNT * WORD);
     note->applied = (size_t)word_at(bytes + APPLIED * WORD);
+    note->last = (size_t)word_at(bytes + LAST * WORD);
+    note->witness = word_at(bytes + WITNESS * WORD);
     note->epoch = epoch;
     note->flushed = flushed_of(bytes + FLUSHED_AT, epoch, note->applied);
+    note->has_failed = word_at(bytes + FAILED_AT) == epoch;
     for (int i = 0; i < 8; i++)
         note->states[i] = word_at(bytes + (STATES + i) * WORD);
-    return note->applied <= note->log.end && note->log.end <= note->log.room && note->log.count <= note->log.end;
+    size_t end = note->log.end;
+    int has_last = note->last < end && end - note->last <= BODDURCI_WITNESS_MOST;
+    return has_last && note->applied <= end && end <= note->log.room && note->log.count <= end;
 }
 
 /* Returns whether the header of a log has the signature of notes, of this version or of any. */
 static int is_noted(const uint8_t header[LOOKED], int is_any)
 {
-    return memcmp(header + 1, LOG_SIGNATURE, WORD) == 0 && memcmp(header + NOTE_AT, NOTE_SIGNATURE, is_any ? ANY_VERSION : WORD) == 0;
+    return memcmp(header + 1, LOG_SIGNATURE, WORD) == 0 && memcmp(header + NOTE_AT, EPOCH_SIGNATURE, is_any ? ANY_VERSION : WORD) == 0;
 }
 
 /* Reads the notes. The result is NOTED even if a flush has failed. */
@@ -165,7 +190,7 @@ static enum boddurci_noted read_notes(int redo, int lock, const struct boddurci_
 enum boddurci_noted boddurci_read_note(int redo, int lock, const struct boddurci_boot *boot, struct boddurci_log_note *note)
 {
     enum boddurci_noted noted = read_notes(redo, lock, boot, note);
-    return noted == BODDURCI_NOTED && note->flushed == BODDURCI_FLUSH_FAILED ? BODDURCI_UNKNOWN : noted;
+    return noted == BODDURCI_NOTED && note->has_failed ? BODDURCI_UNKNOWN : noted;
 }
 
 int boddurci_has_room(int redo, const struct boddurci_log_note *note)
@@ -174,20 +199,21 @@ int boddurci_has_room(int redo, const struct boddurci_log_note *note)
     return boddurci_look_at(redo, &found) == 0 && found.st_size >= HEADER && note->log.room <= (uint64_t)found.st_size - HEADER;
 }
 
-int boddurci_has_next(const uint8_t next[BODDURCI_NEXT])
+int boddurci_is_end(const uint8_t *bytes, size_t length, uint64_t witness)
 {
-    return word_at(next) != 0;
+    return boddurci_witness_of(bytes, length) == witness && word_at(bytes + length) == 0;
 }
 
-/* Like boddurci_read_note, but also tests whether the file has the room in the note, and whether a record follows. */
+/* Like boddurci_read_note, but also tests whether the file has the room in the note, and whether its records end where the note says. */
 static enum boddurci_noted find_note(int redo, int lock, const struct boddurci_boot *boot, struct boddurci_log_note *note)
 {
-    uint8_t next[BODDURCI_NEXT];
+    uint8_t bytes[BODDURCI_WITNESS_MOST + BODDURCI_NEXT];
     enum boddurci_noted noted = boddurci_read_note(redo, lock, boot, note);
     if (noted != BODDURCI_NOTED)
         return noted;
-    int is_read = boddurci_has_room(redo, note) && boddurci_read_at(redo, HEADER + note->log.end, next, sizeof next) == 0;
-    return is_read && !boddurci_has_next(next) ? BODDURCI_NOTED : BODDURCI_UNKNOWN;
+    size_t length = note->log.end - note->last;
+    int is_read = boddurci_has_room(redo, note) && boddurci_read_at(redo, HEADER + note->last, bytes, length + BODDURCI_NEXT) == 0;
+    return is_read && boddurci_is_end(bytes, length, note->witness) ? BODDURCI_NOTED : BODDURCI_UNKNOWN;
 }
 
 enum boddurci_noted boddurci_look_at_note(int redo, int lock, const struct boddurci_boot *boot, struct boddurci_log_note *note)
@@ -233,7 +259,7 @@ int boddurci_is_applied(const struct boddurci_place *place, int redo, boddurci_l
     struct boddurci_log_note note;
     struct boddurci_note files[2];
     boddurci_boot_of_system(&boot);
-    if (find_note(redo, place->opened[BODDURCI_LOCK], &boot, &note) != BODDURCI_NOTED || note.applied != note.log.end)
+    if (find_note(redo, boddurci_notes_of(place), &boot, &note) != BODDURCI_NOTED || note.applied != note.log.end)
         return 0;
     for (enum boddurci_file file = BODDURCI_PAGES; file <= BODDURCI_DIRECTORY; file++)
         files[file] = boddurci_state_of(place->folder, place->names[file], 0, 0);
@@ -250,7 +276,8 @@ uint64_t boddurci_new_epoch(void)
 
 int boddurci_put_note(int lock, const struct boddurci_boot *boot, const struct boddurci_log_note *note, const struct boddurci_note files[2])
 {
-    uint64_t words[NOTE_WORDS] = {0, note->log.end, note->log.room, note->log.count, note->applied, note->epoch, boot->id[0], boot->id[1]};
+    uint64_t words[NOTE_WORDS] = {0,          note->log.end, note->log.room, note->log.count, note->applied,
+                                  note->last, note->witness, note->epoch,    boot->id[0],     boot->id[1]};
     uint8_t bytes[NOTE_WORDS * WORD];
     if (!boot->is_known)
         return 0;
@@ -266,9 +293,16 @@ int boddurci_put_note(int lock, const struct boddurci_boot *boot, const struct b
 int boddurci_put_epoch(int redo, uint64_t epoch)
 {
     uint8_t bytes[2 * WORD];
-    memcpy(bytes, NOTE_SIGNATURE, WORD);
+    memcpy(bytes, EPOCH_SIGNATURE, WORD);
     put_word(bytes + WORD, epoch);
     return write_at(redo, NOTE_AT, bytes, sizeof bytes);
+}
+
+int boddurci_put_failed(int lock, uint64_t epoch)
+{
+    uint8_t bytes[WORD];
+    put_word(bytes, epoch);
+    return write_at(lock, FAILED_AT, bytes, sizeof bytes);
 }
 
 int boddurci_put_flushed(int lock, uint64_t epoch, uint64_t end)
@@ -286,7 +320,7 @@ int boddurci_is_log_shared(int redo)
     return boddurci_read_at(redo, SHARED_AT, &is_shared, 1) == 0 && is_shared == 1;
 }
 
-int boddurci_clear_note(int redo)
+int boddurci_clear_epoch(int redo)
 {
     static const uint8_t none[OLD_NOTES];
     uint8_t header[LOOKED];
@@ -305,7 +339,7 @@ int boddurci_unmarked_header(int redo, uint8_t header[BODDURCI_HEADER_USED], siz
     return 0;
 }
 
-void boddurci_clear_note_in(struct boddurci_bytes *redo)
+void boddurci_clear_epoch_in(struct boddurci_bytes *redo)
 {
     if (redo->length >= HEADER && is_noted(redo->at, 1))
         memset(redo->at + NOTE_AT, 0, OLD_NOTES);

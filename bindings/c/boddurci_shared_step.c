@@ -201,7 +201,7 @@ static uint32_t settle_log(boddurci_shared *shared, boddurci_fault *fault)
     logged->is_open = logged->is_given_up = 0;
     boddurci_no_tail(&shared->tail);
     if (boddurci_open_redo(shared, 1, &redo, &second) == BODDURCI_DONE)
-        noted = redo < 0 ? BODDURCI_UNMARKED : boddurci_read_note(redo, boddurci_lock_file(&shared->place), &shared->boot, &note);
+        noted = redo < 0 ? BODDURCI_UNMARKED : boddurci_read_note(redo, boddurci_notes_of(&shared->place), &shared->boot, &note);
     if (noted == BODDURCI_UNMARKED)
         return shared->notes.is_quick ? find_files(shared, 1, fault) : BODDURCI_DONE;
     enum boddurci_change change = noted == BODDURCI_NOTED ? change_since(&note, shared->notes.files) : BODDURCI_OTHERS;
@@ -216,12 +216,12 @@ static uint32_t settle_log(boddurci_shared *shared, boddurci_fault *fault)
     return status == BODDURCI_DONE && shared->notes.is_quick ? find_files(shared, 1, fault) : status;
 }
 
-/* Returns whether the log has a tail, and the data files are not those to which it belongs. */
-static int is_changed_tail(boddurci_shared *shared, const struct boddurci_log_note *note)
+/* Returns whether the data files are other files than those of the note, or the log has a tail and they have changed. */
+static int are_others(boddurci_shared *shared, const struct boddurci_log_note *note)
 {
     struct boddurci_note files[2];
     if (note->applied == note->log.end)
-        return 0;
+        return boddurci_change_since(note, shared->notes.files) == BODDURCI_OTHERS;
     int has_times = needs_times(shared);
     for (enum boddurci_file file = BODDURCI_PAGES; file <= BODDURCI_DIRECTORY; file++)
         files[file] = state_of(&shared->place, file, has_times);
@@ -238,10 +238,10 @@ static uint32_t look_at_log(boddurci_shared *shared, int *must_recover, boddurci
     boddurci_no_tail(&shared->tail);
     if (status != BODDURCI_DONE || redo < 0)
         return status;
-    enum boddurci_noted noted = boddurci_read_note(redo, place->opened[BODDURCI_LOCK], &shared->boot, &note);
+    enum boddurci_noted noted = boddurci_read_note(redo, boddurci_notes_of(place), &shared->boot, &note);
     *must_recover = noted == BODDURCI_UNKNOWN && !boddurci_has_writer(place);
     if (noted == BODDURCI_NOTED)
-        status = is_changed_tail(shared, &note) ? BODDURCI_STALE : boddurci_read_tail(shared, redo, &note, fault);
+        status = are_others(shared, &note) ? BODDURCI_STALE : boddurci_read_tail(shared, redo, &note, fault);
     *must_recover = *must_recover || status == BODDURCI_STALE;
     return *must_recover ? BODDURCI_DONE : status;
 }
@@ -573,9 +573,11 @@ static void apply_flushed(boddurci_shared *shared)
     int redo;
     boddurci_fault unsaid;
     struct boddurci_log_note note;
-    if (find_files(shared, needs_times(shared), &unsaid) != BODDURCI_DONE || boddurci_open_redo(shared, 1, &redo, &unsaid) != BODDURCI_DONE || redo < 0)
+    if (find_files(shared, needs_times(shared), &unsaid) != BODDURCI_DONE)
         return;
-    int lock = shared->place.opened[BODDURCI_LOCK];
+    if (boddurci_open_redo(shared, 1, &redo, &unsaid) != BODDURCI_DONE || redo < 0)
+        return;
+    int lock = boddurci_notes_of(&shared->place);
     if (boddurci_read_note(redo, lock, &shared->boot, &note) != BODDURCI_NOTED || !is_flushed_tail(&note))
         return;
     if (change_since(&note, shared->notes.files) == BODDURCI_SAME && continue_log(shared, redo, &note, 1, &unsaid) == BODDURCI_DONE)
@@ -586,7 +588,7 @@ void boddurci_try_to_apply(boddurci_shared *shared)
 {
     struct boddurci_log_note note;
     int redo = shared->logged.disk.files[BODDURCI_REDO];
-    int lock = shared->place.opened[BODDURCI_LOCK];
+    int lock = boddurci_notes_of(&shared->place);
     if (redo < 0 || boddurci_look_at_note(redo, lock, &shared->boot, &note) != BODDURCI_NOTED || !is_flushed_tail(&note))
         return;
     if (!boddurci_try_change(&shared->place))

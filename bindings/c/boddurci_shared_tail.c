@@ -44,19 +44,18 @@ static int changes_directory(boddurci_shared *shared, const uint8_t *record, siz
     return status != BODDURCI_DONE || is_touched || whole > part;
 }
 
-/* Joins the plans of the records in shared->plan, which begin where the joined plan ends. */
-static uint32_t join(boddurci_shared *shared, size_t length)
+/* Joins the plans of records, which begin where the joined plan ends. */
+static uint32_t join(boddurci_shared *shared, const uint8_t *records, size_t length)
 {
     size_t used = 0;
     struct boddurci_tail *tail = &shared->tail;
-    uint8_t *plan = tail->bytes + BODDURCI_PLAN_AT;
     for (size_t at = 0; at < length; at += used) {
-        const uint8_t *record = shared->plan + at;
-        if (boddurci_log_join(plan, BODDURCI_TAIL_MOST, &tail->length, record, length - at, &used) != BODDURCI_DONE) {
+        uint8_t *plan = tail->bytes + BODDURCI_PLAN_AT;
+        if (boddurci_log_join(plan, BODDURCI_TAIL_MOST, &tail->length, records + at, length - at, &used) != BODDURCI_DONE) {
             begin_plan(tail);
             return BODDURCI_STALE;
         }
-        tail->changes_directory = tail->changes_directory || changes_directory(shared, record, used);
+        tail->changes_directory = tail->changes_directory || changes_directory(shared, records + at, used);
     }
     tail->joined = tail->end;
     return BODDURCI_DONE;
@@ -67,28 +66,27 @@ static uint32_t prepare_plan(struct boddurci_tail *tail, boddurci_fault *fault)
 {
     if (tail->end - tail->applied > BODDURCI_TAIL_MOST)
         return BODDURCI_STALE;
-    if (tail->bytes == NULL && (tail->bytes = malloc(BODDURCI_PLAN_AT + BODDURCI_TAIL_MOST)) == NULL)
+    if (boddurci_has_tail(tail) && tail->bytes == NULL && (tail->bytes = malloc(BODDURCI_PLAN_AT + BODDURCI_TAIL_MOST)) == NULL)
         return boddurci_no_memory(fault);
     if (tail->length == 0 || tail->plan_epoch != tail->epoch || tail->from != tail->applied || tail->joined > tail->end)
         begin_plan(tail);
     return BODDURCI_DONE;
 }
 
-/* Joins the plans of all records of the tail, and checks that no record follows. Reads only the records that are not in the joined plan yet.
- * The bytes of shared->plan and shared->directory are lost. */
+/* Joins the plans of all records of the tail, and checks that the records end as the note says. Reads the records that are not in the joined
+ * plan yet, and the last bytes of the log. The bytes of shared->plan and shared->directory are lost. */
 static uint32_t join_tail(boddurci_shared *shared, int redo, boddurci_fault *fault)
 {
     struct boddurci_tail *tail = &shared->tail;
-    int has_tail = boddurci_has_tail(tail);
-    uint32_t status = has_tail ? prepare_plan(tail, fault) : BODDURCI_DONE;
+    uint32_t status = prepare_plan(tail, fault);
     if (status != BODDURCI_DONE)
         return status;
-    size_t from = has_tail ? tail->joined : tail->end, length = tail->end - from;
-    if (boddurci_read_at(redo, BODDURCI_RECORDS_AT + from, shared->plan, length + BODDURCI_NEXT) != 0)
+    size_t start = tail->joined < tail->last ? tail->joined : tail->last, length = tail->end - start;
+    if (boddurci_read_at(redo, BODDURCI_RECORDS_AT + start, shared->plan, length + BODDURCI_NEXT) != 0)
         return boddurci_fail_by_system(fault, "BASE.redo cannot be read");
-    if (boddurci_has_next(shared->plan + length))
+    if (!boddurci_is_end(shared->plan + (tail->last - start), tail->end - tail->last, tail->witness))
         return BODDURCI_STALE;
-    return has_tail ? join(shared, length) : BODDURCI_DONE;
+    return join(shared, shared->plan + (tail->joined - start), tail->end - tail->joined);
 }
 
 uint32_t boddurci_read_tail(boddurci_shared *shared, int redo, const struct boddurci_log_note *note, boddurci_fault *fault)
@@ -97,6 +95,8 @@ uint32_t boddurci_read_tail(boddurci_shared *shared, int redo, const struct bodd
     tail->epoch = note->epoch;
     tail->applied = note->applied;
     tail->end = note->log.end;
+    tail->last = note->last;
+    tail->witness = note->witness;
     tail->flushed = note->flushed;
     tail->is_shared = note->is_shared;
     if (tail->room != note->log.room && !boddurci_has_room(redo, note))
@@ -138,33 +138,54 @@ static void note_written(boddurci_shared *shared)
     }
 }
 
-/* Leaves a note for the next call, with the noted state of the data files. Closes the log instead in two cases: if another program has written during this call, since the records
- * may not belong to these files, or if the boot id is unknown, since a note is valid for one boot only. If this fails, the next call recovers
- * the files. */
-static void leave_note(boddurci_shared *shared)
+/* Notes the last bytes of the log, which are those of the record of this plan. */
+static void note_record(boddurci_shared *shared, struct boddurci_bytes plan)
+{
+    struct boddurci_tail *tail = &shared->tail;
+    size_t record = plan.length - BODDURCI_PLAN_AT + HEAD, length = record < BODDURCI_WITNESS_MOST ? record : BODDURCI_WITNESS_MOST;
+    size_t end = shared->logged.next.end;
+    tail->last = end > length ? end - length : 0;
+    tail->witness = boddurci_witness_of(plan.at + (plan.length - length), length);
+}
+
+/* Writes a note, and makes it valid if it is the first of its log. The epoch is written last. */
+static int put_note(boddurci_shared *shared, const struct boddurci_log_note *note, int is_new)
+{
+    struct boddurci_disk *disk = &shared->logged.disk;
+    int lock = boddurci_notes_of(&shared->place);
+    int status = boddurci_put_note(lock, &shared->boot, note, shared->notes.files);
+    if (status == 0 && is_new)
+        status = boddurci_put_flushed(lock, note->epoch, note->applied) | boddurci_put_failed(lock, 0);
+    if (status == 0 && is_new)
+        status = boddurci_put_epoch(disk->files[BODDURCI_REDO], note->epoch);
+    disk->is_too_long = disk->is_too_long || (status != 0 && errno == EFBIG);
+    return status;
+}
+
+/* Leaves a note for the next call, with the noted state of the data files. Closes the log instead in three cases: if another program has
+ * written during this call, since the records may not belong to these files; if the boot id is unknown, since a note is valid for one boot
+ * only; or if the note cannot be written. If this fails too, the next call recovers the files. Returns -1 if the note cannot be written and
+ * the log has a tail, so that it was not closed. */
+static int leave_note(boddurci_shared *shared)
 {
     boddurci_fault unsaid;
     struct boddurci_logged *logged = &shared->logged;
     struct boddurci_tail *tail = &shared->tail;
-    struct boddurci_log_note note = {.log = logged->next, .applied = tail->applied};
+    struct boddurci_log_note note = {.log = logged->next, .applied = tail->applied, .last = tail->last, .witness = tail->witness};
     boddurci_settle_locks(&shared->place);
     if (!boddurci_logged_is_marked(logged))
-        return;
-    if (shared->notes.is_overtaken || !shared->boot.is_known) {
-        (void)!boddurci_logged_renew(logged, &unsaid);
-        return;
-    }
-    int redo = logged->disk.files[BODDURCI_REDO], is_new = logged->epoch == 0;
-    if (is_new)
+        return 0;
+    int is_valid = !shared->notes.is_overtaken && shared->boot.is_known, is_new = logged->epoch == 0;
+    if (is_valid && is_new)
         logged->epoch = boddurci_new_epoch();
     note.epoch = tail->epoch = logged->epoch;
     tail->end = logged->next.end;
-    int lock = shared->place.opened[BODDURCI_LOCK];
-    int is_put = boddurci_put_note(lock, &shared->boot, &note, shared->notes.files) == 0;
-    if (is_put && is_new)
-        is_put = boddurci_put_flushed(lock, note.epoch, note.applied) == 0 && boddurci_put_epoch(redo, note.epoch) == 0;
-    if (!is_put && tail->applied == tail->end)
-        (void)!boddurci_logged_renew(logged, &unsaid);
+    if (is_valid && put_note(shared, &note, is_new) == 0)
+        return 0;
+    if (is_valid && boddurci_has_tail(tail))
+        return -1;
+    (void)!boddurci_logged_renew(logged, &unsaid);
+    return 0;
 }
 
 uint32_t boddurci_apply_tail(boddurci_shared *shared, boddurci_fault *fault)
@@ -173,7 +194,7 @@ uint32_t boddurci_apply_tail(boddurci_shared *shared, boddurci_fault *fault)
     struct boddurci_logged *logged = &shared->logged;
     if (!boddurci_has_tail(tail))
         return BODDURCI_DONE;
-    /* If this call has a plan in shared->plan, all records are joined already. */
+    /* If this call has a plan in shared->plan, boddurci_read_tail has joined all records. */
     uint32_t status = tail->joined < tail->end ? join_tail(shared, logged->disk.files[BODDURCI_REDO], fault) : BODDURCI_DONE;
     if (status == BODDURCI_STALE)
         return boddurci_fail(fault, BODDURCI_BAD_REDO, 0, boddurci_files_text(BODDURCI_BAD_REDO));
@@ -188,7 +209,7 @@ uint32_t boddurci_apply_tail(boddurci_shared *shared, boddurci_fault *fault)
     tail->applied = tail->flushed = tail->end;
     tail->owed = tail->length = 0;
     note_written(shared);
-    leave_note(shared);
+    (void)!leave_note(shared);
     return status;
 }
 
@@ -230,8 +251,13 @@ static uint32_t append(boddurci_shared *shared, struct boddurci_bytes plan, int 
     /* Even a refused append may have changed the times of the data files. */
     if (logged->disk.has_reserved)
         note_written(shared);
-    if (*is_appended || status != BODDURCI_DONE)
-        leave_note(shared);
+    if (*is_appended)
+        note_record(shared, plan);
+    /* Without a note the next flush would not find the record, so it is flushed at once. */
+    int is_noted = (*is_appended || status != BODDURCI_DONE) ? leave_note(shared) == 0 : 1;
+    if (!is_noted)
+        return status == BODDURCI_DONE ? boddurci_apply_tail(shared, fault) : status;
+    tail->is_later = tail->is_later || (*is_appended && (shared->flags & BODDURCI_NO_FLUSH));
     if (*is_appended && !(shared->flags & BODDURCI_NO_FLUSH))
         tail->owed = tail->end;
     return status;
@@ -249,7 +275,8 @@ static uint32_t save(boddurci_shared *shared, struct boddurci_bytes plan, boddur
     shared->tail.applied = shared->tail.end = shared->logged.next.end;
     if (status == BODDURCI_DONE && !is_left) {
         note_written(shared);
-        leave_note(shared);
+        note_record(shared, plan);
+        (void)!leave_note(shared);
     }
     return status;
 }
@@ -274,45 +301,50 @@ void boddurci_owe_tail(boddurci_shared *shared)
         tail->owed = tail->end;
 }
 
-/* Writes the flushed end. A lock may be open for reading only, so the file is opened again if necessary. Preserves errno. */
-static void put_flushed(const boddurci_shared *shared, uint64_t epoch, uint64_t end)
+/* Writes how a flush of a log up to `end` has ended. A lock may be open for reading only, so the file is opened again if necessary. Preserves
+ * errno. */
+static void put_outcome(boddurci_shared *shared, uint64_t epoch, uint64_t end, int has_failed)
 {
     boddurci_fault unsaid;
-    int system = errno, opened = -1;
-    if (boddurci_put_flushed(shared->place.opened[BODDURCI_LOCK], epoch, end) != 0 && errno == EBADF &&
-        boddurci_open_beside(&shared->place, BODDURCI_LOCK, O_RDWR, &opened, &unsaid) == BODDURCI_DONE && opened >= 0)
-        (void)!boddurci_put_flushed(opened, epoch, end);
+    struct boddurci_disk *disk = &shared->logged.disk;
+    int system = errno, opened = -1, lock = boddurci_notes_of(&shared->place);
+    boddurci_hold_signal(disk);
+    int status = has_failed ? boddurci_put_failed(lock, epoch) : boddurci_put_flushed(lock, epoch, end);
+    if (status != 0 && errno == EBADF && boddurci_open_beside(&shared->place, BODDURCI_LOCK, O_RDWR, &opened, &unsaid) == BODDURCI_DONE &&
+        opened >= 0)
+        status = has_failed ? boddurci_put_failed(opened, epoch) : boddurci_put_flushed(opened, epoch, end);
+    disk->is_too_long = status != 0 && errno == EFBIG;
+    boddurci_give_signal(disk);
     if (opened >= 0)
         close(opened);
     errno = system;
 }
 
-/* Returns whether the records of a log up to `end` are flushed, as its notes say. Sets the note, and *noted to its kind. If the log was
- * emptied or recovered meanwhile, all its former records are durable. */
+/* Returns whether the records of a log up to `end` are flushed, as its notes say. Sets the note, and *noted to its kind. */
 static int is_flushed(const boddurci_shared *shared, int redo, uint64_t epoch, size_t end, enum boddurci_noted *noted,
                       struct boddurci_log_note *note)
 {
-    *noted = boddurci_look_at_note(redo, shared->place.opened[BODDURCI_LOCK], &shared->boot, note);
-    if (*noted != BODDURCI_NOTED)
-        return *noted == BODDURCI_UNMARKED;
-    return note->epoch != epoch || (note->flushed >= end && note->flushed != BODDURCI_FLUSH_FAILED);
+    *noted = boddurci_look_at_note(redo, boddurci_notes_of(&shared->place), &shared->boot, note);
+    return *noted == BODDURCI_NOTED && note->epoch == epoch && !note->has_failed && note->flushed >= end;
 }
 
-/* Flushes a log up to `end`, unless that is done, for a process that holds the lock of the redo file or has waited long for it. After a failed flush the next call
- * recovers the log, since a further flush might succeed without writing the lost bytes. */
-static int flush_alone(const boddurci_shared *shared, int redo, uint64_t epoch, size_t end)
+/* Flushes a log up to `end`, unless that is done, for a process that holds the lock of the redo file or has waited long for it. If the log was
+ * emptied or recovered meanwhile, all its former records are durable, unless a flush has failed, which this flush reports too. After a failed
+ * flush the next call recovers the log, since a further flush might succeed without writing the lost bytes. */
+static int flush_alone(boddurci_shared *shared, int redo, uint64_t epoch, size_t end)
 {
     enum boddurci_noted noted;
     struct boddurci_log_note note;
     if (is_flushed(shared, redo, epoch, end, &noted, &note))
         return 0;
-    if (noted == BODDURCI_NOTED && note.flushed == BODDURCI_FLUSH_FAILED) {
+    int is_own = noted == BODDURCI_NOTED && note.epoch == epoch;
+    if (is_own && note.has_failed) {
         errno = EIO;
         return -1;
     }
     int status = boddurci_keep_opened(redo);
-    if (status != 0 || noted == BODDURCI_NOTED)
-        put_flushed(shared, epoch, status != 0 ? BODDURCI_FLUSH_FAILED : note.log.end);
+    if (is_own)
+        put_outcome(shared, epoch, note.log.end, status != 0);
     return status;
 }
 
@@ -358,7 +390,7 @@ uint32_t boddurci_flush_all(boddurci_shared *shared, boddurci_fault *fault)
     uint32_t status = boddurci_open_redo(shared, 0, &redo, fault);
     enum boddurci_noted noted = BODDURCI_UNMARKED;
     if (status == BODDURCI_DONE && redo >= 0)
-        noted = boddurci_look_at_note(redo, boddurci_lock_file(&shared->place), &shared->boot, &note);
+        noted = boddurci_look_at_note(redo, boddurci_open_notes(&shared->place), &shared->boot, &note);
     if (noted == BODDURCI_NOTED)
         status = boddurci_flush_log(shared, redo, note.epoch, note.log.end, fault);
     else if (noted == BODDURCI_UNKNOWN && boddurci_keep_opened(redo) != 0)

@@ -14,6 +14,7 @@
 #include "boddurci_files.h"
 #include <errno.h>
 #include <fcntl.h>
+#include <malloc.h>
 #include <grp.h>
 #include <pthread.h>
 #include <signal.h>
@@ -1022,6 +1023,38 @@ static void test_long(void)
     boddurci_close_shared(shared);
 }
 
+/* ---- memory */
+
+/* Returns the bytes that the program has from malloc. */
+static size_t used_bytes(void)
+{
+    struct mallinfo2 info = mallinfo2();
+    return info.uordblks + info.hblkhd;
+}
+
+/* A handle takes less than 1 MiB, in a base of several MiB. */
+static void test_memory(void)
+{
+    char key[20];
+    boddurci_base *base = boddurci_open_files("memory", 0, &fault);
+    boddurci *db = boddurci_take(base);
+    for (int i = 0; i < 40000; i++)
+        EXPECT(boddurci_store(db, (uint8_t *)key, (size_t)sprintf(key, "%d", i), BYTES("a value of some bytes"), 0) == BODDURCI_DONE);
+    boddurci_give(base);
+    EXPECT(boddurci_save(base, &fault) == BODDURCI_DONE);
+    boddurci_close_files(base);
+    size_t before = used_bytes(), most = 0;
+    boddurci_shared *shared = opened("memory", 0);
+    uint32_t counter = counter_of(shared);
+    for (int i = 0; i < 2000; i++) {
+        sprintf(key, "counter %d", i % 300);
+        EXPECT(increment(shared, counter, key) == (uint64_t)i / 300 + 1 && has(shared, key, NULL) == 0);
+        most = used_bytes() > most ? used_bytes() : most;
+    }
+    EXPECT(most > before && most - before < 1 << 20);
+    boddurci_close_shared(shared);
+}
+
 /* ---- forks and threads */
 
 static void test_forks(void)
@@ -1229,6 +1262,7 @@ static int calls(const char *folder)
     test_signals();
     test_replaced();
     test_swapped();
+    test_memory();
     test_replaced_locks();
     test_long();
     test_forks();

@@ -347,6 +347,37 @@ static void restore(const char *base, const struct copy *copy, int is_new)
     }
 }
 
+static uint64_t epoch_of_log(const char *base)
+{
+    uint8_t bytes[8];
+    read_bytes(base, ".redo", EPOCH_OF_LOG, bytes, sizeof bytes);
+    return word_of(bytes);
+}
+
+/* Whoever empties, recovers or closes a log makes the notes about it invalid. */
+static void test_epochs(void)
+{
+    uint64_t first, second;
+    boddurci_shared *later = opened("epochs", BODDURCI_NO_FLUSH);
+    EXPECT(stores(later, "a", "1") && stores(later, "a", "2") && tail_of("epochs") != 0);
+    first = epoch_of_log("epochs");
+    EXPECT(first != 0 && first == word_at("epochs", EPOCH) && stores(later, "a", "3") && epoch_of_log("epochs") == first);
+    /* A service recovers the tail, and has the log open for its own saves. */
+    boddurci_base *service = boddurci_open_files("epochs", 0, &fault);
+    EXPECT(service != NULL && epoch_of_log("epochs") == 0);
+    EXPECT(boddurci_store(boddurci_take(service), BYTES("a"), BYTES("4"), 1) == BODDURCI_DONE);
+    boddurci_give(service);
+    EXPECT(boddurci_save(service, &fault) == BODDURCI_DONE && is_marked("epochs") && epoch_of_log("epochs") == 0);
+    boddurci_close_files(service);
+    EXPECT(!is_marked("epochs") && epoch_of_log("epochs") == 0 && has(later, "a", "4"));
+    EXPECT(stores(later, "a", "5") && (second = epoch_of_log("epochs")) != 0 && second != first);
+    /* A call recovers the log. */
+    change_boot("epochs");
+    EXPECT(stores(later, "a", "6") && epoch_of_log("epochs") != second && epoch_of_log("epochs") == word_at("epochs", EPOCH));
+    EXPECT(is_in_files("epochs", 0, "a", "6") && epoch_of_log("epochs") == 0);
+    boddurci_close_shared(later);
+}
+
 /* A copy of all files of the database is put back after later changes. Its log has a tail that is not in its data files. */
 static void test_restored(void)
 {
@@ -559,6 +590,7 @@ int main(int count, char **words)
     test_limit();
     test_kills();
     test_lost_records();
+    test_epochs();
     test_restored();
     test_other_log();
     test_removed_log();

@@ -1051,7 +1051,8 @@ static void test_memory(void)
         EXPECT(increment(shared, counter, key) == (uint64_t)i / 300 + 1 && has(shared, key, NULL) == 0);
         most = used_bytes() > most ? used_bytes() : most;
     }
-    EXPECT(most > before && most - before < 1 << 20);
+    /* A sanitizer has its own malloc, for which mallinfo2 returns zeros. */
+    EXPECT(most == 0 || (most > before && most - before < 1 << 20));
     boddurci_close_shared(shared);
 }
 

@@ -612,7 +612,7 @@ static uint32_t store_long(boddurci_shared *shared, int number)
     return store(shared, key, value);
 }
 
-/* A split must not overwrite a page that has bytes, even if the directory does not lead to that page. Such a split fails as it does on the
+/* A split must not overwrite a page that has bytes, even if the directory does not lead to that page. The split fails as it does on the
  * whole database. */
 static void test_targets(void)
 {
@@ -1195,7 +1195,7 @@ static void *count_in_thread(void *own)
     return NULL;
 }
 
-/* Tests threads, half of which share one handle. */
+/* Tests threads. Half of them share one handle. */
 static void test_threads(void)
 {
     pthread_t threads[THREADS];

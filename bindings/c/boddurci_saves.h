@@ -460,7 +460,7 @@ void boddurci_logged_end(struct boddurci_logged *logged);
  * applies the saves in memory. Free the bytes even if the call fails. */
 uint32_t boddurci_read_marked(struct boddurci_place *place, int *is_marked, struct boddurci_bytes files[2], boddurci_fault *fault);
 
-/* ---- boddurci_notes.c: the recorded state of the data files, by which a save notices changes made by other programs */
+/* ---- boddurci_notes.c: the recorded state of the data files. A save compares it with the files to notice changes made by other programs. */
 
 /* The state of a data file. */
 struct boddurci_note {
@@ -627,7 +627,7 @@ void boddurci_boot_of_system(struct boddurci_boot *boot);
 struct boddurci_log_note {
     boddurci_log log;
     size_t applied;   /* the end of the applied records */
-    size_t last;      /* where the last bytes of the records begin, up to BODDURCI_WITNESS_MOST bytes of the last record */
+    size_t last;      /* the offset of the last bytes of the last record, at most BODDURCI_WITNESS_MOST bytes */
     uint64_t witness; /* the hash of these bytes: another log would hardly have the same */
     uint64_t epoch;   /* differs for each log that was empty meanwhile */
     uint64_t flushed; /* the records before this end are flushed */
@@ -643,8 +643,8 @@ enum boddurci_noted {
 };
 
 /* Reads the notes about an open redo file in an open BASE.lock, which is -1 if it is missing. Sets the note if the result is NOTED.
- * `boddurci_read_note` does not test whether the redo file has the room in the note, and whether its records end where the note says:
- * `boddurci_has_room` and `boddurci_is_end` do. The latter gets the last bytes of the records, their length without the BODDURCI_NEXT bytes
+ * `boddurci_read_note` does not test whether the redo file has the room and the end of the note: `boddurci_has_room` and
+ * `boddurci_is_end` do. The latter gets the last bytes of the records, their length without the BODDURCI_NEXT bytes
  * that follow, and their witness. `boddurci_look_at_note` is for a process that holds no lock. It makes neither test, returns NOTED even if a
  * flush has failed, and returns UNKNOWN if a process writes the note meanwhile, even if it reads again. */
 enum { BODDURCI_RECORDS_AT = 4096, BODDURCI_NEXT = 8, BODDURCI_WITNESS_MOST = 256 };

@@ -236,7 +236,7 @@ boddurci_shared *boddurci_open_shared(const char *name, uint32_t flags, boddurci
     return NULL;
 }
 
-/* Applies the tail of the log, if the handle has made changes. Flushes it first if no call did. */
+/* Applies the tail of the log if it is flushed. Flushes it first if a call of this handle has left a record in it. */
 static void finish_tail(boddurci_shared *shared)
 {
     boddurci_fault unsaid;

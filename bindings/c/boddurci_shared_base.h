@@ -136,7 +136,7 @@ int boddurci_lay_tail(struct boddurci_tail *tail, enum boddurci_file file, size_
 /* Saves by a plan in shared->plan with this length: appends its record, or saves it as boddurci_logged_save does. */
 uint32_t boddurci_save_or_append(boddurci_shared *shared, size_t length, boddurci_fault *fault);
 
-/* Syncs the log and applies its tail, under both locks. Reads the state of the data files again. */
+/* Syncs the log, applies its tail and leaves a note, under both locks. Notes the new state of the data files. */
 uint32_t boddurci_apply_tail(boddurci_shared *shared, boddurci_fault *fault);
 
 /* Records that a reply depends on the tail, if it does. A call of a base without NO_FLUSH then flushes the tail before it returns. */

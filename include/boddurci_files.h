@@ -18,9 +18,9 @@
  * The log. A save appends a record to the log in BASE.redo and syncs that file once, which makes the save durable. Then it writes BASE.pag
  * and BASE.dir without a sync. BASE.redo belongs to these two files: keep all three together. Its first byte, the mark, is 1 while
  * BASE.redo has saves that may not be on the disk in both files. Closing the base syncs both files and clears the mark. After a kill or a
- * loss of power the next opening of the base recovers both files. A program that does not know the log, such as Perl's SDBM_File, sees each
- * save at once. But after a loss of power such a program may see old or mixed pages, until this library or dbm has opened the base for
- * writing once.
+ * loss of power the next opening of the base recovers both files. A program that does not know the log, such as Perl's SDBM_File, sees a
+ * save once the data files are written, some microseconds after the sync. But after a loss of power such a program may see old or mixed
+ * pages, until this library or dbm has opened the base for writing once.
  *
  * Writers. One process at a time has a base open for writing, by this library or by the program dbm. This process holds a flock on
  * BASE.writer. Other processes wait for the lock as long as they request, and then get LOCKED. The text of the fault names the process that
@@ -172,20 +172,20 @@ void boddurci_give(boddurci_base *base);
  * other file systems that get their times from a server, a save compares pages and not times, so it does not notice a write on a page that
  * this base has changed too.
  *
- * Threads may save at the same time, each after its own changes. A call returns the result of a save that began after the call, so the
- * caller's changes are in that save. A save waits for readers that hold BASE.lock. Calls that come during a save wait until it has ended.
- * Then one of these calls saves for all of them, and all of them return the status and the fault of that save. After a fault each caller
- * may save again. No thread is served twice while another one waits. A single thread never waits for other threads. If a thread is
- * cancelled during the call, the cancellation takes effect after the call. While saves take less than half a millisecond, a waiting thread
- * polls and yields the processor for twice as long as the last save took, and then sleeps. Under SCHED_FIFO a thread yields only to threads
- * of the same priority.
+ * Threads may save at the same time, each after its own changes. A call returns the result of a save that has the caller's changes. A save
+ * waits for readers that hold BASE.lock. Calls that come during a save wait until it has ended. Then one of these calls saves for all of
+ * them. Once that save is durable, the other calls return DONE, and the saving call writes the data files. If the save fails before, all of
+ * them return its status and its fault, and each caller may save again. No thread is served twice while another one waits. A single thread
+ * never waits for other threads. If a thread is cancelled during the call, the cancellation takes effect after the call. While saves take
+ * less than half a millisecond, a waiting thread polls and yields the processor for twice as long as the last save took, and then sleeps.
+ * Under SCHED_FIFO a thread yields only to threads of the same priority.
  *
  * Full disks. Before a save is committed, both files get the blocks that they need, if the file system can allocate them. So a save on a
  * full disk returns FILE_FAILED, and nothing has changed. A save also returns FILE_FAILED if it would make one of the three files longer
  * than the process may (RLIMIT_FSIZE); it raises no SIGXFSZ. If a file cannot be written although the save is committed, the save returns
- * DONE, fault->system is not 0, and the text names the file. The save is then durable in BASE.redo, and the next save or opening for
- * writing writes it to both files. Until then a program that does not know BASE.redo, such as Perl's SDBM_File, may see half of the
- * save. */
+ * DONE, fault->system is not 0, and the text names the file. Of the calls that share the save, only the one that saves reports this. The
+ * save is then durable in BASE.redo, and the next save or opening for writing writes it to both files. Until then a program that does not
+ * know BASE.redo, such as Perl's SDBM_File, may see half of the save. */
 uint32_t boddurci_save(boddurci_base *base, boddurci_fault *fault) BODDURCI_IS_LOOKED_AT;
 uint32_t boddurci_save_with(boddurci_base *base, uint32_t flags, boddurci_fault *fault) BODDURCI_IS_LOOKED_AT;
 

@@ -15,6 +15,7 @@
 #include <stdio.h>
 #include <stdlib.h>
 #include <string.h>
+#include <sys/file.h>
 #include <sys/stat.h>
 #include <sys/uio.h>
 #include <sys/wait.h>
@@ -126,8 +127,7 @@ ssize_t preadv2(int file, const struct iovec *pieces, int count, off_t at, int f
 /* ---- threads that wait */
 
 /* The linker replaces sem_wait and sem_post by these. A call that waits in sem_wait is in the list for the next save. On request, a thread
- * that is not the first stops before its second post. The first post of a thread starts the next save, and the later posts wake the calls
- * that its own save has served. */
+ * that is not the first stops before its second post. Its first posts wake the calls that its save has served. */
 int __real_sem_wait(sem_t *turn);
 int __wrap_sem_wait(sem_t *turn);
 int __real_sem_post(sem_t *turn);
@@ -151,6 +151,61 @@ int __wrap_sem_post(sem_t *turn)
         AWAIT(!stops_posts);
     }
     return __real_sem_post(turn);
+}
+
+/* The linker replaces pwrite by this. On request, a thread that is not the first stops before it writes .pag. */
+ssize_t __real_pwrite(int file, const void *bytes, size_t size, off_t at);
+ssize_t __wrap_pwrite(int file, const void *bytes, size_t size, off_t at);
+
+static atomic_int stops_writes, is_write_stopped;
+
+static int is_pages(int file)
+{
+    char link[64], name[4096];
+    snprintf(link, sizeof link, "/proc/self/fd/%d", file);
+    ssize_t length = readlink(link, name, sizeof name - 1);
+    return length >= 4 && memcmp(name + length - 4, ".pag", 4) == 0;
+}
+
+ssize_t __wrap_pwrite(int file, const void *bytes, size_t size, off_t at)
+{
+    if (stops_writes && !is_first && is_pages(file)) {
+        is_write_stopped = 1;
+        AWAIT(!stops_writes);
+        is_write_stopped = 0;
+    }
+    return __real_pwrite(file, bytes, size, at);
+}
+
+/* The linker replaces flock by this. On request, a thread that is not the first stops before it takes a lock exclusively. */
+int __real_flock(int file, int how);
+int __wrap_flock(int file, int how);
+
+static atomic_int stops_locks, is_lock_stopped;
+
+int __wrap_flock(int file, int how)
+{
+    if (stops_locks && !is_first && (how & LOCK_EX) != 0) {
+        is_lock_stopped = 1;
+        AWAIT(!stops_locks);
+        is_lock_stopped = 0;
+    }
+    return __real_flock(file, how);
+}
+
+/* The linker replaces clock_gettime by this. On request, the clock of file times stands still. */
+int __real_clock_gettime(clockid_t clock, struct timespec *time);
+int __wrap_clock_gettime(clockid_t clock, struct timespec *time);
+
+static struct timespec stopped_at;
+static atomic_int is_clock_stopped;
+
+int __wrap_clock_gettime(clockid_t clock, struct timespec *time)
+{
+    int status = __real_clock_gettime(clock, time);
+    if (is_clock_stopped && clock == CLOCK_REALTIME_COARSE)
+        *time = stopped_at;
+    return status;
 }
 
 /* ---- savers */
@@ -402,8 +457,8 @@ static void test_order(void)
     boddurci_close_files(base);
 }
 
-/* The order is the same if the thread that saved for the other threads is slow to serve them: the first thread saves meanwhile, and returns
- * after them. */
+/* The order is the same if the thread that saves for the other threads is slow to serve them: the next save begins after it has served
+ * them. */
 static void test_slow(void)
 {
     struct saver savers[FEW + 1];
@@ -413,11 +468,12 @@ static void test_slow(void)
     unsigned long before = flushes;
     stops_posts = 1;
     stops_others = 0;
-    AWAIT(is_post_stopped && flushes - before == 2 * alone - 1);
+    AWAIT(is_post_stopped);
     for (int i = 0; i < 100; i++)
         rest();
-    for (int i = 0; i <= FEW; i++)
-        EXPECT(savers[i].done == (i == 0));
+    EXPECT(savers[0].done == 1 && savers[1].done == 0 && savers[2].done == 1 && flushes - before == alone - 1);
+    for (int i = 3; i <= FEW; i++)
+        EXPECT(savers[i].done == 0);
     stops_posts = 0;
     for (int i = 0; i <= FEW; i++) {
         join(&savers[i]);
@@ -426,7 +482,46 @@ static void test_slow(void)
     boddurci_close_files(base);
 }
 
-/* The linker replaces pread by this. On request each of the next calls first changes two keys, as other threads may while a save reads. */
+/* The calls of a save return once it is committed and readers have to wait, while its thread writes the data files. A call that comes then
+ * waits for the next save. */
+static void test_early(void)
+{
+    struct saver savers[FEW + 1];
+    boddurci_fault fault;
+    boddurci_base *base = opened("early");
+    flushes_alone(base);
+    start_behind(savers, base, 1);
+    stops_locks = stops_writes = 1;
+    stops_first = 0;
+    AWAIT(is_lock_stopped);
+    for (int i = 0; i < 100; i++)
+        rest();
+    for (int i = 1; i <= FEW; i++)
+        EXPECT(savers[i].done == 0);
+    stops_locks = 0;
+    AWAIT(is_write_stopped);
+    EXPECT(boddurci_open_files("early", BODDURCI_READ_ONLY | BODDURCI_NO_WAIT, &fault) == NULL && fault.status == BODDURCI_LOCKED);
+    join(&savers[0]);
+    for (int i = 2; i <= FEW; i++) {
+        join(&savers[i]);
+        EXPECT(savers[i].done == 1 && savers[i].status == BODDURCI_DONE && savers[i].fault.status == BODDURCI_DONE && savers[i].fault.system == 0);
+    }
+    unsigned long before = flushes;
+    start(&savers[2], base, 2, 0, 1);
+    AWAIT(waiting == 1);
+    for (int i = 0; i < 100; i++)
+        rest();
+    EXPECT(savers[1].done == 0 && savers[2].done == 0 && flushes == before);
+    stops_writes = 0;
+    for (int i = 1; i <= 2; i++) {
+        join(&savers[i]);
+        EXPECT(savers[i].done == 1 && savers[i].status == BODDURCI_DONE);
+    }
+    boddurci_close_files(base);
+}
+
+/* The linker replaces pread by this. On request each of the next calls first changes two keys, as other threads may while a save reads. Or
+ * the first read of .pag stops. */
 ssize_t __real_pread(int file, void *room, size_t size, off_t at);
 ssize_t __wrap_pread(int file, void *room, size_t size, off_t at);
 
@@ -434,6 +529,7 @@ enum { KEYS = 3000 };
 
 static boddurci_base *moving;
 static int stores, changing;
+static atomic_int stops_reads, is_read_stopped;
 
 static int moving_key(int which)
 {
@@ -446,6 +542,11 @@ ssize_t __wrap_pread(int file, void *room, size_t size, off_t at)
         store(moving, moving_key(stores), changing);
         store(moving, moving_key(stores) + 1, changing);
         stores--;
+    }
+    if (stops_reads && is_pages(file)) {
+        is_read_stopped = 1;
+        AWAIT(!stops_reads);
+        is_read_stopped = 0;
     }
     return __real_pread(file, room, size, at);
 }
@@ -474,6 +575,79 @@ static void test_moving(void)
     }
     boddurci_close_files(moving);
 }
+
+#ifdef BODDURCI_LONG_SAVE
+/* Two calls wait for the save of another thread, and share the next save. The save after that expects two calls, and does not wait in vain:
+ * after a wait in vain the next seven saves do not wait. The calls change the keys from `number` on. */
+static void expect_two(struct saver *savers, boddurci_base *base, int number)
+{
+    enum { ROUNDS = 2, BETWEEN = 5 };
+    for (int round = 0; round < ROUNDS; round++, number += 3) {
+        for (int i = 0; i < BETWEEN; i++)
+            EXPECT(boddurci_save(base, NULL) == BODDURCI_DONE);
+        stops_first = 1;
+        start(&savers[0], base, number, 1, 1);
+        AWAIT(is_stopped);
+        for (int i = 1; i <= 2; i++) {
+            start(&savers[i], base, number + i, 0, 1);
+            AWAIT(waiting == i);
+        }
+        stops_first = 0;
+        for (int i = 0; i <= 2; i++)
+            join(&savers[i]);
+    }
+}
+
+/* Starts a call during the reading of a save. Returns whether the call shares that save: it returns while the saving thread writes the data
+ * files. */
+static int has_joined(boddurci_base *base, int try)
+{
+    struct saver savers[3];
+    expect_two(savers, base, 6 * try);
+    unsigned long before = flushes;
+    stops_reads = stops_writes = 1;
+    start(&savers[1], base, moving_key(2) + try, 0, 1);
+    AWAIT(is_read_stopped);
+    start(&savers[2], base, moving_key(3) + try, 0, 1);
+    AWAIT(waiting == 1);
+    EXPECT(flushes == before && savers[1].done == 0 && savers[2].done == 0);
+    stops_reads = 0;
+    AWAIT(is_write_stopped);
+    for (int i = 0; i < 100 && savers[2].done == 0; i++)
+        rest();
+    int has_joined = savers[2].done;
+    EXPECT(savers[1].done == 0);
+    stops_writes = 0;
+    for (int i = 1; i <= 2; i++) {
+        join(&savers[i]);
+        EXPECT(savers[i].done == 1 && savers[i].status == BODDURCI_DONE);
+    }
+    EXPECT(flushes == before + 1 && left_value(moving_key(2) + try) == 1 && left_value(moving_key(3) + try) == 1);
+    return has_joined;
+}
+
+/* A save that expects further calls reads the files before they come, if it begins in the same clock tick as the last save. A call that comes
+ * during that reading shares the save, which has its change. */
+static void test_joining(void)
+{
+    enum { TRIES = 10, OLD = 50 };
+    int try = 0;
+    moving = opened("joining");
+    for (int i = 0; i < KEYS; i++)
+        store(moving, i, 0);
+    EXPECT(boddurci_save(moving, NULL) == BODDURCI_DONE);
+    for (int i = 0; i < OLD; i++)
+        rest();
+    store(moving, 0, -1);
+    EXPECT(boddurci_save(moving, NULL) == BODDURCI_DONE && clock_gettime(CLOCK_REALTIME_COARSE, &stopped_at) == 0);
+    is_clock_stopped = 1;
+    while (try < TRIES && !has_joined(moving, try))
+        try++;
+    is_clock_stopped = 0;
+    EXPECT(try < TRIES);
+    boddurci_close_files(moving);
+}
+#endif
 
 static atomic_int heard;
 
@@ -527,7 +701,11 @@ int main(int argc, char **argv)
     test_failing();
     test_order();
     test_slow();
+    test_early();
     test_moving();
+#ifdef BODDURCI_LONG_SAVE
+    test_joining();
+#endif
     test_disturbed();
     printf("%lu answers as expected\n", looked);
     return 0;

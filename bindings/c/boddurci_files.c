@@ -219,6 +219,7 @@ static boddurci_base *new_base(uint32_t flags)
     base->process = boddurci_note_process();
     boddurci_no_place(&base->place);
     boddurci_logged_of(&base->logged, &base->place, &base->notes);
+    base->logged.group = &base->saves;
     if (pthread_mutex_init(&base->mutex, NULL) == 0) {
         if (boddurci_group_init(&base->saves) == 0)
             return base;

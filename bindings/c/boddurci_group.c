@@ -63,20 +63,15 @@ int boddurci_group_init(struct boddurci_group *group)
 {
     group->first = NULL;
     group->last = &group->first;
+    group->rest = NULL;
     group->is_saving = group->waiting = group->others = group->skips = group->served = 0;
     group->took = LONG_SAVE;
-    if (pthread_mutex_init(&group->mutex, NULL) != 0)
-        return -1;
-    if (pthread_mutex_init(&group->serving, NULL) == 0)
-        return 0;
-    pthread_mutex_destroy(&group->mutex);
-    return -1;
+    return pthread_mutex_init(&group->mutex, NULL) == 0 ? 0 : -1;
 }
 
 void boddurci_group_destroy(struct boddurci_group *group)
 {
     pthread_mutex_destroy(&group->mutex);
-    pthread_mutex_destroy(&group->serving);
 }
 
 /* Adds a call to the list. Returns 1 if the call must wait, and 0 if it must save now. */
@@ -142,21 +137,31 @@ static void await_others(struct boddurci_group *group)
     group->skips = had < others && has == had ? SKIPS : 0;
 }
 
-/* Empties the list of waiting calls. The first call saves, and the others follow from its `next`. */
-static void take_all(struct boddurci_group *group)
-{
-    boddurci_lock_soon(&group->mutex);
-    group->first = NULL;
-    group->last = &group->first;
-    group->served = __atomic_exchange_n(&group->waiting, 0, __ATOMIC_RELAXED);
-    pthread_mutex_unlock(&group->mutex);
-}
-
 static int has_one_that_insists(const struct boddurci_call *call)
 {
     while (call != NULL && !call->insists)
         call = call->next;
     return call != NULL;
+}
+
+int boddurci_group_awaits(const struct boddurci_group *group)
+{
+    return group->others >= 2 && group->skips == 0 && __atomic_load_n(&group->took, __ATOMIC_RELAXED) < LONG_SAVE;
+}
+
+/* The first call of the list saves, and the others become the rest. */
+int boddurci_group_take(struct boddurci_group *group)
+{
+    await_others(group);
+    group->begun = now();
+    boddurci_lock_soon(&group->mutex);
+    struct boddurci_call *first = group->first;
+    group->first = NULL;
+    group->last = &group->first;
+    group->served = __atomic_exchange_n(&group->waiting, 0, __ATOMIC_RELAXED);
+    pthread_mutex_unlock(&group->mutex);
+    group->rest = first->next;
+    return has_one_that_insists(first);
 }
 
 /* Lets a call continue. Once the call has the new state, it may no longer exist, unless its thread sleeps. */
@@ -166,22 +171,13 @@ static void wake(struct boddurci_call *call, int state)
         sem_post(&call->turn);
 }
 
-/* Gives the turn to save to the first waiting call. That call exists until it has the turn, since nobody else empties the list. The next
- * save expects the waiting calls and the calls that were just served, whose threads may save again. */
-static void pass_on(struct boddurci_group *group)
+/* Copies the result of a save to the rest of its calls, and wakes them. The next save expects the calls that wait now and those that are
+ * served, whose threads may save again. */
+static void serve_rest(struct boddurci_group *group, uint32_t status, const boddurci_fault *fault)
 {
-    boddurci_lock_soon(&group->mutex);
-    struct boddurci_call *next = group->first;
-    group->is_saving = next != NULL;
+    struct boddurci_call *call = group->rest;
+    group->rest = NULL;
     group->others = waiting_in(group) + group->served;
-    pthread_mutex_unlock(&group->mutex);
-    if (next != NULL)
-        wake(next, HAS_TURN);
-}
-
-/* Copies the result of a save to each of these calls, and wakes them. */
-static void serve(struct boddurci_call *call, uint32_t status, const boddurci_fault *fault)
-{
     while (call != NULL) {
         struct boddurci_call *next = call->next;
         call->status = status;
@@ -189,6 +185,24 @@ static void serve(struct boddurci_call *call, uint32_t status, const boddurci_fa
         wake(call, IS_SERVED);
         call = next;
     }
+}
+
+void boddurci_group_serve(struct boddurci_group *group)
+{
+    boddurci_fault none;
+    serve_rest(group, boddurci_no_fault(&none), &none);
+    group->is_served = 1;
+}
+
+/* Gives the turn to save to the first waiting call. That call exists until it has the turn, since nobody else empties the list. */
+static void pass_on(struct boddurci_group *group)
+{
+    boddurci_lock_soon(&group->mutex);
+    struct boddurci_call *next = group->first;
+    group->is_saving = next != NULL;
+    pthread_mutex_unlock(&group->mutex);
+    if (next != NULL)
+        wake(next, HAS_TURN);
 }
 
 /* Waits until a call has the turn or is served. Waking a thread takes longer than a short save. So the thread first spins for about the
@@ -209,15 +223,12 @@ static int wait_for(struct boddurci_call *call, int64_t took)
 /* Saves for all waiting calls. `call` is the first of them. */
 static void save_for_all(struct boddurci_group *group, struct boddurci_call *call, boddurci_saving *save, boddurci_base *base)
 {
-    await_others(group);
-    int64_t begun = now();
-    take_all(group);
-    call->status = save(base, has_one_that_insists(call), call->fault);
-    __atomic_store_n(&group->took, now() - begun, __ATOMIC_RELAXED);
-    pthread_mutex_lock(&group->serving);
+    group->is_served = 0;
+    call->status = save(base, call->fault);
+    if (!group->is_served)
+        serve_rest(group, call->status, call->fault);
+    __atomic_store_n(&group->took, now() - group->begun, __ATOMIC_RELAXED);
     pass_on(group);
-    serve(call->next, call->status, call->fault);
-    pthread_mutex_unlock(&group->serving);
 }
 
 /* Disables cancellation meanwhile, since the call is in the list or other threads wait for its save. */

@@ -166,6 +166,7 @@ void boddurci_logged_of(struct boddurci_logged *logged, struct boddurci_place *p
 {
     boddurci_disk_of(&logged->disk, place);
     logged->notes = notes;
+    logged->group = NULL;
     logged->is_open = logged->is_doubtful = logged->is_given_up = logged->is_grown = logged->is_sharing = 0;
     logged->epoch = 0;
 }
@@ -446,12 +447,14 @@ static int commit(struct boddurci_logged *logged, const struct boddurci_steps *s
     return -1;
 }
 
-/* Writes a committed save to the data files. */
+/* Writes a committed save to the data files. The other threads of the save return as soon as readers have to wait for these writes. */
 static int apply(struct boddurci_logged *logged, const struct boddurci_steps *steps)
 {
     struct boddurci_disk *disk = &logged->disk;
     if (boddurci_take_files(disk->place) != 0)
         return -1;
+    if (logged->group != NULL)
+        boddurci_group_serve(logged->group);
     boddurci_look_meanwhile(logged->notes, disk);
     return boddurci_do_steps(disk, steps->at + steps->committed, steps->count - steps->committed, steps->bytes);
 }

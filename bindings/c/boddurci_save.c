@@ -171,10 +171,13 @@ static uint32_t read_part(boddurci_base *base, enum boddurci_file which, struct 
     return status;
 }
 
-/* Reads the directory and the listed pages. */
-static uint32_t read_listed(boddurci_base *base, struct reading *reading, const struct reading *before, boddurci_fault *fault)
+/* Takes the directory from an earlier reading, or reads it, and reads the listed pages. */
+static uint32_t read_listed(boddurci_base *base, struct reading *reading, struct reading *before, boddurci_fault *fault)
 {
-    uint32_t status = read_part(base, BODDURCI_DIRECTORY, reading, before, fault);
+    static const struct boddurci_bytes none;
+    reading->directory = before->directory;
+    before->directory = none;
+    uint32_t status = reading->directory.at == NULL ? read_part(base, BODDURCI_DIRECTORY, reading, before, fault) : BODDURCI_DONE;
     reading->pages = calloc(reading->listed.count + 1, reading->size);
     if (reading->pages == NULL)
         return boddurci_no_memory(fault);
@@ -272,7 +275,7 @@ static int read_more(boddurci_base *base, struct saving *saving)
 
 /* Lists the pages to read, reads them, and plans. It holds the mutex while it lists and plans. If `holds` is 1, it holds the mutex also
  * while it reads. */
-static uint32_t try_plan(boddurci_base *base, struct saving *saving, const struct reading *before, int holds, boddurci_fault *fault)
+static uint32_t try_plan(boddurci_base *base, struct saving *saving, struct reading *before, int holds, boddurci_fault *fault)
 {
     boddurci *db = boddurci_take_own(base);
     struct reading *reading = &saving->reading;
@@ -468,6 +471,12 @@ static uint32_t recover(boddurci_base *base, struct saving *saving, boddurci_fau
     return boddurci_logged_renew(&base->logged, fault);
 }
 
+static void set_lengths(struct saving *saving)
+{
+    saving->reading.length = (size_t)saving->found[BODDURCI_PAGES].length;
+    saving->reading.directory_length = (size_t)saving->found[BODDURCI_DIRECTORY].length;
+}
+
 /* Compares the files with the notes, and prepares them for a save. */
 static uint32_t prepare(boddurci_base *base, struct saving *saving, boddurci_fault *fault)
 {
@@ -489,6 +498,7 @@ static uint32_t prepare(boddurci_base *base, struct saving *saving, boddurci_fau
         status = boddurci_fail(fault, BODDURCI_TOO_LONG, 0, boddurci_files_text(BODDURCI_TOO_LONG));
     if (status == BODDURCI_DONE && !saving->are_names_same)
         boddurci_note_names(&base->notes, &base->place, folder, saving->found);
+    set_lengths(saving);
     return status;
 }
 
@@ -509,14 +519,41 @@ static void settle(boddurci_base *base, const struct saving *saving, enum boddur
     boddurci_note_saved(&base->notes, &base->logged.disk, lengths);
 }
 
+/* Returns whether a save may begin before all its calls have come: nothing is unusual, so it will probably not be refused. */
+static int may_begin_early(const boddurci_base *base)
+{
+    int is_usual = base->is_noted && base->is_planned && base->doubt == BODDURCI_SAME && base->change[0] == 0;
+    return is_usual && boddurci_logged_is_marked(&base->logged) && boddurci_group_awaits(&base->saves);
+}
+
+/* While further calls may come, compares the files with the notes, and reads the pages that have changed so far. Returns 0 if anything is
+ * unusual: then the save begins anew when it has its calls. */
+static int begin_early(boddurci_base *base, struct saving *saving)
+{
+    boddurci_fault unsaid;
+    struct reading none = {.size = saving->reading.size};
+    saving->are_names_same = boddurci_are_names_same(&base->notes, &base->place);
+    if (!saving->are_names_same || boddurci_share_files(&base->place) != 0)
+        return 0;
+    saving->change = boddurci_look_before(&base->notes, &base->logged.disk, 1, 1, saving->found, &saving->which);
+    if (saving->change != BODDURCI_SAME || are_named(base, saving->found, &unsaid) != BODDURCI_DONE)
+        return 0;
+    set_lengths(saving);
+    uint32_t status = list_changed(boddurci_take_own(base), &saving->reading.listed);
+    boddurci_give_own(base);
+    if (status == BODDURCI_DONE && saving->reading.listed.count != 0)
+        status = read_listed(base, &saving->reading, &none, &unsaid);
+    if (status != BODDURCI_DONE)
+        end_reading(&saving->reading);
+    return status == BODDURCI_DONE;
+}
+
 /* Saves after `prepare`. If no page has changed and the files match the notes, the save reads nothing; only the first save of a base
  * compares the lengths of the files and the directory. If the files equal the database, the save writes nothing. If the save insists and
  * another program wrote while the save read the files, the next save reads all pages. */
 static uint32_t save_prepared(boddurci_base *base, struct saving *saving, boddurci_fault *fault)
 {
     enum boddurci_file which;
-    saving->reading.length = (size_t)saving->found[BODDURCI_PAGES].length;
-    saving->reading.directory_length = (size_t)saving->found[BODDURCI_DIRECTORY].length;
     uint32_t status = plan_now(base, saving, fault);
     enum boddurci_change again = boddurci_look_again(&base->notes, &base->logged.disk, saving->found, &which);
     if (status == BODDURCI_DONE)
@@ -543,18 +580,19 @@ static void give_files(boddurci_base *base, uint32_t status, int were_kept)
         boddurci_keep_files(&base->place);
 }
 
-static uint32_t save(boddurci_base *base, int insists, boddurci_fault *fault)
+static uint32_t save(boddurci_base *base, boddurci_fault *fault)
 {
     struct saving saving;
     memset(&saving, 0, sizeof saving);
-    saving.insists = insists;
     saving.reading.size = base->flags & BODDURCI_WIDE ? 8192 : 1024;
     base->may_have_written = 0;
-    int were_kept = base->place.keeps_files, may_share = base->is_noted && boddurci_logged_is_marked(&base->logged);
-    if ((may_share ? boddurci_share_files(&base->place) : boddurci_take_files(&base->place)) != 0)
+    int were_kept = base->place.keeps_files, has_begun = may_begin_early(base) && begin_early(base, &saving);
+    saving.insists = boddurci_group_take(&base->saves);
+    int may_share = base->is_noted && boddurci_logged_is_marked(&base->logged);
+    if (!has_begun && (may_share ? boddurci_share_files(&base->place) : boddurci_take_files(&base->place)) != 0)
         return boddurci_fail_by_system(fault, "BASE.lock cannot be locked");
     boddurci_hold_signal(&base->logged.disk);
-    uint32_t status = prepare(base, &saving, fault);
+    uint32_t status = has_begun ? BODDURCI_DONE : prepare(base, &saving, fault);
     if (status == BODDURCI_DONE)
         status = save_prepared(base, &saving, fault);
     if (status != BODDURCI_DONE && base->may_have_written)

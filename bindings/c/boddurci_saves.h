@@ -409,6 +409,7 @@ struct boddurci_notes;
 struct boddurci_logged {
     struct boddurci_disk disk;
     struct boddurci_notes *notes;
+    struct boddurci_group *group; /* the threads that share saves, or NULL */
     boddurci_log next; /* the place of the next record; valid if is_open */
     uint64_t epoch;    /* of the notes of a shared base, while they are valid; otherwise 0 */
     int64_t emptied;   /* when the log was last empty, in nanoseconds */
@@ -557,16 +558,18 @@ struct boddurci_call;
 
 /* The calls that wait for the next save, in the order of their arrival. */
 struct boddurci_group {
-    pthread_mutex_t mutex;       /* of the list and the numbers; not held during a save */
-    pthread_mutex_t serving;     /* held while the calls of a save get its result; the next save may have begun, but delivers later */
+    pthread_mutex_t mutex;       /* of the list and `is_saving`; not held during a save */
     struct boddurci_call *first; /* or NULL */
     struct boddurci_call **last; /* the place for the pointer to the next call */
     int is_saving;               /* a thread saves, or has been given the turn to save */
     int waiting;                 /* the number of calls in the list; atomic */
-    int served;                  /* the number of calls that the last save served */
-    int others;                  /* the number of calls that the last save served or that waited when it ended */
+    struct boddurci_call *rest;  /* the calls of the present save, without that of its thread, until they are served */
+    int is_served;               /* the present save has served its calls */
+    int served;                  /* the number of calls of the last save */
+    int others;                  /* the number of calls that the last save served or that waited when it served them */
     int skips;                   /* the number of coming saves that do not wait for other calls, since a wait was in vain */
-    int64_t took;                /* the duration of the last save in nanoseconds; atomic */
+    int64_t begun;               /* when the present save took its calls, in nanoseconds */
+    int64_t took;                /* the duration of the last save from then on; atomic */
 };
 
 /* Locks a mutex that is held for a few microseconds at most. Tries for a while before it sleeps, since sleeping and waking take longer than
@@ -576,11 +579,21 @@ void boddurci_lock_soon(pthread_mutex_t *mutex);
 int boddurci_group_init(struct boddurci_group *group);
 void boddurci_group_destroy(struct boddurci_group *group);
 
-typedef uint32_t boddurci_saving(boddurci_base *base, int insists, boddurci_fault *fault);
+typedef uint32_t boddurci_saving(boddurci_base *base, boddurci_fault *fault);
 
-/* Returns the result of a save that began after this call. One thread at a time calls `save`, on behalf of all waiting calls. The save
- * insists if one of these calls does. */
+/* Returns the result of a save that took this call. One thread at a time calls `save`, on behalf of all waiting calls. */
 uint32_t boddurci_group_save(struct boddurci_group *group, boddurci_saving *save, boddurci_base *base, int insists, boddurci_fault *fault);
+
+/* Waits shortly for the threads that the last save served, if they are likely to call again, and takes all waiting calls. Returns whether one
+ * of these calls insists. Each save calls this once, before it looks for changes. */
+int boddurci_group_take(struct boddurci_group *group);
+
+/* Returns whether boddurci_group_take would probably wait for other calls, which come within microseconds. */
+int boddurci_group_awaits(const struct boddurci_group *group);
+
+/* Lets all calls of the present save return DONE, except that of its thread. The save calls this once it is committed and holds BASE.lock
+ * exclusively. So these threads work while it writes the data files, and readers that open the base later get the save. */
+void boddurci_group_serve(struct boddurci_group *group);
 
 /* ---- boddurci_files.c: an open base; boddurci_save.c saves it */
 

@@ -226,10 +226,10 @@ void boddurci_close_files(boddurci_base *base);
  *
  * Costs. A call reads all of .dir, and only a few pages of .pag, even of a long one. It compares .dir with the directory of the handle's
  * last call, or of its opening. It checks .dir only if they differ, which takes some 4 microseconds for each KiB; with 900,000 pairs .dir
- * has 8 KiB. A change appends its record to the log in BASE.redo and syncs the log, so it costs one sync. If processes wait for each other, a
- * change releases the locks before the sync, and one sync serves the changes of several processes. The log stays open between the calls of
- * all processes, with its mark. A note in BASE.lock says where the records end, for the next call. These calls take longer, and as much memory
- * as opening the base:
+ * has 8 KiB. A change appends its record to the log in BASE.redo and syncs the log, so it costs one sync. If processes wait for each other,
+ * a change releases the locks before the sync, and one sync serves the changes of several processes. The log stays open between the calls
+ * of all processes, with its mark. A note in BASE.lock says where the records end, for the next call. These calls take longer, and as much
+ * memory as opening the base:
  *
  * - calls that open the whole base: a change for which one page is not enough, a change after which the last page of .pag would be empty,
  *   and any call on files that this library has not written or whose .dir has more than 256 KiB;
@@ -240,9 +240,11 @@ void boddurci_close_files(boddurci_base *base);
  * Other calls take less than 1 MiB and the memory of the handle's programs. A change after a command of dbm, a service or Perl begins a new
  * log, which takes some syncs.
  *
- * Threads may share a handle. The handle has a mutex, for which a call waits at most as long as for a lock. In a child of the process that
- * opened the handle, the handle opens its files again by itself, so a server may open a handle before it forks. If another thread was in a
- * call on the handle during the fork, or if the child was not made by fork of the C library, each call in the child returns FORKED.
+ * Threads may share a handle. The handle has a mutex, which a call holds until it returns, even during its sync. A call waits for the mutex
+ * at most as long as for a lock. If threads make many durable changes, open a handle for each thread: then one sync serves several threads.
+ * In a child of the process that opened the handle, the handle opens its files again by itself, so a server may open a handle before it
+ * forks. If another thread was in a call on the handle during the fork, or if the child was not made by fork of the C library, each call in
+ * the child returns FORKED.
  *
  * Other programs. A program that does not know the locks, such as Perl's SDBM_File, may write between two calls, and the next call reads
  * the written data. It must not write during a call: the call would not notice the write before its commit. A write that keeps the lengths,
@@ -256,8 +258,9 @@ typedef struct boddurci_shared boddurci_shared;
 
 /* Opens a shared base. The flags are WIDE, UNSIGNED_KEYS, MUST_EXIST, ANY_SIZE, NO_FLUSH, and NO_WAIT, with which each call tries a lock
  * only once. Other flags are ignored. With MUST_EXIST the call checks that the database exists. With WIDE and without ANY_SIZE it reads the
- * database once, as a reader, to find out whether its pages look small. Returns NULL and sets *fault if one of these checks fails, the name is
- * invalid or the folder is missing. The call also reads .dir and one or two pages, without a lock, which makes the first call on the handle faster. */
+ * database once, as a reader, to find out whether its pages look small. Returns NULL and sets *fault if one of these checks fails, the name
+ * is invalid or the folder is missing. The call also reads .dir and one or two pages, without a lock, which makes the first call on the
+ * handle faster. */
 boddurci_shared *boddurci_open_shared(const char *base, uint32_t flags, boddurci_fault *fault);
 
 /* Closes the handle and frees its memory. With NO_FLUSH it flushes the changes first, but reports no failure: call boddurci_shared_flush to

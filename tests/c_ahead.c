@@ -79,8 +79,10 @@ uint32_t __wrap_boddurci_execute(boddurci_shared *shared, struct boddurci_comman
     return __real_boddurci_execute(shared, command, part, planned, is_whole);
 }
 
-int __real_boddurci_take_ahead(boddurci_shared *, const struct boddurci_part *, struct boddurci_command *, struct boddurci_planned *, uint32_t *);
-int __wrap_boddurci_take_ahead(boddurci_shared *, const struct boddurci_part *, struct boddurci_command *, struct boddurci_planned *, uint32_t *);
+int __real_boddurci_take_ahead(boddurci_shared *, const struct boddurci_part *, struct boddurci_command *, struct boddurci_planned *,
+                               uint32_t *);
+int __wrap_boddurci_take_ahead(boddurci_shared *, const struct boddurci_part *, struct boddurci_command *, struct boddurci_planned *,
+                               uint32_t *);
 int __wrap_boddurci_take_ahead(boddurci_shared *shared, const struct boddurci_part *part, struct boddurci_command *command,
                                struct boddurci_planned *planned, uint32_t *status)
 {
@@ -306,7 +308,8 @@ static void write_in_place(void)
 static void replace_files(void)
 {
     char command[1000];
-    snprintf(command, sizeof command, "cp %s.pag copy.pag && cp %s.dir copy.dir && mv copy.pag %s.pag && mv copy.dir %s.dir", base, base, base, base);
+    snprintf(command, sizeof command, "cp %s.pag new.pag && cp %s.dir new.dir && mv new.pag %s.pag && mv new.dir %s.dir", base, base, base,
+             base);
     EXPECT(system(command) == 0);
 }
 

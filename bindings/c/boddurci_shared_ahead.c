@@ -25,22 +25,33 @@ void boddurci_see_log(boddurci_shared *shared, const struct boddurci_log_note *n
 {
     enum { CALLS = 8 };
     const struct boddurci_logged *logged = &shared->logged;
-    if (note->epoch != logged->epoch || note->log.end != logged->next.end)
+    int is_known = logged->epoch != 0, is_same = note->epoch == logged->epoch && note->log.end == logged->next.end;
+    if (is_known && !is_same)
         shared->others = CALLS;
     else if (shared->others > 0)
         shared->others--;
 }
 
 /* Returns whether to execute a command ahead: other processes use the base, and the last results were not in vain. A command that reads the
- * clock has to read it under the locks. */
+ * clock has to read it under the locks. A file system that is not local may keep what it read without a lock. */
 static int is_worthwhile(boddurci_shared *shared, const struct boddurci_command *command)
 {
-    if (command->kind == BODDURCI_FETCH || command->per_second != 0 || shared->others == 0)
+    int is_possible = command->kind != BODDURCI_FETCH && command->per_second == 0 && shared->notes.is_local;
+    if (!is_possible || shared->others == 0 || shared->notes.files[BODDURCI_DIRECTORY].length > DIRECTORY_MOST)
         return 0;
     if (shared->skips == 0)
         return 1;
     shared->skips--;
     return 0;
+}
+
+/* Notes that a command was executed in vain. Each such time after another one doubles the number of calls that then execute no command
+ * ahead. */
+static void miss(boddurci_shared *shared)
+{
+    enum { MOST = 6 };
+    shared->skips = (1 << shared->misses) - 1;
+    shared->misses += shared->misses < MOST;
 }
 
 /* Reads the tail of the log and the page of a key without a lock. All files must be open. Returns 0 if the log has no valid note, or if a read
@@ -55,7 +66,7 @@ static int read_unlocked(boddurci_shared *shared, const struct boddurci_command 
     int lock = boddurci_notes_of(&shared->place);
     if (lock < 0 || files[BODDURCI_PAGES] < 0 || files[BODDURCI_DIRECTORY] < 0 || files[BODDURCI_REDO] < 0)
         return 0;
-    if (boddurci_read_note(files[BODDURCI_REDO], lock, &shared->boot, &note) != BODDURCI_NOTED)
+    if (boddurci_look_at_note(files[BODDURCI_REDO], lock, &shared->boot, &note) != BODDURCI_NOTED)
         return 0;
     if (boddurci_glance_at_tail(shared, files[BODDURCI_REDO], &note) != BODDURCI_DONE)
         return 0;
@@ -93,9 +104,10 @@ void boddurci_work_ahead(boddurci_shared *shared, const struct boddurci_command 
         return;
     if (shared->ahead == NULL && (shared->ahead = malloc(sizeof *shared->ahead)) == NULL)
         return;
-    shared->ahead->is_ready = 0;
-    if (read_unlocked(shared, command, &shared->ahead->part))
-        shared->ahead->is_ready = execute(shared, *command, shared->ahead);
+    struct boddurci_ahead *ahead = shared->ahead;
+    ahead->is_ready = read_unlocked(shared, command, &ahead->part) && execute(shared, *command, ahead);
+    if (!ahead->is_ready)
+        miss(shared);
 }
 
 /* Returns whether the bytes that were read under the locks are those on which a result depends. The number of the page depends only on .dir. */
@@ -106,17 +118,14 @@ static int has_same_bytes(const boddurci_shared *shared, const struct boddurci_p
            memcmp(ahead->page, shared->page, part->size) == 0 && memcmp(ahead->directory, shared->directory, part->directory) == 0;
 }
 
-/* Each miss after another one doubles the number of calls that work without a guess: other processes change the same page. */
 int boddurci_take_ahead(boddurci_shared *shared, const struct boddurci_part *part, struct boddurci_command *command,
                         struct boddurci_planned *planned, uint32_t *status)
 {
-    enum { MISSES = 6 };
     const struct boddurci_ahead *ahead = shared->ahead;
     if (ahead == NULL || !ahead->is_ready)
         return 0;
     if (!has_same_bytes(shared, part)) {
-        shared->skips = (1 << shared->misses) - 1;
-        shared->misses += shared->misses < MISSES;
+        miss(shared);
         return 0;
     }
     shared->misses = 0;

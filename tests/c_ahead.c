@@ -9,6 +9,7 @@
 #include <stdlib.h>
 #include <string.h>
 #include <sys/file.h>
+#include <sys/mman.h>
 #include <sys/stat.h>
 #include <sys/wait.h>
 #include <unistd.h>
@@ -527,6 +528,50 @@ static void test_no_lock(void)
     end();
 }
 
+/* A process counts on many pages. Adds the number of results that were used to *used. */
+static void count_many(uint32_t flags, unsigned start, unsigned times, unsigned *used)
+{
+    char key[20];
+    boddurci_shared *shared = opened(flags);
+    EXPECT(boddurci_shared_wait(shared, 60000) == BODDURCI_DONE);
+    seed = start;
+    for (unsigned i = 0; i < times; i++) {
+        EXPECT(counts(shared, (sprintf(key, "n%u", roll(300)), key), UINT64_MAX) != 0);
+        __atomic_fetch_add(used, (unsigned)takes, __ATOMIC_RELAXED);
+    }
+    boddurci_close_shared(shared);
+}
+
+/* The counters of several processes add up. Some processes use handles that their parent has opened, and that have found other changes. */
+static void test_processes(void)
+{
+    enum { PROCESSES = 6, TIMES = 1500 };
+    uint64_t sum = 0;
+    int status;
+    unsigned *used = mmap(NULL, sizeof *used, PROT_READ | PROT_WRITE, MAP_SHARED | MAP_ANONYMOUS, -1, 0);
+    EXPECT(used != MAP_FAILED);
+    begin("processes", BODDURCI_NO_FLUSH);
+    EXPECT(boddurci_shared_wait(one, 60000) == BODDURCI_DONE);
+    prepare(NULL);
+    for (unsigned i = 0; i < PROCESSES; i++)
+        if (fork() == 0) {
+            EXPECT(counts(one, "n0", UINT64_MAX) != 0);
+            count_many(i % 3 ? BODDURCI_NO_FLUSH : 0, i, i % 3 ? TIMES : TIMES / 10, used);
+            _exit(0);
+        }
+    for (int i = 0; i < PROCESSES; i++)
+        EXPECT(wait(&status) > 0 && status == 0);
+    for (unsigned i = 0; i < 300; i++) {
+        char key[20];
+        uint64_t number = counts(one, (sprintf(key, "n%u", i), key), UINT64_MAX);
+        EXPECT(number != 0);
+        sum += number - 1;
+    }
+    EXPECT(sum == 4 * TIMES + 2 * (TIMES / 10) + PROCESSES && *used != 0);
+    munmap(used, sizeof *used);
+    end();
+}
+
 /* Changes a counter of a model, or stores or deletes a long value, which may split its page. */
 static void change_one_of(uint64_t numbers[40], boddurci_shared *shared)
 {
@@ -578,6 +623,7 @@ int main(int count, char **words)
     test_others();
     test_rules();
     test_no_lock();
+    test_processes();
     test_damage(BODDURCI_NO_FLUSH);
     test_damage(BODDURCI_NO_FLUSH | BODDURCI_WIDE);
     printf("%lu checks\n", looked);

@@ -271,6 +271,7 @@ void boddurci_close_shared(boddurci_shared *shared)
     free(shared->directory);
     free(shared->plan);
     free(shared->tail.bytes);
+    free(shared->ahead);
     free(shared->name);
     free(shared);
 }
@@ -397,6 +398,7 @@ static uint32_t flushed(boddurci_shared *shared, uint32_t status, boddurci_fault
 static uint32_t change(boddurci_shared *shared, struct boddurci_command *command, int64_t end, boddurci_fault *fault)
 {
     int is_whole = 0;
+    boddurci_work_ahead(shared, command);
     uint32_t status = boddurci_take_call(&shared->place, 0, left_of(end), fault);
     if (status != BODDURCI_DONE)
         return status;

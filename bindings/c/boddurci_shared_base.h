@@ -41,7 +41,8 @@ struct boddurci_tail {
     size_t length;       /* of the joined plan, or 0 */
     uint64_t plan_epoch; /* of the log of the joined plan */
     size_t from, joined; /* the joined plan has the records between these ends */
-    int changes_directory; /* the joined plan may change a byte of .dir */
+    int changes_directory; /* the joined plan changes .dir */
+    uint8_t changed[512];  /* a bit for each block of .pag that the joined plan changes; blocks whose numbers differ by 4,096 share a bit */
     uint64_t epoch;      /* as the note says, like the next six fields */
     size_t applied, end; /* where the tail begins and ends */
     size_t last;         /* where the last bytes of the log begin */
@@ -77,17 +78,14 @@ struct boddurci_shared {
     uint8_t *plan;                 /* a buffer for a plan and the head of its record */
     size_t plan_room;
     struct boddurci_tail tail;
+    struct boddurci_ahead *ahead;  /* the result of a command that was executed before the locks were taken; NULL until there is one */
+    int others;                    /* if it is not 0, other processes have changed the base lately */
+    int misses, skips;             /* the last results that were in vain, and the number of calls that now execute no command ahead */
     uint8_t page[8192];
     struct boddurci_shared *next;  /* in the list of all open shared bases */
 };
 
 enum { BODDURCI_SHORT_DIRECTORY = 262144 };
-
-/* Executes a command on a handle. */
-uint32_t boddurci_answer(boddurci *db, struct boddurci_command *command);
-
-/* Returns whether a command with this status may have changed its database. */
-int boddurci_may_change(const struct boddurci_command *command, uint32_t status);
 
 /* `boddurci_change_page` executes a command on the page of its key and saves the page. `boddurci_fetch_page` does a fetch, under BASE.lock
  * shared; if a log must be recovered first, it sets *must_recover and does nothing else. If the page is not enough, both set *is_whole and
@@ -111,14 +109,61 @@ uint32_t boddurci_open_redo(boddurci_shared *shared, int writes, int *redo, bodd
 void boddurci_drop_files(boddurci_shared *shared);
 void boddurci_drop_redo(boddurci_shared *shared);
 
+/* ---- boddurci_shared_page.c: a command on the page of its key */
+
+/* The page of a key, and the lengths of the files from which the page was read. */
+struct boddurci_part {
+    size_t directory; /* the length of .dir; its bytes are in shared->directory */
+    size_t length;    /* of .pag */
+    uint32_t number;
+    size_t size;      /* of the page; its bytes are in shared->page */
+};
+
+/* The plan of a command. Its bytes are in shared->plan. */
+struct boddurci_planned {
+    size_t length;        /* of the plan, or 0 if nothing changes */
+    uint32_t numbers[80]; /* the pages that the plan may write */
+    size_t count;
+};
+
+/* Executes a command on a handle. */
+uint32_t boddurci_answer(boddurci *db, struct boddurci_command *command);
+
+/* Returns whether a command with this status may have changed its database. */
+int boddurci_may_change(const struct boddurci_command *command, uint32_t status);
+
+/* `boddurci_read_part` reads .dir and the page of a key. `boddurci_execute` executes a command on the page, plans its save and returns the
+ * status of the command or of the plan, without a fault. If the page is not enough, both set *is_whole to 1, and otherwise to 0. */
+uint32_t boddurci_read_part(boddurci_shared *shared, const struct boddurci_command *command, struct boddurci_part *part, int *is_whole,
+                            boddurci_fault *fault);
+uint32_t boddurci_execute(boddurci_shared *shared, struct boddurci_command *command, const struct boddurci_part *part,
+                          struct boddurci_planned *planned, int *is_whole);
+
+/* Sets *are_free to whether all pages that a plan may write, except that of the key, are zeros in the file. Overwrites shared->page. */
+uint32_t boddurci_are_free(boddurci_shared *shared, const struct boddurci_part *part, const struct boddurci_planned *planned, int *are_free,
+                           boddurci_fault *fault);
+
+/* ---- boddurci_shared_ahead.c: commands that are executed before the locks are taken */
+
+/* Executes the command of a change without a lock, if that is worthwhile, and keeps the result in shared->ahead. */
+void boddurci_work_ahead(boddurci_shared *shared, const struct boddurci_command *command);
+
+/* Sets the plan, the status and the results of a command to those that were kept, and returns 1. Returns 0 if there is no result, or if it
+ * is not the result for the bytes that were read under the locks, which are in shared->page and shared->directory. */
+int boddurci_take_ahead(boddurci_shared *shared, const struct boddurci_part *part, struct boddurci_command *command,
+                        struct boddurci_planned *planned, uint32_t *status);
+
+/* Notes whether other processes have changed the base since the last change of this handle. The note was read under the locks. */
+void boddurci_see_log(boddurci_shared *shared, const struct boddurci_log_note *note);
+
 /* ---- boddurci_shared_tail.c: changes of a shared base that are flushed later
  *
  * A change may return, or release the locks, once its record is written to the log. Its record is flushed later, together with those of
  * other processes, and the data files are written when all records are flushed. A call that reads the data files lays the changes of these
  * records over the bytes that it reads. */
 
-/* The tail is at most this long. */
-enum { BODDURCI_TAIL_MOST = 65536 };
+/* The tail is at most this long. Most changes of a plan are within a block of a data file. */
+enum { BODDURCI_TAIL_MOST = 65536, BODDURCI_BLOCK = 1024 };
 
 static inline int boddurci_has_tail(const struct boddurci_tail *tail)
 {
@@ -126,9 +171,12 @@ static inline int boddurci_has_tail(const struct boddurci_tail *tail)
 }
 
 /* `boddurci_no_tail` records that the log has no note. `boddurci_read_tail` reads the tail that a note describes, and joins its plans. The
- * bytes of shared->plan and shared->directory are lost. STALE if the records are invalid, or do not end as the note says. NO_MEMORY. */
+ * bytes of shared->plan are lost. STALE if the records are invalid, or do not end as the note says. NO_MEMORY. */
 void boddurci_no_tail(struct boddurci_tail *tail);
 uint32_t boddurci_read_tail(boddurci_shared *shared, int redo, const struct boddurci_log_note *note, boddurci_fault *fault);
+
+/* Like boddurci_read_tail, for a process that holds no lock: the log may already have more records than the note says. */
+uint32_t boddurci_glance_at_tail(boddurci_shared *shared, int redo, const struct boddurci_log_note *note);
 
 /* Applies the changes of the tail to a part of a data file that begins at offset `from`. */
 int boddurci_lay_tail(struct boddurci_tail *tail, enum boddurci_file file, size_t from, uint8_t *part, size_t length);

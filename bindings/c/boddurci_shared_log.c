@@ -37,24 +37,23 @@ static int write_at(int opened, off_t at, const uint8_t *bytes, size_t length)
     return put == (ssize_t)length ? 0 : -1;
 }
 
-/* Compilers make one load of this, but not of a loop. */
-static uint64_t word_at(const uint8_t *bytes)
+/* Both functions are without loops, so that the compiler makes one access of each. */
+static uint64_t word_at(const uint8_t *at)
 {
-    return (uint64_t)bytes[0] | (uint64_t)bytes[1] << 8 | (uint64_t)bytes[2] << 16 | (uint64_t)bytes[3] << 24 | (uint64_t)bytes[4] << 32 |
-           (uint64_t)bytes[5] << 40 | (uint64_t)bytes[6] << 48 | (uint64_t)bytes[7] << 56;
+    return (uint64_t)at[0] | (uint64_t)at[1] << 8 | (uint64_t)at[2] << 16 | (uint64_t)at[3] << 24 | (uint64_t)at[4] << 32 |
+           (uint64_t)at[5] << 40 | (uint64_t)at[6] << 48 | (uint64_t)at[7] << 56;
 }
 
-/* Compilers make one store of this, but not of a loop. */
-static void put_word(uint8_t *bytes, uint64_t word)
+static void put_word(uint8_t *at, uint64_t word)
 {
-    bytes[0] = (uint8_t)word;
-    bytes[1] = (uint8_t)(word >> 8);
-    bytes[2] = (uint8_t)(word >> 16);
-    bytes[3] = (uint8_t)(word >> 24);
-    bytes[4] = (uint8_t)(word >> 32);
-    bytes[5] = (uint8_t)(word >> 40);
-    bytes[6] = (uint8_t)(word >> 48);
-    bytes[7] = (uint8_t)(word >> 56);
+    at[0] = (uint8_t)word;
+    at[1] = (uint8_t)(word >> 8);
+    at[2] = (uint8_t)(word >> 16);
+    at[3] = (uint8_t)(word >> 24);
+    at[4] = (uint8_t)(word >> 32);
+    at[5] = (uint8_t)(word >> 40);
+    at[6] = (uint8_t)(word >> 48);
+    at[7] = (uint8_t)(word >> 56);
 }
 
 /* Adds a word to a hash: that of FNV-1a, with words instead of bytes. */

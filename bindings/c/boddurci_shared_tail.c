@@ -30,18 +30,34 @@ static void begin_plan(struct boddurci_tail *tail)
     tail->plan_epoch = tail->epoch;
     tail->from = tail->joined = tail->applied;
     tail->changes_directory = 0;
+    memset(tail->changed, 0, sizeof tail->changed);
 }
 
-/* Returns whether the plan of a record may change a byte of .dir. */
-static int changes_directory(boddurci_shared *shared, const uint8_t *record, size_t length)
+/* Notes the blocks of .pag that a plan changes, and whether it changes .dir. include/boddurci.h has the form of a plan. */
+static void note_changes(struct boddurci_tail *tail, const uint8_t *plan, size_t length)
 {
-    enum { NEW_LENGTH = 12 };
-    uint32_t is_touched = 0;
-    const uint8_t *plan = record + HEAD;
-    uint64_t whole = boddurci_number_at(plan + NEW_LENGTH);
-    size_t part = whole < BODDURCI_SHORT_DIRECTORY ? (size_t)whole : BODDURCI_SHORT_DIRECTORY;
-    uint32_t status = boddurci_log_lay(plan, length - HEAD, BODDURCI_DIRECTORY, 0, shared->directory, part, &is_touched);
-    return status != BODDURCI_DONE || is_touched || whole > part;
+    enum { FIRST = 28, OFFSET = 1, SIZE = 5, BYTES = 9 };
+    size_t size;
+    for (size_t at = FIRST; at + BYTES <= length; at += BYTES + 2 * size) {
+        uint64_t from = boddurci_number_at(plan + at + OFFSET);
+        size = (size_t)boddurci_number_at(plan + at + SIZE);
+        if (plan[at] != BODDURCI_PAGES)
+            tail->changes_directory = 1;
+        else
+            for (uint64_t block = from / BODDURCI_BLOCK; block * BODDURCI_BLOCK < from + size; block++)
+                tail->changed[block / 8 % sizeof tail->changed] |= (uint8_t)(1 << block % 8);
+    }
+}
+
+/* Returns whether the joined plan may change a part of a data file. */
+static int may_change(const struct boddurci_tail *tail, enum boddurci_file file, uint64_t from, size_t length)
+{
+    if (file == BODDURCI_DIRECTORY)
+        return tail->changes_directory;
+    for (uint64_t block = from / BODDURCI_BLOCK; block * BODDURCI_BLOCK < from + length; block++)
+        if (tail->changed[block / 8 % sizeof tail->changed] >> block % 8 & 1)
+            return 1;
+    return 0;
 }
 
 /* Joins the plans of records, which begin where the joined plan ends. */
@@ -55,7 +71,7 @@ static uint32_t join(boddurci_shared *shared, const uint8_t *records, size_t len
             begin_plan(tail);
             return BODDURCI_STALE;
         }
-        tail->changes_directory = tail->changes_directory || changes_directory(shared, records + at, used);
+        note_changes(tail, records + at + HEAD, used - HEAD);
     }
     tail->joined = tail->end;
     return BODDURCI_DONE;
@@ -73,9 +89,16 @@ static uint32_t prepare_plan(struct boddurci_tail *tail, boddurci_fault *fault)
     return BODDURCI_DONE;
 }
 
+/* Returns whether the records of the tail end as the note says. A later record may follow them if this process holds no lock. */
+static int is_end(const struct boddurci_tail *tail, const uint8_t *last, int is_locked)
+{
+    size_t length = tail->end - tail->last;
+    return is_locked ? boddurci_is_end(last, length, tail->witness) : boddurci_witness_of(last, length) == tail->witness;
+}
+
 /* Joins the plans of all records of the tail, and checks that the records end as the note says. Reads the records that are not in the joined
- * plan yet, and the last bytes of the log. The bytes of shared->plan and shared->directory are lost. */
-static uint32_t join_tail(boddurci_shared *shared, int redo, boddurci_fault *fault)
+ * plan yet, and the last bytes of the log. The bytes of shared->plan are lost. */
+static uint32_t join_tail(boddurci_shared *shared, int redo, int is_locked, boddurci_fault *fault)
 {
     struct boddurci_tail *tail = &shared->tail;
     uint32_t status = prepare_plan(tail, fault);
@@ -84,12 +107,12 @@ static uint32_t join_tail(boddurci_shared *shared, int redo, boddurci_fault *fau
     size_t start = tail->joined < tail->last ? tail->joined : tail->last, length = tail->end - start;
     if (boddurci_read_at(redo, BODDURCI_RECORDS_AT + start, shared->plan, length + BODDURCI_NEXT) != 0)
         return boddurci_fail_by_system(fault, "BASE.redo cannot be read");
-    if (!boddurci_is_end(shared->plan + (tail->last - start), tail->end - tail->last, tail->witness))
+    if (!is_end(tail, shared->plan + (tail->last - start), is_locked))
         return BODDURCI_STALE;
     return join(shared, shared->plan + (tail->joined - start), tail->end - tail->joined);
 }
 
-uint32_t boddurci_read_tail(boddurci_shared *shared, int redo, const struct boddurci_log_note *note, boddurci_fault *fault)
+static uint32_t read_tail(boddurci_shared *shared, int redo, const struct boddurci_log_note *note, int is_locked, boddurci_fault *fault)
 {
     struct boddurci_tail *tail = &shared->tail;
     tail->epoch = note->epoch;
@@ -102,13 +125,26 @@ uint32_t boddurci_read_tail(boddurci_shared *shared, int redo, const struct bodd
     if (tail->room != note->log.room && !boddurci_has_room(redo, note))
         return BODDURCI_STALE;
     tail->room = note->log.room;
-    return join_tail(shared, redo, fault);
+    return join_tail(shared, redo, is_locked, fault);
+}
+
+uint32_t boddurci_read_tail(boddurci_shared *shared, int redo, const struct boddurci_log_note *note, boddurci_fault *fault)
+{
+    return read_tail(shared, redo, note, 1, fault);
+}
+
+/* The joined plan stays valid for later calls if the log has its epoch then. An epoch is cleared before its log is emptied, and never comes
+ * back, so the log was not emptied between this note and that call, and the records before the end in the note have not changed. */
+uint32_t boddurci_glance_at_tail(boddurci_shared *shared, int redo, const struct boddurci_log_note *note)
+{
+    boddurci_fault unsaid;
+    return read_tail(shared, redo, note, 0, &unsaid);
 }
 
 int boddurci_lay_tail(struct boddurci_tail *tail, enum boddurci_file file, size_t from, uint8_t *part, size_t length)
 {
     uint32_t is_touched = 0;
-    if (!boddurci_has_tail(tail) || (file == BODDURCI_DIRECTORY && !tail->changes_directory))
+    if (!boddurci_has_tail(tail) || !may_change(tail, file, from, length))
         return 0;
     if (boddurci_log_lay(tail->bytes + BODDURCI_PLAN_AT, tail->length, file, from, part, length, &is_touched) != BODDURCI_DONE) {
         errno = EIO;
@@ -195,7 +231,7 @@ uint32_t boddurci_apply_tail(boddurci_shared *shared, boddurci_fault *fault)
     if (!boddurci_has_tail(tail))
         return BODDURCI_DONE;
     /* If this call has a plan in shared->plan, boddurci_read_tail has joined all records. */
-    uint32_t status = tail->joined < tail->end ? join_tail(shared, logged->disk.files[BODDURCI_REDO], fault) : BODDURCI_DONE;
+    uint32_t status = tail->joined < tail->end ? join_tail(shared, logged->disk.files[BODDURCI_REDO], 1, fault) : BODDURCI_DONE;
     if (status == BODDURCI_STALE)
         return boddurci_fail(fault, BODDURCI_BAD_REDO, 0, boddurci_files_text(BODDURCI_BAD_REDO));
     shared->notes.is_overtaken = 0;

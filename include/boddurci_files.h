@@ -222,7 +222,8 @@ void boddurci_close_files(boddurci_base *base);
  * its locks at most 5 seconds, or as long as boddurci_shared_wait sets, and then returns LOCKED, with nothing changed. The text names the
  * process that holds the lock, if the system reports it. The wait continues after a signal. While a process has the base open by
  * boddurci_open_files, or by a session of dbm, each change returns LOCKED, and a fetch reads the last save of that process. A call that
- * flushes waits some half a second for the flush of another process, and then flushes by itself.
+ * flushes waits some half a second for the flush of another process, and then flushes by itself. If the file system has no locks, each call
+ * returns FILE_FAILED, and the text names BASE.lock.
  *
  * Costs. A call reads all of .dir, and only a few pages of .pag, even of a long one. It compares .dir with the directory of the handle's
  * last call, or of its opening. It checks .dir only if they differ, which takes some 4 microseconds for each KiB; with 900,000 pairs .dir

@@ -26,6 +26,7 @@
 #include <sys/mman.h>
 #include <sys/resource.h>
 #include <sys/stat.h>
+#include <sys/syscall.h>
 #include <sys/time.h>
 #include <sys/wait.h>
 #include <time.h>
@@ -755,6 +756,17 @@ static void test_limit(void)
 
 /* ---- locks */
 
+static int has_no_locks;
+
+/* Replaces the function of the C library, for Boddurci too. On request it fails as on a file system without locks. */
+int flock(int file, int how)
+{
+    if (!has_no_locks)
+        return (int)syscall(SYS_flock, file, how);
+    errno = ENOLCK;
+    return -1;
+}
+
 static int taken(const char *name, int how)
 {
     int file = open(name, O_RDWR);
@@ -795,6 +807,21 @@ static void test_locks(void)
     close(lock);
     close(writer);
     boddurci_close_shared(once);
+    boddurci_close_shared(shared);
+}
+
+/* On a file system without locks each call fails, and names the lock. */
+static void test_no_locks(void)
+{
+    boddurci_shared *shared = opened("unlocked", 0);
+    EXPECT(store(shared, "a", "b") == BODDURCI_DONE);
+    has_no_locks = 1;
+    for (int i = 0; i < 2; i++) {
+        uint32_t status = i == 0 ? store(shared, "a", "c") : boddurci_shared_fetch(shared, BYTES("a"), NULL, 0, NULL, &fault);
+        EXPECT(status == BODDURCI_FILE_FAILED && fault.status == status && fault.system == ENOLCK && strstr(fault.text, "BASE.lock") != NULL);
+    }
+    has_no_locks = 0;
+    EXPECT(has(shared, "a", "b") && store(shared, "a", "c") == BODDURCI_DONE && has(shared, "a", "c"));
     boddurci_close_shared(shared);
 }
 
@@ -1261,6 +1288,7 @@ static int calls(const char *folder)
     test_group();
     test_limit();
     test_locks();
+    test_no_locks();
     test_services();
     test_waiting();
     test_signals();

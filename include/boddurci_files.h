@@ -19,8 +19,8 @@
  * and BASE.dir without a sync. BASE.redo belongs to these two files: keep all three together. Its first byte, the mark, is 1 while
  * BASE.redo has saves that may not be on the disk in both files. Closing the base syncs both files and clears the mark. After a kill or a
  * loss of power the next opening of the base recovers both files. A program that does not know the log, such as Perl's SDBM_File, sees a
- * save once the data files are written, some microseconds after the sync. But after a loss of power such a program may see old or mixed
- * pages, until this library or dbm has opened the base for writing once.
+ * save when the call that saves returns. But after a loss of power such a program may see old or mixed pages, until this library or dbm
+ * has opened the base for writing once.
  *
  * Writers. One process at a time has a base open for writing, by this library or by the program dbm. This process holds a flock on
  * BASE.writer. Other processes wait for the lock as long as they request, and then get LOCKED. The text of the fault names the process that
@@ -161,31 +161,31 @@ void boddurci_give(boddurci_base *base);
  * file is not the one that this base has left or read, or if the base was opened with EMPTY. A page may have changed if a program ran on
  * it, even if the program saved nothing. The save holds the mutex while it compares pages, and not while it reads and writes pages.
  * (Exception: if other threads have changed further pages during the reads, three times in succession, it reads once under the mutex.)
- * Changes that other threads make meanwhile are in the next save.
+ * Changes that other threads make meanwhile are in this save or in the next one.
  *
  * CHANGED: another program has changed a data file since this base read or saved it. The save writes neither file, and the base does not
  * change. The text says what was found: another length, a file that was made, a later write, or a page with other bytes. Each later save
  * returns CHANGED too, until boddurci_save_with with INSIST overwrites the files. To keep the data of the other program, close the base and
  * open it again. Nothing is merged. A new empty file, or another owner, mode or link, does not count as a change. A new time alone (touch)
  * does not count either, if this base has changed no page. If another program writes during the sync of a save, the next save returns
- * CHANGED. A write within the same tick of the clock (some milliseconds) as a save of this base may remain unnoticed. On NFS, SMB, FUSE and
- * other file systems that get their times from a server, a save compares pages and not times, so it does not notice a write on a page that
- * this base has changed too.
+ * CHANGED. A write within the same tick of the clock (some milliseconds) as a save of this base may remain unnoticed. So may a write before
+ * the call that saves for several threads has returned. On NFS, SMB, FUSE and other file systems that get their times from a server, a save
+ * compares pages and not times, so it does not notice a write on a page that this base has changed too.
  *
  * Threads may save at the same time, each after its own changes. A call returns the result of a save that has the caller's changes. A save
- * waits for readers that hold BASE.lock. Calls that come during a save wait until it has ended. Then one of these calls saves for all of
- * them. Once that save is durable, the other calls return DONE, and the saving call writes the data files. If the save fails before, all of
- * them return its status and its fault, and each caller may save again. No thread is served twice while another one waits. A single thread
- * never waits for other threads. If a thread is cancelled during the call, the cancellation takes effect after the call. While saves take
- * less than half a millisecond, a waiting thread polls and yields the processor for twice as long as the last save took, and then sleeps.
- * Under SCHED_FIFO a thread yields only to threads of the same priority.
+ * waits for readers that hold BASE.lock. One call saves for all calls that wait when this save takes its calls; calls that come later wait
+ * until it has ended. Once the save is durable, the other calls return DONE, and the saving call writes the data files. If the save fails
+ * before, all of them return its status and its fault, and each caller may save again. No thread is served twice while another one waits. A
+ * single thread never waits for other threads. If a thread is cancelled during the call, the cancellation takes effect after the call.
+ * While saves take less than half a millisecond, a waiting thread polls and yields the processor for twice as long as the last save took,
+ * and then sleeps. Under SCHED_FIFO a thread yields only to threads of the same priority.
  *
  * Full disks. Before a save is committed, both files get the blocks that they need, if the file system can allocate them. So a save on a
  * full disk returns FILE_FAILED, and nothing has changed. A save also returns FILE_FAILED if it would make one of the three files longer
  * than the process may (RLIMIT_FSIZE); it raises no SIGXFSZ. If a file cannot be written although the save is committed, the save returns
- * DONE, fault->system is not 0, and the text names the file. Of the calls that share the save, only the one that saves reports this. The
- * save is then durable in BASE.redo, and the next save or opening for writing writes it to both files. Until then a program that does not
- * know BASE.redo, such as Perl's SDBM_File, may see half of the save. */
+ * DONE, fault->system is not 0, and the text names the file. Of the calls that share the save, perhaps only the one that saves reports
+ * this. The save is then durable in BASE.redo, and the next save or opening for writing writes it to both files. Until then a program that
+ * does not know BASE.redo, such as Perl's SDBM_File, may see half of the save. */
 uint32_t boddurci_save(boddurci_base *base, boddurci_fault *fault) BODDURCI_IS_LOOKED_AT;
 uint32_t boddurci_save_with(boddurci_base *base, uint32_t flags, boddurci_fault *fault) BODDURCI_IS_LOOKED_AT;
 

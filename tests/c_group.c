@@ -6,46 +6,24 @@
  * This program replaces fdatasync. Each call takes a millisecond and copies its file. The copies are the files that a loss of power would
  * leave. */
 #define _GNU_SOURCE
-#include "boddurci_files.h"
-#include <errno.h>
-#include <pthread.h>
+#include "c_group.h"
 #include <semaphore.h>
 #include <signal.h>
-#include <stdatomic.h>
-#include <stdio.h>
 #include <stdlib.h>
-#include <string.h>
 #include <sys/file.h>
 #include <sys/stat.h>
 #include <sys/uio.h>
 #include <sys/wait.h>
-#include <time.h>
-#include <unistd.h>
 
 enum { THREADS = 64, FEW = 8, KEPT = 1 << 21, TEXT = 16 };
 
-static atomic_ulong looked;
+atomic_ulong looked;
 
-#define EXPECT(what)                                                                                                               \
-    do {                                                                                                                           \
-        looked++;                                                                                                                  \
-        if (!(what)) {                                                                                                             \
-            fprintf(stderr, "c_group.c:%d: not so: %s\n", __LINE__, #what);                                                        \
-            _exit(1);                                                                                                              \
-        }                                                                                                                          \
-    } while (0)
-
-static void rest(void)
+void rest(void)
 {
     const struct timespec millisecond = {0, 1000000};
     nanosleep(&millisecond, NULL);
 }
-
-/* Waits for a condition. If it never becomes true, an alarm ends the program. */
-#define AWAIT(what)                                                                                                                \
-    do                                                                                                                             \
-        rest();                                                                                                                    \
-    while (!(what))
 
 /* ---- a disk */
 
@@ -59,12 +37,13 @@ struct kept {
 
 static struct kept disk[3] = {{.ending = ".pag"}, {.ending = ".dir"}, {.ending = ".redo"}};
 static pthread_mutex_t disk_mutex = PTHREAD_MUTEX_INITIALIZER, writing = PTHREAD_MUTEX_INITIALIZER;
-static atomic_ulong flushes;
+atomic_ulong flushes;
 
 /* The saves of the first thread, or of the other threads, stop at their next flush until the test lets them continue. `fails_at` is the
  * number of a flush: of the flushes by the other threads, this one fails. */
 static _Thread_local int is_first;
-static atomic_int stops_first, stops_others, is_stopped, fails_at;
+atomic_int stops_first, is_stopped;
+static atomic_int stops_others, fails_at;
 
 static void keep(int file, struct kept *kept)
 {
@@ -133,7 +112,8 @@ int __wrap_sem_wait(sem_t *turn);
 int __real_sem_post(sem_t *turn);
 int __wrap_sem_post(sem_t *turn);
 
-static atomic_int waiting, stops_posts, is_post_stopped;
+atomic_int waiting;
+static atomic_int stops_posts, is_post_stopped;
 static _Thread_local int posts;
 
 int __wrap_sem_wait(sem_t *turn)
@@ -157,7 +137,7 @@ int __wrap_sem_post(sem_t *turn)
 ssize_t __real_pwrite(int file, const void *bytes, size_t size, off_t at);
 ssize_t __wrap_pwrite(int file, const void *bytes, size_t size, off_t at);
 
-static atomic_int stops_writes, is_write_stopped;
+atomic_int stops_writes, is_write_stopped;
 
 static int is_pages(int file)
 {
@@ -193,34 +173,27 @@ int __wrap_flock(int file, int how)
     return __real_flock(file, how);
 }
 
-/* The linker replaces clock_gettime by this. On request, the clock of file times stands still. */
-int __real_clock_gettime(clockid_t clock, struct timespec *time);
-int __wrap_clock_gettime(clockid_t clock, struct timespec *time);
+/* The linker replaces sched_yield by this. On request, a thread calls a function at its first yield: a save yields while it waits for
+ * calls. */
+int __real_sched_yield(void);
+int __wrap_sched_yield(void);
 
-static struct timespec stopped_at;
-static atomic_int is_clock_stopped;
+void (*meanwhile)(void);
+static _Thread_local int is_watched;
 
-int __wrap_clock_gettime(clockid_t clock, struct timespec *time)
+int __wrap_sched_yield(void)
 {
-    int status = __real_clock_gettime(clock, time);
-    if (is_clock_stopped && clock == CLOCK_REALTIME_COARSE)
-        *time = stopped_at;
-    return status;
+    void (*call)(void) = is_watched ? meanwhile : NULL;
+    if (call != NULL) {
+        meanwhile = NULL;
+        call();
+    }
+    return __real_sched_yield();
 }
 
 /* ---- savers */
 
-/* A thread that stores its changes one after the other, and saves after each. */
-struct saver {
-    pthread_t thread;
-    boddurci_base *base;
-    int number, is_first, changes;
-    atomic_int done; /* the number of saves that have returned */
-    uint32_t status;
-    boddurci_fault fault;
-};
-
-static void store(boddurci_base *base, int number, int value)
+void store(boddurci_base *base, int number, int value)
 {
     char key[TEXT], text[TEXT];
     int key_length = snprintf(key, sizeof key, "key%d", number), length = snprintf(text, sizeof text, "%d", value);
@@ -228,7 +201,7 @@ static void store(boddurci_base *base, int number, int value)
     boddurci_give(base);
 }
 
-static int value_of(boddurci_base *base, int number)
+int value_of(boddurci_base *base, int number)
 {
     char key[TEXT];
     uint8_t text[TEXT] = {0};
@@ -259,7 +232,7 @@ static boddurci_base *left(int number)
     return base;
 }
 
-static int left_value(int number)
+int left_value(int number)
 {
     boddurci_base *base = left(number);
     int value = value_of(base, number);
@@ -273,13 +246,14 @@ static void *save_each(void *given)
     struct saver *saver = given;
     int is_last = saver->number == THREADS - 1, was;
     is_first = saver->is_first;
+    is_watched = saver->is_watched;
     pthread_setcancelstate(PTHREAD_CANCEL_DISABLE, &was);
     for (int value = 1; value <= saver->changes; value++) {
         if (is_first && value > 1)
             AWAIT(is_stopped);
         store(saver->base, saver->number, value);
         pthread_setcancelstate(PTHREAD_CANCEL_ENABLE, &was);
-        saver->status = boddurci_save(saver->base, is_last ? NULL : &saver->fault);
+        saver->status = boddurci_save_with(saver->base, saver->flags, is_last ? NULL : &saver->fault);
         pthread_setcancelstate(PTHREAD_CANCEL_DISABLE, &was);
         saver->done++;
         EXPECT(was == PTHREAD_CANCEL_ENABLE && (saver->status != BODDURCI_DONE || left_value(saver->number) == value));
@@ -287,17 +261,19 @@ static void *save_each(void *given)
     return NULL;
 }
 
-static void start(struct saver *saver, boddurci_base *base, int number, int is_first, int changes)
+void start(struct saver *saver, boddurci_base *base, int number, int is_first, int changes)
 {
-    memset(saver, 0, sizeof *saver);
-    saver->base = base;
-    saver->number = number;
-    saver->is_first = is_first;
-    saver->changes = changes;
+    struct saver new = {.base = base, .number = number, .is_first = is_first, .changes = changes};
+    start_as(saver, new);
+}
+
+void start_as(struct saver *saver, struct saver new)
+{
+    memcpy(saver, &new, sizeof new);
     EXPECT(pthread_create(&saver->thread, NULL, save_each, saver) == 0);
 }
 
-static void join(struct saver *saver)
+void join(struct saver *saver)
 {
     void *result;
     EXPECT(pthread_join(saver->thread, &result) == 0 && result == NULL);
@@ -315,7 +291,7 @@ static void start_behind(struct saver *savers, boddurci_base *base, int changes)
     }
 }
 
-static boddurci_base *opened(const char *name)
+boddurci_base *opened(const char *name)
 {
     boddurci_fault fault;
     for (struct kept *kept = disk; kept < disk + 3; kept++)
@@ -482,6 +458,27 @@ static void test_slow(void)
     boddurci_close_files(base);
 }
 
+/* The same if the save fails. */
+static void test_slow_failing(void)
+{
+    struct saver savers[FEW + 1];
+    boddurci_base *base = opened("slowly");
+    flushes_alone(base);
+    call_again(savers, base);
+    stops_posts = 1;
+    fails_at = 1;
+    stops_others = 0;
+    AWAIT(is_post_stopped);
+    for (int i = 0; i < 100; i++)
+        rest();
+    EXPECT(savers[0].done == 1 && savers[1].done == 0 && savers[2].done == 1 && savers[2].status == BODDURCI_FILE_FAILED);
+    stops_posts = 0;
+    for (int i = 0; i <= FEW; i++)
+        join(&savers[i]);
+    EXPECT(savers[0].done == 2 && savers[0].status == BODDURCI_DONE);
+    boddurci_close_files(base);
+}
+
 /* The calls of a save return once it is committed and readers have to wait, while its thread writes the data files. A call that comes then
  * waits for the next save. */
 static void test_early(void)
@@ -521,7 +518,7 @@ static void test_early(void)
 }
 
 /* The linker replaces pread by this. On request each of the next calls first changes two keys, as other threads may while a save reads. Or
- * the first read of .pag stops. */
+ * reads of .pag stop, or the next ones fail. */
 ssize_t __real_pread(int file, void *room, size_t size, off_t at);
 ssize_t __wrap_pread(int file, void *room, size_t size, off_t at);
 
@@ -529,7 +526,7 @@ enum { KEYS = 3000 };
 
 static boddurci_base *moving;
 static int stores, changing;
-static atomic_int stops_reads, is_read_stopped;
+atomic_int stops_reads, is_read_stopped, fails_reads;
 
 static int moving_key(int which)
 {
@@ -547,6 +544,11 @@ ssize_t __wrap_pread(int file, void *room, size_t size, off_t at)
         is_read_stopped = 1;
         AWAIT(!stops_reads);
         is_read_stopped = 0;
+    }
+    if (fails_reads > 0 && is_pages(file)) {
+        fails_reads--;
+        errno = EIO;
+        return -1;
     }
     return __real_pread(file, room, size, at);
 }
@@ -575,79 +577,6 @@ static void test_moving(void)
     }
     boddurci_close_files(moving);
 }
-
-#ifdef BODDURCI_LONG_SAVE
-/* Two calls wait for the save of another thread, and share the next save. The save after that expects two calls, and does not wait in vain:
- * after a wait in vain the next seven saves do not wait. The calls change the keys from `number` on. */
-static void expect_two(struct saver *savers, boddurci_base *base, int number)
-{
-    enum { ROUNDS = 2, BETWEEN = 5 };
-    for (int round = 0; round < ROUNDS; round++, number += 3) {
-        for (int i = 0; i < BETWEEN; i++)
-            EXPECT(boddurci_save(base, NULL) == BODDURCI_DONE);
-        stops_first = 1;
-        start(&savers[0], base, number, 1, 1);
-        AWAIT(is_stopped);
-        for (int i = 1; i <= 2; i++) {
-            start(&savers[i], base, number + i, 0, 1);
-            AWAIT(waiting == i);
-        }
-        stops_first = 0;
-        for (int i = 0; i <= 2; i++)
-            join(&savers[i]);
-    }
-}
-
-/* Starts a call during the reading of a save. Returns whether the call shares that save: it returns while the saving thread writes the data
- * files. */
-static int has_joined(boddurci_base *base, int try)
-{
-    struct saver savers[3];
-    expect_two(savers, base, 6 * try);
-    unsigned long before = flushes;
-    stops_reads = stops_writes = 1;
-    start(&savers[1], base, moving_key(2) + try, 0, 1);
-    AWAIT(is_read_stopped);
-    start(&savers[2], base, moving_key(3) + try, 0, 1);
-    AWAIT(waiting == 1);
-    EXPECT(flushes == before && savers[1].done == 0 && savers[2].done == 0);
-    stops_reads = 0;
-    AWAIT(is_write_stopped);
-    for (int i = 0; i < 100 && savers[2].done == 0; i++)
-        rest();
-    int has_joined = savers[2].done;
-    EXPECT(savers[1].done == 0);
-    stops_writes = 0;
-    for (int i = 1; i <= 2; i++) {
-        join(&savers[i]);
-        EXPECT(savers[i].done == 1 && savers[i].status == BODDURCI_DONE);
-    }
-    EXPECT(flushes == before + 1 && left_value(moving_key(2) + try) == 1 && left_value(moving_key(3) + try) == 1);
-    return has_joined;
-}
-
-/* A save that expects further calls reads the files before they come, if it begins in the same clock tick as the last save. A call that comes
- * during that reading shares the save, which has its change. */
-static void test_joining(void)
-{
-    enum { TRIES = 10, OLD = 50 };
-    int try = 0;
-    moving = opened("joining");
-    for (int i = 0; i < KEYS; i++)
-        store(moving, i, 0);
-    EXPECT(boddurci_save(moving, NULL) == BODDURCI_DONE);
-    for (int i = 0; i < OLD; i++)
-        rest();
-    store(moving, 0, -1);
-    EXPECT(boddurci_save(moving, NULL) == BODDURCI_DONE && clock_gettime(CLOCK_REALTIME_COARSE, &stopped_at) == 0);
-    is_clock_stopped = 1;
-    while (try < TRIES && !has_joined(moving, try))
-        try++;
-    is_clock_stopped = 0;
-    EXPECT(try < TRIES);
-    boddurci_close_files(moving);
-}
-#endif
 
 static atomic_int heard;
 
@@ -701,10 +630,11 @@ int main(int argc, char **argv)
     test_failing();
     test_order();
     test_slow();
+    test_slow_failing();
     test_early();
     test_moving();
 #ifdef BODDURCI_LONG_SAVE
-    test_joining();
+    test_joins();
 #endif
     test_disturbed();
     printf("%lu answers as expected\n", looked);

@@ -1,5 +1,5 @@
-/* Shares saves between threads: each save serves all calls of boddurci_save that wait when it begins. include/boddurci_files.h states the
- * guarantees. */
+/* Shares saves between threads: each save serves all calls of boddurci_save that wait when it takes its calls. include/boddurci_files.h states
+ * the guarantees. */
 #define _POSIX_C_SOURCE 200809L
 #include "boddurci_saves.h"
 #include <sched.h>
@@ -119,7 +119,8 @@ static int goes_on(int before, int has, int others)
 }
 
 /* Waits shortly for the threads that the last save served: they may save again, and then one save serves all of them. If most of them have
- * come, waits for the rest. If none has come, the next SKIPS saves do not wait. A single thread does not wait. */
+ * come, waits for the rest. If fewer have come, and none during the wait, the next SKIPS saves do not wait. A single thread does not
+ * wait. */
 static void await_others(struct boddurci_group *group)
 {
     enum { SKIPS = 7, MOMENTS = 8 };
@@ -134,7 +135,7 @@ static void await_others(struct boddurci_group *group)
         end += patience(took);
         has = await_calls(group, others, took, end);
     }
-    group->skips = had < others && has == had ? SKIPS : 0;
+    group->skips = had < others && has == had && 3 * has < 2 * others ? SKIPS : 0;
 }
 
 static int has_one_that_insists(const struct boddurci_call *call)

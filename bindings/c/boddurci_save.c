@@ -471,12 +471,6 @@ static uint32_t recover(boddurci_base *base, struct saving *saving, boddurci_fau
     return boddurci_logged_renew(&base->logged, fault);
 }
 
-static void set_lengths(struct saving *saving)
-{
-    saving->reading.length = (size_t)saving->found[BODDURCI_PAGES].length;
-    saving->reading.directory_length = (size_t)saving->found[BODDURCI_DIRECTORY].length;
-}
-
 /* Compares the files with the notes, and prepares them for a save. */
 static uint32_t prepare(boddurci_base *base, struct saving *saving, boddurci_fault *fault)
 {
@@ -498,7 +492,8 @@ static uint32_t prepare(boddurci_base *base, struct saving *saving, boddurci_fau
         status = boddurci_fail(fault, BODDURCI_TOO_LONG, 0, boddurci_files_text(BODDURCI_TOO_LONG));
     if (status == BODDURCI_DONE && !saving->are_names_same)
         boddurci_note_names(&base->notes, &base->place, folder, saving->found);
-    set_lengths(saving);
+    saving->reading.length = (size_t)saving->found[BODDURCI_PAGES].length;
+    saving->reading.directory_length = (size_t)saving->found[BODDURCI_DIRECTORY].length;
     return status;
 }
 
@@ -519,33 +514,39 @@ static void settle(boddurci_base *base, const struct saving *saving, enum boddur
     boddurci_note_saved(&base->notes, &base->logged.disk, lengths);
 }
 
-/* Returns whether a save may begin before all its calls have come: nothing is unusual, so it will probably not be refused. */
-static int may_begin_early(const boddurci_base *base)
+/* Returns whether a save may read pages before its calls have come: it will probably wait for calls, and nothing is unusual. */
+static int may_read_early(const boddurci_base *base)
 {
     int is_usual = base->is_noted && base->is_planned && base->doubt == BODDURCI_SAME && base->change[0] == 0;
     return is_usual && boddurci_logged_is_marked(&base->logged) && boddurci_group_awaits(&base->saves);
 }
 
-/* While further calls may come, compares the files with the notes, and reads the pages that have changed so far. Returns 0 if anything is
- * unusual: then the save begins anew when it has its calls. */
-static int begin_early(boddurci_base *base, struct saving *saving)
+/* Reads .dir and the pages that have changed so far, with the noted lengths of the files, while further calls may come. The caller holds
+ * BASE.lock. On failure nothing is read. */
+static void read_early(boddurci_base *base, struct reading *early)
 {
     boddurci_fault unsaid;
-    struct reading none = {.size = saving->reading.size};
-    saving->are_names_same = boddurci_are_names_same(&base->notes, &base->place);
-    if (!saving->are_names_same || boddurci_share_files(&base->place) != 0)
-        return 0;
-    saving->change = boddurci_look_before(&base->notes, &base->logged.disk, 1, 1, saving->found, &saving->which);
-    if (saving->change != BODDURCI_SAME || are_named(base, saving->found, &unsaid) != BODDURCI_DONE)
-        return 0;
-    set_lengths(saving);
-    uint32_t status = list_changed(boddurci_take_own(base), &saving->reading.listed);
+    struct reading none = {.size = early->size};
+    early->length = (size_t)base->notes.files[BODDURCI_PAGES].length;
+    early->directory_length = (size_t)base->notes.files[BODDURCI_DIRECTORY].length;
+    uint32_t status = list_changed(boddurci_take_own(base), &early->listed);
     boddurci_give_own(base);
-    if (status == BODDURCI_DONE && saving->reading.listed.count != 0)
-        status = read_listed(base, &saving->reading, &none, &unsaid);
+    if (status == BODDURCI_DONE && early->listed.count != 0)
+        status = read_listed(base, early, &none, &unsaid);
     if (status != BODDURCI_DONE)
-        end_reading(&saving->reading);
-    return status == BODDURCI_DONE;
+        end_reading(early);
+}
+
+/* Uses the bytes that were read early if the files are those of the last save: no other program has changed them, and they were not
+ * recovered. Drops these bytes otherwise. */
+static void use_early(const boddurci_base *base, struct saving *saving, struct reading *early)
+{
+    struct reading *reading = &saving->reading;
+    int are_lengths_same = early->length == reading->length && early->directory_length == reading->directory_length;
+    if (base->is_noted && saving->change == BODDURCI_SAME && !saving->compares && are_lengths_same)
+        *reading = *early;
+    else
+        end_reading(early);
 }
 
 /* Saves after `prepare`. If no page has changed and the files match the notes, the save reads nothing; only the first save of a base
@@ -580,19 +581,29 @@ static void give_files(boddurci_base *base, uint32_t status, int were_kept)
         boddurci_keep_files(&base->place);
 }
 
+/* Takes BASE.lock for a save: shared, if the log is marked and the files are as noted. */
+static int hold_files(boddurci_base *base)
+{
+    int may_share = base->is_noted && boddurci_logged_is_marked(&base->logged);
+    return may_share ? boddurci_share_files(&base->place) : boddurci_take_files(&base->place);
+}
+
 static uint32_t save(boddurci_base *base, boddurci_fault *fault)
 {
     struct saving saving;
     memset(&saving, 0, sizeof saving);
-    saving.reading.size = base->flags & BODDURCI_WIDE ? 8192 : 1024;
+    struct reading early = {.size = base->flags & BODDURCI_WIDE ? 8192 : 1024};
+    saving.reading.size = early.size;
     base->may_have_written = 0;
-    int were_kept = base->place.keeps_files, has_begun = may_begin_early(base) && begin_early(base, &saving);
+    int were_kept = base->place.keeps_files, holds = may_read_early(base) && hold_files(base) == 0;
+    if (holds)
+        read_early(base, &early);
     saving.insists = boddurci_group_take(&base->saves);
-    int may_share = base->is_noted && boddurci_logged_is_marked(&base->logged);
-    if (!has_begun && (may_share ? boddurci_share_files(&base->place) : boddurci_take_files(&base->place)) != 0)
+    if (!holds && hold_files(base) != 0)
         return boddurci_fail_by_system(fault, "BASE.lock cannot be locked");
     boddurci_hold_signal(&base->logged.disk);
-    uint32_t status = has_begun ? BODDURCI_DONE : prepare(base, &saving, fault);
+    uint32_t status = prepare(base, &saving, fault);
+    use_early(base, &saving, &early);
     if (status == BODDURCI_DONE)
         status = save_prepared(base, &saving, fault);
     if (status != BODDURCI_DONE && base->may_have_written)

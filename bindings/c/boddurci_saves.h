@@ -410,14 +410,14 @@ struct boddurci_logged {
     struct boddurci_disk disk;
     struct boddurci_notes *notes;
     struct boddurci_group *group; /* the threads that share saves, or NULL */
-    boddurci_log next; /* the place of the next record; valid if is_open */
-    uint64_t epoch;    /* of the notes of a shared base, while they are valid; otherwise 0 */
-    int64_t emptied;   /* when the log was last empty, in nanoseconds */
+    boddurci_log next;            /* the place of the next record; valid if is_open */
+    uint64_t epoch;               /* of the notes of a shared base, while they are valid; otherwise 0 */
+    int64_t emptied;              /* when the log was last empty, in nanoseconds */
     int is_open;
-    int is_grown;      /* the log has more room than usual, or an attempt to get more failed */
-    int is_sharing;    /* several records may be unflushed, which the header of a log says before it gets a record */
-    int is_doubtful;   /* a call on the redo file failed, and the file could not be removed: make a new one if it has no mark */
-    int is_given_up;   /* a call failed, and the files have not been recovered since: they may lack a save, or contain half of it */
+    int is_grown;                 /* the log has more room than usual, or an attempt to get more failed */
+    int is_sharing;               /* several records may be unflushed, which the header of a log says before it gets a record */
+    int is_doubtful;              /* a call on the redo file failed, and the file could not be removed: make a new one if it has no mark */
+    int is_given_up;              /* a call failed, and the files have not been recovered since: they may lack a save, or have half of it */
 };
 
 void boddurci_logged_of(struct boddurci_logged *logged, struct boddurci_place *place, struct boddurci_notes *notes);
@@ -585,7 +585,7 @@ typedef uint32_t boddurci_saving(boddurci_base *base, boddurci_fault *fault);
 uint32_t boddurci_group_save(struct boddurci_group *group, boddurci_saving *save, boddurci_base *base, int insists, boddurci_fault *fault);
 
 /* Waits shortly for the threads that the last save served, if they are likely to call again, and takes all waiting calls. Returns whether one
- * of these calls insists. Each save calls this once, before it looks for changes. */
+ * of these calls insists. Each save calls this once, before it compares the files with the notes and makes its plan. */
 int boddurci_group_take(struct boddurci_group *group);
 
 /* Returns whether boddurci_group_take would probably wait for other calls, which come within microseconds. */

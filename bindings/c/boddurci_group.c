@@ -27,6 +27,12 @@ static const int64_t LONG_SAVE = BODDURCI_LONG_SAVE;
 /* In nanoseconds: about the time that it takes to wake a thread. */
 static const int64_t MOMENT = 40000;
 
+/* In nanoseconds: the next save waits so long for the thread that has just saved. */
+static const int64_t RETURN = 5000;
+
+/* After a wait in vain, so many times there is no wait of this kind. */
+enum { SKIPS = 7 };
+
 static int64_t now(void)
 {
     struct timespec time;
@@ -63,8 +69,10 @@ int boddurci_group_init(struct boddurci_group *group)
 {
     group->first = NULL;
     group->last = &group->first;
-    group->rest = NULL;
-    group->is_saving = group->waiting = group->others = group->skips = group->served = 0;
+    group->calls = NULL;
+    group->own = NULL;
+    group->is_saving = group->waiting = group->others = group->skips = group->skips_return = group->served = 0;
+    group->freed = 0;
     group->took = LONG_SAVE;
     return pthread_mutex_init(&group->mutex, NULL) == 0 ? 0 : -1;
 }
@@ -79,7 +87,7 @@ static int has_to_wait(struct boddurci_group *group, struct boddurci_call *call)
 {
     boddurci_lock_soon(&group->mutex);
     int waits = group->is_saving;
-    group->is_saving = 1;
+    __atomic_store_n(&group->is_saving, 1, __ATOMIC_RELAXED);
     *group->last = call;
     group->last = &call->next;
     __atomic_add_fetch(&group->waiting, 1, __ATOMIC_RELAXED);
@@ -123,7 +131,7 @@ static int goes_on(int before, int has, int others)
  * wait. */
 static void await_others(struct boddurci_group *group)
 {
-    enum { SKIPS = 7, MOMENTS = 8 };
+    enum { MOMENTS = 8 };
     int64_t took = __atomic_load_n(&group->took, __ATOMIC_RELAXED), end = now();
     int others = group->others, had = waiting_in(group), before = had, has = had;
     if (others < 2 || group->skips > 0) {
@@ -150,19 +158,17 @@ int boddurci_group_awaits(const struct boddurci_group *group)
     return group->others >= 2 && group->skips == 0 && __atomic_load_n(&group->took, __ATOMIC_RELAXED) < LONG_SAVE;
 }
 
-/* The first call of the list saves, and the others become the rest. */
 int boddurci_group_take(struct boddurci_group *group)
 {
     await_others(group);
     group->begun = now();
     boddurci_lock_soon(&group->mutex);
-    struct boddurci_call *first = group->first;
+    group->calls = group->first;
     group->first = NULL;
     group->last = &group->first;
     group->served = __atomic_exchange_n(&group->waiting, 0, __ATOMIC_RELAXED);
     pthread_mutex_unlock(&group->mutex);
-    group->rest = first->next;
-    return has_one_that_insists(first);
+    return has_one_that_insists(group->calls);
 }
 
 /* Lets a call continue. Once the call has the new state, it may no longer exist, unless its thread sleeps. */
@@ -172,35 +178,91 @@ static void wake(struct boddurci_call *call, int state)
         sem_post(&call->turn);
 }
 
-/* Copies the result of a save to the rest of its calls, and wakes them. The next save expects the calls that wait now and those that are
- * served, whose threads may save again. */
-static void serve_rest(struct boddurci_group *group, uint32_t status, const boddurci_fault *fault)
+static void serve(struct boddurci_call *call, uint32_t status, const boddurci_fault *fault)
 {
-    struct boddurci_call *call = group->rest;
-    group->rest = NULL;
+    call->status = status;
+    *call->fault = *fault;
+    wake(call, IS_SERVED);
+}
+
+/* Copies the result of a save to its calls, except that of its thread, and wakes them. The next save expects the calls that wait now and those
+ * that are served, whose threads may save again. */
+static void serve_others(struct boddurci_group *group, uint32_t status, const boddurci_fault *fault)
+{
+    struct boddurci_call *next, *call = group->calls;
+    group->calls = NULL;
     group->others = waiting_in(group) + group->served;
-    while (call != NULL) {
-        struct boddurci_call *next = call->next;
-        call->status = status;
-        *call->fault = *fault;
-        wake(call, IS_SERVED);
-        call = next;
+    for (; call != NULL; call = next) {
+        next = call->next;
+        if (call != group->own)
+            serve(call, status, fault);
     }
 }
 
 void boddurci_group_serve(struct boddurci_group *group)
 {
     boddurci_fault none;
-    serve_rest(group, boddurci_no_fault(&none), &none);
+    serve_others(group, boddurci_no_fault(&none), &none);
     group->is_served = 1;
 }
 
-/* Gives the turn to save to the first waiting call. That call exists until it has the turn, since nobody else empties the list. */
+/* ---- the turn to save */
+
+/* Takes the turn if nobody has it. */
+static int takes_turn(struct boddurci_group *group)
+{
+    boddurci_lock_soon(&group->mutex);
+    int takes = !group->is_saving;
+    __atomic_store_n(&group->is_saving, 1, __ATOMIC_RELAXED);
+    pthread_mutex_unlock(&group->mutex);
+    return takes;
+}
+
+/* Takes the turn if nobody has had it for the time RETURN. Then the thread that saved last has not called again, and is not waited for in the
+ * next SKIPS saves. */
+static int takes_free_turn(struct boddurci_group *group)
+{
+    int is_free = !__atomic_load_n(&group->is_saving, __ATOMIC_RELAXED);
+    if (!is_free || now() - __atomic_load_n(&group->freed, __ATOMIC_RELAXED) < RETURN || !takes_turn(group))
+        return 0;
+    group->skips_return = SKIPS;
+    return 1;
+}
+
+/* Lets a thread sleep until its call is served or gets the turn. Returns 0 if nobody has the turn: the thread takes it then. */
+static int falls_asleep(struct boddurci_group *group, struct boddurci_call *call)
+{
+    int state = WAITS;
+    boddurci_lock_soon(&group->mutex);
+    int sleeps = group->is_saving;
+    if (sleeps)
+        (void)!__atomic_compare_exchange_n(&call->state, &state, SLEEPS, 0, __ATOMIC_ACQ_REL, __ATOMIC_ACQUIRE);
+    __atomic_store_n(&group->is_saving, 1, __ATOMIC_RELAXED);
+    pthread_mutex_unlock(&group->mutex);
+    return sleeps;
+}
+
+/* Returns whether to leave the turn free for a moment. The thread that has just saved takes it if it calls again, since its processor has the
+ * data of the save in its cache. If it does not, the thread of the first waiting call takes the turn. It does not sleep yet, and cannot fall
+ * asleep before. */
+static int frees_turn(struct boddurci_group *group, const struct boddurci_call *next)
+{
+    if (group->skips_return == 0)
+        return __atomic_load_n(&next->state, __ATOMIC_RELAXED) == WAITS;
+    group->skips_return--;
+    return 0;
+}
+
+/* Gives the turn to save to the first waiting call, or leaves it free. That call exists until it has the turn, since nobody else empties the
+ * list. */
 static void pass_on(struct boddurci_group *group)
 {
     boddurci_lock_soon(&group->mutex);
     struct boddurci_call *next = group->first;
-    group->is_saving = next != NULL;
+    if (next != NULL && frees_turn(group, next))
+        next = NULL;
+    __atomic_store_n(&group->freed, now(), __ATOMIC_RELAXED);
+    __atomic_store_n(&group->is_saving, next != NULL, __ATOMIC_RELAXED);
     pthread_mutex_unlock(&group->mutex);
     if (next != NULL)
         wake(next, HAS_TURN);
@@ -208,26 +270,32 @@ static void pass_on(struct boddurci_group *group)
 
 /* Waits until a call has the turn or is served. Waking a thread takes longer than a short save. So the thread first spins for about the
  * time of two saves, yielding the processor, and then sleeps. */
-static int wait_for(struct boddurci_call *call, int64_t took)
+static int wait_for(struct boddurci_group *group, struct boddurci_call *call, int64_t took)
 {
     int state = WAITS;
     int64_t end = took < LONG_SAVE ? now() + 2 * took + MOMENT : 0;
-    while (state == WAITS && (state = __atomic_load_n(&call->state, __ATOMIC_ACQUIRE)) == WAITS && now() < end)
+    while ((state = __atomic_load_n(&call->state, __ATOMIC_ACQUIRE)) == WAITS && now() < end) {
+        if (takes_free_turn(group))
+            return HAS_TURN;
         sched_yield();
-    if (state != WAITS || !__atomic_compare_exchange_n(&call->state, &state, SLEEPS, 0, __ATOMIC_ACQ_REL, __ATOMIC_ACQUIRE))
+    }
+    if (state != WAITS)
         return state;
-    while (sem_wait(&call->turn) != 0) /* a signal was handled */
-        continue;
-    return __atomic_load_n(&call->state, __ATOMIC_ACQUIRE);
+    if (!falls_asleep(group, call))
+        return HAS_TURN;
+    while ((state = __atomic_load_n(&call->state, __ATOMIC_ACQUIRE)) == SLEEPS)
+        (void)!sem_wait(&call->turn); /* it fails if a signal was handled */
+    return state;
 }
 
-/* Saves for all waiting calls. `call` is the first of them. */
+/* Saves for all waiting calls. `call` is one of them, that of this thread. */
 static void save_for_all(struct boddurci_group *group, struct boddurci_call *call, boddurci_saving *save, boddurci_base *base)
 {
+    group->own = call;
     group->is_served = 0;
     call->status = save(base, call->fault);
     if (!group->is_served)
-        serve_rest(group, call->status, call->fault);
+        serve_others(group, call->status, call->fault);
     __atomic_store_n(&group->took, now() - group->begun, __ATOMIC_RELAXED);
     pass_on(group);
 }
@@ -240,7 +308,7 @@ uint32_t boddurci_group_save(struct boddurci_group *group, boddurci_saving *save
     if (sem_init(&call.turn, 0, 0) != 0)
         return boddurci_fail_by_system(fault, "a thread cannot wait for its save");
     pthread_setcancelstate(PTHREAD_CANCEL_DISABLE, &could_be_cancelled);
-    if (!has_to_wait(group, &call) || wait_for(&call, __atomic_load_n(&group->took, __ATOMIC_RELAXED)) == HAS_TURN)
+    if (!has_to_wait(group, &call) || wait_for(group, &call, __atomic_load_n(&group->took, __ATOMIC_RELAXED)) == HAS_TURN)
         save_for_all(group, &call, save, base);
     pthread_setcancelstate(could_be_cancelled, NULL);
     sem_destroy(&call.turn);

@@ -561,9 +561,12 @@ struct boddurci_group {
     pthread_mutex_t mutex;       /* of the list and `is_saving`; not held during a save */
     struct boddurci_call *first; /* or NULL */
     struct boddurci_call **last; /* the place for the pointer to the next call */
-    int is_saving;               /* a thread saves, or has been given the turn to save */
+    int is_saving;               /* a thread saves, or has the turn to save; atomic, and changed only under the mutex */
+    int64_t freed;               /* when a thread had the turn last, in nanoseconds; atomic */
+    int skips_return;            /* the number of coming saves that do not wait for the thread that saved last, since a wait was in vain */
     int waiting;                 /* the number of calls in the list; atomic */
-    struct boddurci_call *rest;  /* the calls of the present save, without that of its thread, until they are served */
+    struct boddurci_call *calls; /* the calls of the present save, until they are served */
+    struct boddurci_call *own;   /* that of the thread that saves */
     int is_served;               /* the present save has served its calls */
     int served;                  /* the number of calls of the last save */
     int others;                  /* the number of calls that the last save served or that waited when it served them */

@@ -1,5 +1,5 @@
 /* Tests changes of shared bases that are executed before the locks are taken (bindings/c/boddurci_shared_ahead.c). tests/unflushed builds and
- * runs it, with a folder as the argument. The linker replaces four functions of the library by those below (--wrap), so that other calls
+ * runs it, with a folder as the argument. The linker replaces five functions of the library by those below (--wrap), so that other calls
  * come between the execution of a command and the locks, and reads without locks get wrong bytes. */
 #define _GNU_SOURCE
 #include "boddurci_shared_base.h"

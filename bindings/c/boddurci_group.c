@@ -208,43 +208,47 @@ void boddurci_group_serve(struct boddurci_group *group)
 
 /* ---- the turn to save */
 
-/* Takes the turn if nobody has it. */
-static int takes_turn(struct boddurci_group *group)
+/* Takes the turn for a call, under the mutex. Returns 0 if a thread has the turn, or if the call was served meanwhile. */
+static int takes_turn(struct boddurci_group *group, const struct boddurci_call *call)
 {
+    int takes = !group->is_saving && __atomic_load_n(&call->state, __ATOMIC_RELAXED) == WAITS;
+    if (takes)
+        __atomic_store_n(&group->is_saving, 1, __ATOMIC_RELAXED);
+    return takes;
+}
+
+/* Takes the turn if it has been free for RETURN nanoseconds: the thread that saved last has not called again. The next SKIPS saves do not wait
+ * for it. */
+static int takes_free_turn(struct boddurci_group *group, const struct boddurci_call *call)
+{
+    int is_free = !__atomic_load_n(&group->is_saving, __ATOMIC_RELAXED);
+    if (!is_free || now() - __atomic_load_n(&group->freed, __ATOMIC_RELAXED) < RETURN)
+        return 0;
     boddurci_lock_soon(&group->mutex);
-    int takes = !group->is_saving;
-    __atomic_store_n(&group->is_saving, 1, __ATOMIC_RELAXED);
+    int takes = takes_turn(group, call);
+    if (takes)
+        group->skips_return = SKIPS;
     pthread_mutex_unlock(&group->mutex);
     return takes;
 }
 
-/* Takes the turn if nobody has had it for the time RETURN. Then the thread that saved last has not called again, and is not waited for in the
- * next SKIPS saves. */
-static int takes_free_turn(struct boddurci_group *group)
-{
-    int is_free = !__atomic_load_n(&group->is_saving, __ATOMIC_RELAXED);
-    if (!is_free || now() - __atomic_load_n(&group->freed, __ATOMIC_RELAXED) < RETURN || !takes_turn(group))
-        return 0;
-    group->skips_return = SKIPS;
-    return 1;
-}
-
-/* Lets a thread sleep until its call is served or gets the turn. Returns 0 if nobody has the turn: the thread takes it then. */
-static int falls_asleep(struct boddurci_group *group, struct boddurci_call *call)
+/* Lets a thread sleep until its call is served or gets the turn, or takes the turn if nobody has it. Returns the state of the call then. A
+ * thread that sleeps waits for the post, even if its call has another state already: the post still needs the call. */
+static int sleep_or_take(struct boddurci_group *group, struct boddurci_call *call)
 {
     int state = WAITS;
     boddurci_lock_soon(&group->mutex);
-    int sleeps = group->is_saving;
-    if (sleeps)
-        (void)!__atomic_compare_exchange_n(&call->state, &state, SLEEPS, 0, __ATOMIC_ACQ_REL, __ATOMIC_ACQUIRE);
-    __atomic_store_n(&group->is_saving, 1, __ATOMIC_RELAXED);
+    int takes = takes_turn(group, call);
+    int sleeps = !takes && __atomic_compare_exchange_n(&call->state, &state, SLEEPS, 0, __ATOMIC_ACQ_REL, __ATOMIC_ACQUIRE);
     pthread_mutex_unlock(&group->mutex);
-    return sleeps;
+    while (sleeps && sem_wait(&call->turn) != 0) /* a signal was handled */
+        continue;
+    return takes ? HAS_TURN : __atomic_load_n(&call->state, __ATOMIC_ACQUIRE);
 }
 
 /* Returns whether to leave the turn free for a moment. The thread that has just saved takes it if it calls again, since its processor has the
- * data of the save in its cache. If it does not, the thread of the first waiting call takes the turn. It does not sleep yet, and cannot fall
- * asleep before. */
+ * data of the save in its cache. If it does not, a thread that polls takes the turn. The thread of the first call polls or is about to, and
+ * does not fall asleep while the turn is free. */
 static int frees_turn(struct boddurci_group *group, const struct boddurci_call *next)
 {
     if (group->skips_return == 0)
@@ -275,17 +279,11 @@ static int wait_for(struct boddurci_group *group, struct boddurci_call *call, in
     int state = WAITS;
     int64_t end = took < LONG_SAVE ? now() + 2 * took + MOMENT : 0;
     while ((state = __atomic_load_n(&call->state, __ATOMIC_ACQUIRE)) == WAITS && now() < end) {
-        if (takes_free_turn(group))
+        if (takes_free_turn(group, call))
             return HAS_TURN;
         sched_yield();
     }
-    if (state != WAITS)
-        return state;
-    if (!falls_asleep(group, call))
-        return HAS_TURN;
-    while ((state = __atomic_load_n(&call->state, __ATOMIC_ACQUIRE)) == SLEEPS)
-        (void)!sem_wait(&call->turn); /* it fails if a signal was handled */
-    return state;
+    return state == WAITS ? sleep_or_take(group, call) : state;
 }
 
 /* Saves for all waiting calls. `call` is one of them, that of this thread. */

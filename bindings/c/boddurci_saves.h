@@ -563,7 +563,7 @@ struct boddurci_group {
     struct boddurci_call **last; /* the place for the pointer to the next call */
     int is_saving;               /* a thread saves, or has the turn to save; atomic, and changed only under the mutex */
     int64_t freed;               /* when a thread had the turn last, in nanoseconds; atomic */
-    int skips_return;            /* the number of coming saves that do not wait for the thread that saved last, since a wait was in vain */
+    int skips_return;            /* so often the turn is not left free, since that was in vain; of the thread with the turn */
     int waiting;                 /* the number of calls in the list; atomic */
     struct boddurci_call *calls; /* the calls of the present save, until they are served */
     struct boddurci_call *own;   /* that of the thread that saves */

@@ -1,5 +1,5 @@
-/* Executes the command of a change before the locks of a shared base are taken. If other processes use the base, the locks are then held for
- * less time. The result is a guess: the files are read without a lock, so their bytes may be old, or a mix of old and new ones. The call
+/* Executes the command of a change before the locks of a shared base are taken, if other processes use the base. So the locks are held for less
+ * time. The result is a guess: the files are read without a lock, so their bytes may be old, or a mix of old and new ones. The call
  * uses the result only if it reads the same bytes again under the locks. docs/DECISIONS.md gives the reasons under "Calls from C". */
 #define _GNU_SOURCE
 #include "boddurci_shared_base.h"
@@ -45,8 +45,8 @@ static int is_worthwhile(boddurci_shared *shared, const struct boddurci_command 
     return 0;
 }
 
-/* Notes that a command was executed in vain. Each such time after another one doubles the number of calls that then execute no command
- * ahead. */
+/* Notes that a command was executed in vain, or could not be executed. Each such time after another one doubles the number of calls that
+ * then execute no command ahead. */
 static void miss(boddurci_shared *shared)
 {
     enum { MOST = 6 };

@@ -280,9 +280,10 @@ static uint32_t change_part(boddurci_shared *shared, struct boddurci_command *co
 uint32_t boddurci_change_page(boddurci_shared *shared, struct boddurci_command *command, int *is_whole, boddurci_fault *fault)
 {
     struct boddurci_part part;
-    *is_whole = 0;
+    *is_whole = shared->logged.is_open = 0;
     shared->tail.owed = 0;
     shared->tail.is_touched = 0;
+    boddurci_no_tail(&shared->tail);
     boddurci_hold_signal(&shared->logged.disk);
     uint32_t status = find_files(shared, needs_times(shared), fault);
     if (status == BODDURCI_DONE)

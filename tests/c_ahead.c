@@ -34,6 +34,9 @@ static unsigned long looked;
 /* ---- the library */
 
 static void (*between)(void);               /* is called once, before the next change takes its locks */
+static void (*meanwhile)(void);             /* is called once, after some reads of an execution ahead */
+static unsigned reads;                      /* the number of these reads */
+static unsigned long meanwhiles;            /* the number of its calls */
 static int executions, takes;               /* of the last change of `one` */
 static int is_ahead;                        /* a command is being executed ahead */
 static unsigned damage;                     /* reads without locks get wrong bytes, one in this number, or none if it is 0 */
@@ -91,6 +94,21 @@ int __wrap_boddurci_take_ahead(boddurci_shared *shared, const struct boddurci_pa
     return takes;
 }
 
+static void call_meanwhile(void)
+{
+    void (*now)(void) = meanwhile;
+    int executed = executions, took = takes;
+    const boddurci_fault was = fault;
+    meanwhile = NULL;
+    is_ahead = 0;
+    now();
+    fault = was;
+    executions = executed;
+    takes = took;
+    is_ahead = 1;
+    meanwhiles++;
+}
+
 /* The records of a log do not change while the log has its epoch, so they are read as they are. */
 int __real_boddurci_read_at(int, uint64_t, uint8_t *, size_t);
 int __wrap_boddurci_read_at(int, uint64_t, uint8_t *, size_t);
@@ -98,6 +116,8 @@ int __wrap_boddurci_read_at(int opened, uint64_t at, uint8_t *room, size_t size)
 {
     char name[40], to[300] = "";
     int status = __real_boddurci_read_at(opened, at, room, size);
+    if (is_ahead && meanwhile != NULL && reads-- == 0)
+        call_meanwhile();
     if (status != 0 || !is_ahead || damage == 0 || size == 0 || roll(damage) != 0)
         return status;
     snprintf(name, sizeof name, "/proc/self/fd/%d", opened);
@@ -587,11 +607,13 @@ static void change_one_of(uint64_t numbers[40], boddurci_shared *shared)
     }
     sprintf(key, "n%u", which);
     if (roll(8) == 0) {
-        EXPECT(removes(shared, key) == (numbers[which] ? BODDURCI_DONE : BODDURCI_MISSING));
+        uint32_t status = removes(shared, key);
+        EXPECT(status == (numbers[which] ? BODDURCI_DONE : BODDURCI_MISSING));
         numbers[which] = 0;
         return;
     }
-    EXPECT(counts(shared, key, 9) == (numbers[which] < 9 ? numbers[which] + 1 : 0) && fault.status == BODDURCI_DONE);
+    uint64_t number = counts(shared, key, 9);
+    EXPECT(number == (numbers[which] < 9 ? numbers[which] + 1 : 0) && fault.status == BODDURCI_DONE);
     numbers[which] += numbers[which] < 9;
 }
 
@@ -613,6 +635,39 @@ static void test_damage(uint32_t flags)
     end();
 }
 
+static uint64_t model[40];
+
+/* Changes the base by another handle, and perhaps applies the tail of the log, or closes the log, so that a new one begins. */
+static void overtake(void)
+{
+    for (unsigned i = roll(4); i > 0; i--)
+        change_one_of(model, other);
+    if (roll(3) == 0)
+        flush();
+    if (roll(3) == 0)
+        open_and_close();
+    for (unsigned i = roll(4); i > 0; i--)
+        change_one_of(model, other);
+}
+
+/* Other changes come between two reads without locks: between the header of the log, the note, the records, .dir and the page. */
+static void test_overtaken(uint32_t flags)
+{
+    enum { TIMES = 2000 };
+    memset(model, 0, sizeof model);
+    begin(flags & BODDURCI_WIDE ? "overtaken wide" : "overtaken", flags);
+    meanwhiles = 0;
+    for (int i = 0; i < TIMES; i++) {
+        one->others = 8;
+        reads = roll(6);
+        meanwhile = overtake;
+        change_one_of(model, one);
+    }
+    meanwhile = NULL;
+    EXPECT(meanwhiles > TIMES / 4);
+    end();
+}
+
 int main(int count, char **words)
 {
     EXPECT(count == 2 && chdir(words[1]) == 0);
@@ -626,6 +681,8 @@ int main(int count, char **words)
     test_processes();
     test_damage(BODDURCI_NO_FLUSH);
     test_damage(BODDURCI_NO_FLUSH | BODDURCI_WIDE);
+    test_overtaken(BODDURCI_NO_FLUSH);
+    test_overtaken(BODDURCI_NO_FLUSH | BODDURCI_WIDE);
     printf("%lu checks\n", looked);
     return 0;
 }

@@ -109,7 +109,7 @@ static void call_meanwhile(void)
     meanwhiles++;
 }
 
-/* The records of a log do not change while the log has its epoch, so they are read as they are. */
+/* The records of a log do not change while the log has its epoch, so they are read without damage. */
 int __real_boddurci_read_at(int, uint64_t, uint8_t *, size_t);
 int __wrap_boddurci_read_at(int, uint64_t, uint8_t *, size_t);
 int __wrap_boddurci_read_at(int opened, uint64_t at, uint8_t *room, size_t size)

@@ -169,8 +169,8 @@ static void expect_joined(void)
     boddurci_close_files(base);
 }
 
-/* A late call and its change are in the save. What another program does is found, as in a save that does not wait. A late call that insists
- * makes the save insist. If the save fails, the next save has its changes. A read that fails is repeated. */
+/* A late call and its change are in the save. The save finds changes of another program, as a save that does not wait does. A late call that
+ * insists makes the save insist. If the save fails, the next save has its changes. A read that fails is repeated. */
 static void test_waits(void)
 {
     EXPECT(save_while(call_late) == BODDURCI_DONE);

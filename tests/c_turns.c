@@ -59,7 +59,7 @@ static atomic_int is_saving, may_take, saves, first_returned, second_returned, p
 static _Thread_local int is_second;
 
 /* On request a signal comes before the post, or the second thread stops at its second look at the clock until the first one has returned, or
- * the time stands still for the second thread. */
+ * the second thread always reads the same second. */
 static atomic_int signals, stops_clock, is_clock_stopped, freezes_clock;
 static atomic_int before_take; /* the first save takes its calls once the second call has come */
 

@@ -27,10 +27,10 @@ static const int64_t LONG_SAVE = BODDURCI_LONG_SAVE;
 /* In nanoseconds: about the time that it takes to wake a thread. */
 static const int64_t MOMENT = 40000;
 
-/* In nanoseconds: the next save waits so long for the thread that has just saved. */
+/* In nanoseconds: the longest time for which the turn to save is left free for the thread that has just saved. */
 static const int64_t RETURN = 5000;
 
-/* After a wait in vain, so many times there is no wait of this kind. */
+/* The number of saves that do not wait after a wait in vain. */
 enum { SKIPS = 7 };
 
 static int64_t now(void)
@@ -126,6 +126,13 @@ static int goes_on(int before, int has, int others)
     return has > before && 3 * has >= 2 * others;
 }
 
+/* Returns whether a save waits for other calls: the last save served several calls, or calls came during it, and no wait was in vain
+ * lately. */
+static int expects_calls(const struct boddurci_group *group)
+{
+    return group->others >= 2 && group->skips == 0;
+}
+
 /* Waits shortly for the threads that the last save served: they may save again, and then one save serves all of them. If most of them have
  * come, waits for the rest. If fewer have come, and none during the wait, the next SKIPS saves do not wait. A single thread does not
  * wait. */
@@ -134,7 +141,7 @@ static void await_others(struct boddurci_group *group)
     enum { MOMENTS = 8 };
     int64_t took = __atomic_load_n(&group->took, __ATOMIC_RELAXED), end = now();
     int others = group->others, had = waiting_in(group), before = had, has = had;
-    if (others < 2 || group->skips > 0) {
+    if (!expects_calls(group)) {
         group->skips -= group->skips > 0;
         return;
     }
@@ -155,7 +162,7 @@ static int has_one_that_insists(const struct boddurci_call *call)
 
 int boddurci_group_awaits(const struct boddurci_group *group)
 {
-    return group->others >= 2 && group->skips == 0 && __atomic_load_n(&group->took, __ATOMIC_RELAXED) < LONG_SAVE;
+    return expects_calls(group) && __atomic_load_n(&group->took, __ATOMIC_RELAXED) < LONG_SAVE;
 }
 
 int boddurci_group_take(struct boddurci_group *group)
@@ -203,7 +210,6 @@ void boddurci_group_serve(struct boddurci_group *group)
 {
     boddurci_fault none;
     serve_others(group, boddurci_no_fault(&none), &none);
-    group->is_served = 1;
 }
 
 /* ---- the turn to save */
@@ -290,9 +296,8 @@ static int wait_for(struct boddurci_group *group, struct boddurci_call *call, in
 static void save_for_all(struct boddurci_group *group, struct boddurci_call *call, boddurci_saving *save, boddurci_base *base)
 {
     group->own = call;
-    group->is_served = 0;
     call->status = save(base, call->fault);
-    if (!group->is_served)
+    if (group->calls != NULL)
         serve_others(group, call->status, call->fault);
     __atomic_store_n(&group->took, now() - group->begun, __ATOMIC_RELAXED);
     pass_on(group);

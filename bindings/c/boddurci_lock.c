@@ -234,8 +234,8 @@ static void note_opened(struct boddurci_place *place, enum boddurci_file lock)
 {
     enum { MISSING = 07777 };
     struct stat found;
-    int is_found = boddurci_look_at(place->opened[lock], &found) == 0, is_private = is_found && (found.st_mode & (S_IWGRP | S_IWOTH)) == 0;
-    place->inodes[lock] = is_found ? (struct boddurci_inode){1, found.st_dev, found.st_ino} : (struct boddurci_inode){0, 0, 0};
+    int opened = place->opened[lock], is_private = boddurci_look_at(opened, &found) == 0 && (found.st_mode & (S_IWGRP | S_IWOTH)) == 0;
+    place->inodes[lock] = boddurci_inode_of(opened);
     if (lock == BODDURCI_LOCK)
         place->has_safe_notes = is_private || boddurci_mode_of_pages(place, MISSING) != MISSING;
 }

@@ -380,21 +380,22 @@ static uint32_t must_be_ours(boddurci_base *base, struct saving *saving, boddurc
 }
 
 /* Searches a plan for a change that another program has caused: any change of a page that the base has not changed, or any change at all if
- * the base has changed no page. boddurci.h defines the form of a plan. */
+ * the base has changed no page. */
 static void compare(boddurci_base *base, const struct saving *saving)
 {
-    enum { HEADER = 28, CHANGE = 9 };
+    struct boddurci_plan_change change;
     const struct numbers *own = &saving->reading.own;
     if (saving->plan.length == 0)
         return;
     if (base->doubt == BODDURCI_WRITTEN && own->count != 0)
         note_change(base, saving);
-    const uint8_t *at = saving->plan.at + BODDURCI_PLAN_AT + HEADER, *end = saving->plan.at + saving->plan.length;
-    for (; end - at > CHANGE && base->change[0] == 0; at += CHANGE + 2 * (size_t)boddurci_number_at(at + 5)) {
-        uint32_t page = (uint32_t)(boddurci_number_at(at + 1) / saving->reading.size);
-        if (at[0] != 0 && own->count == 0)
+    const uint8_t *at = saving->plan.at + BODDURCI_PLAN_AT + BODDURCI_CHANGES_AT, *end = saving->plan.at + saving->plan.length;
+    while (base->change[0] == 0 && boddurci_next_change(&at, end, &change)) {
+        uint32_t page = (uint32_t)(change.at / saving->reading.size);
+        int is_page = change.file == BODDURCI_PAGES;
+        if (!is_page && own->count == 0)
             snprintf(base->change, sizeof base->change, "BASE.dir has other bytes");
-        else if (at[0] == 0 && (own->count == 0 || bsearch(&page, own->at, own->count, sizeof page, by_number) == NULL))
+        else if (is_page && (own->count == 0 || bsearch(&page, own->at, own->count, sizeof page, by_number) == NULL))
             snprintf(base->change, sizeof base->change, "page %lu of BASE.pag has other bytes", (unsigned long)page);
     }
 }

@@ -391,6 +391,21 @@ int boddurci_may_write(struct boddurci_disk *disk, const struct boddurci_steps *
 /* Reads a number of a plan: four bytes, the lowest first. */
 uint64_t boddurci_number_at(const uint8_t *at);
 
+/* A change of a plan, without its bytes. */
+struct boddurci_plan_change {
+    enum boddurci_file file;
+    uint64_t at;
+    size_t length;
+};
+
+/* The changes of a plan begin at this byte of the plan. */
+enum { BODDURCI_CHANGES_AT = 28 };
+
+/* Reads the change at *at, and moves *at to the next change. Returns 0 at the end of the plan. boddurci.h has the form of a plan. */
+int boddurci_next_change(const uint8_t **at, const uint8_t *end, struct boddurci_plan_change *change);
+
+int boddurci_is_zero(const uint8_t *bytes, size_t size);
+
 /* Reads from a plan the lengths of both data files before the plan, or after the plan if `is_after` is 1. The plan starts at
  * bytes[BODDURCI_PLAN_AT]. */
 void boddurci_lengths_of(const uint8_t *bytes, int is_after, uint64_t lengths[2]);
@@ -563,11 +578,10 @@ struct boddurci_group {
     struct boddurci_call **last; /* the place for the pointer to the next call */
     int is_saving;               /* a thread saves, or has the turn to save; atomic, and changed only under the mutex */
     int64_t freed;               /* when a thread had the turn last, in nanoseconds; atomic */
-    int skips_return;            /* so often the turn is not left free, since that was in vain; of the thread with the turn */
+    int skips_return;            /* the number of coming saves after which the turn is not left free, since that was in vain */
     int waiting;                 /* the number of calls in the list; atomic */
-    struct boddurci_call *calls; /* the calls of the present save, until they are served */
+    struct boddurci_call *calls; /* the calls of the present save, or NULL once they are served */
     struct boddurci_call *own;   /* that of the thread that saves */
-    int is_served;               /* the present save has served its calls */
     int served;                  /* the number of calls of the last save */
     int others;                  /* the number of calls that the last save served or that waited when it served them */
     int skips;                   /* the number of coming saves that do not wait for other calls, since a wait was in vain */

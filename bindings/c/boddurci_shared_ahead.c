@@ -9,7 +9,7 @@
 /* A longer .dir, or a longer plan, is not kept. */
 enum { DIRECTORY_MOST = 32768, PLAN_MOST = 16384 };
 
-/* The result of a command, and all bytes on which it depends. */
+/* The result of a command, and all bytes that it depends on. */
 struct boddurci_ahead {
     int is_ready;              /* the other fields belong to the command of this call */
     struct boddurci_part part; /* the page of the key */
@@ -81,7 +81,7 @@ static int is_reply(uint32_t status)
     return status == BODDURCI_DONE || status == BODDURCI_MISSING || status == BODDURCI_EXISTS || status == BODDURCI_CROWDED;
 }
 
-/* Executes a command and keeps its result, with the bytes on which it depends. Returns 0 if the result cannot be kept. */
+/* Executes a command and keeps its result, with the bytes that it depends on. Returns 0 if the result cannot be kept. */
 static int execute(boddurci_shared *shared, struct boddurci_command command, struct boddurci_ahead *ahead)
 {
     int is_whole;
@@ -110,7 +110,7 @@ void boddurci_work_ahead(boddurci_shared *shared, const struct boddurci_command 
         miss(shared);
 }
 
-/* Returns whether the bytes that were read under the locks are those on which a result depends. The number of the page depends only on .dir. */
+/* Returns whether the bytes that were read under the locks are those that the result depends on. The number of the page depends only on .dir. */
 static int has_same_bytes(const boddurci_shared *shared, const struct boddurci_part *part)
 {
     const struct boddurci_ahead *ahead = shared->ahead;

@@ -44,8 +44,8 @@ struct boddurci_tail {
     int changes_directory; /* the joined plan changes .dir */
     uint8_t changed[512];  /* a bit for each block of .pag that the joined plan changes; blocks whose numbers differ by 4,096 share a bit */
     uint64_t epoch;      /* as the note says, like the next six fields */
-    size_t applied, end; /* where the tail begins and ends */
-    size_t last;         /* where the last bytes of the log begin */
+    size_t applied, end; /* the start and the end of the tail */
+    size_t last;         /* the start of the last bytes of the log */
     uint64_t witness;    /* the hash of these bytes */
     uint64_t flushed;
     int is_shared;
@@ -111,7 +111,7 @@ void boddurci_drop_redo(boddurci_shared *shared);
 
 /* ---- boddurci_shared_page.c: a command on the page of its key */
 
-/* The page of a key, and the lengths of the files from which the page was read. */
+/* The page of a key, and the lengths of both files when the page was read. */
 struct boddurci_part {
     size_t directory; /* the length of .dir; its bytes are in shared->directory */
     size_t length;    /* of .pag */

@@ -125,11 +125,6 @@ uint32_t boddurci_read_part(boddurci_shared *shared, const struct boddurci_comma
     return read_page(shared, part, part->number) == 0 ? BODDURCI_DONE : boddurci_fail_by_system(fault, "a file cannot be read");
 }
 
-static int is_zero(const uint8_t *bytes, size_t size)
-{
-    return bytes[0] == 0 && memcmp(bytes, bytes + 1, size - 1) == 0;
-}
-
 uint32_t boddurci_are_free(boddurci_shared *shared, const struct boddurci_part *part, const struct boddurci_planned *planned, int *are_free,
                            boddurci_fault *fault)
 {
@@ -139,7 +134,7 @@ uint32_t boddurci_are_free(boddurci_shared *shared, const struct boddurci_part *
             continue;
         if (read_page(shared, part, planned->numbers[i]) != 0)
             return boddurci_fail_by_system(fault, "a file cannot be read");
-        *are_free = is_zero(shared->page, part->size);
+        *are_free = boddurci_is_zero(shared->page, part->size);
     }
     return BODDURCI_DONE;
 }
@@ -175,8 +170,8 @@ int boddurci_may_change(const struct boddurci_command *command, uint32_t status)
     return command->kind != BODDURCI_RUN || command->end == 1 || command->end == 2;
 }
 
-/* Plans the save of the page. STALE if the page is not enough, or if the plan may write more pages than `planned` can list. A plan rarely
- * writes so many pages, since a page is split at most once for each bit of the hash. */
+/* Plans the save of the page. STALE if the page is not enough, or if the plan may write more pages than `planned` can list. That is rare,
+ * since a page is split at most once for each bit of the hash. */
 static uint32_t plan_page(boddurci_shared *shared, const struct boddurci_part *part, struct boddurci_planned *planned)
 {
     enum { MOST = sizeof planned->numbers / sizeof *planned->numbers };

@@ -33,18 +33,16 @@ static void begin_plan(struct boddurci_tail *tail)
     memset(tail->changed, 0, sizeof tail->changed);
 }
 
-/* Notes the blocks of .pag that a plan changes, and whether it changes .dir. include/boddurci.h has the form of a plan. */
+/* Notes the blocks of .pag that a plan changes, and whether it changes .dir. */
 static void note_changes(struct boddurci_tail *tail, const uint8_t *plan, size_t length)
 {
-    enum { FIRST = 28, OFFSET = 1, SIZE = 5, BYTES = 9 };
-    size_t size;
-    for (size_t at = FIRST; at + BYTES <= length; at += BYTES + 2 * size) {
-        uint64_t from = boddurci_number_at(plan + at + OFFSET);
-        size = (size_t)boddurci_number_at(plan + at + SIZE);
-        if (plan[at] != BODDURCI_PAGES)
+    struct boddurci_plan_change change;
+    const uint8_t *at = plan + BODDURCI_CHANGES_AT;
+    while (boddurci_next_change(&at, plan + length, &change)) {
+        if (change.file == BODDURCI_DIRECTORY)
             tail->changes_directory = 1;
         else
-            for (uint64_t block = from / BODDURCI_BLOCK; block * BODDURCI_BLOCK < from + size; block++)
+            for (uint64_t block = change.at / BODDURCI_BLOCK; block * BODDURCI_BLOCK < change.at + change.length; block++)
                 tail->changed[block / 8 % sizeof tail->changed] |= (uint8_t)(1 << block % 8);
     }
 }

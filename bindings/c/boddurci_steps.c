@@ -91,7 +91,7 @@ struct need {
     uint64_t absent;     /* the bytes in whole blocks that could not be allocated */
 };
 
-static int is_zero(const uint8_t *bytes, size_t size)
+int boddurci_is_zero(const uint8_t *bytes, size_t size)
 {
     return size == 0 || (bytes[0] == 0 && memcmp(bytes, bytes + 1, size - 1) == 0);
 }
@@ -104,7 +104,7 @@ static int needs_room(const struct boddurci_steps *steps, const boddurci_step *s
         return 0;
     if (step->at + step->length > need->lengths[step->file] || step->from + 2 * step->length > steps->length)
         return 1;
-    return is_zero(steps->bytes + step->from + step->length, (size_t)step->length);
+    return boddurci_is_zero(steps->bytes + step->from + step->length, (size_t)step->length);
 }
 
 /* Allocates the blocks of a range of a data file. If the file system cannot allocate blocks, counts these blocks as not allocated. */
@@ -169,6 +169,18 @@ void boddurci_release_room(struct boddurci_disk *disk)
 uint64_t boddurci_number_at(const uint8_t *at)
 {
     return (uint64_t)at[0] | (uint64_t)at[1] << 8 | (uint64_t)at[2] << 16 | (uint64_t)at[3] << 24;
+}
+
+int boddurci_next_change(const uint8_t **at, const uint8_t *end, struct boddurci_plan_change *change)
+{
+    enum { HEAD = 9 };
+    if (end - *at < HEAD)
+        return 0;
+    change->file = (*at)[0] == 0 ? BODDURCI_PAGES : BODDURCI_DIRECTORY;
+    change->at = boddurci_number_at(*at + 1);
+    change->length = (size_t)boddurci_number_at(*at + 5);
+    *at += HEAD + 2 * change->length;
+    return 1;
 }
 
 void boddurci_lengths_of(const uint8_t *bytes, int is_after, uint64_t lengths[2])

@@ -177,8 +177,8 @@ void boddurci_give(boddurci_base *base);
  * until it has ended. Once the save is durable, the other calls return DONE, and the saving call writes the data files. If the save fails
  * before, all of them return its status and its fault, and each caller may save again. No thread is served twice while another one waits. A
  * single thread never waits for other threads. If a thread is cancelled during the call, the cancellation takes effect after the call.
- * While saves take less than half a millisecond, a waiting thread polls and yields the processor for twice as long as the last save took,
- * and then sleeps. Under SCHED_FIFO a thread yields only to threads of the same priority.
+ * While saves take less than half a millisecond, and 20 microseconds more for each call, a waiting thread polls and yields the processor for
+ * twice as long as the last save took, and then sleeps. Under SCHED_FIFO a thread yields only to threads of the same priority.
  *
  * Full disks. Before a save is committed, both files get the blocks that they need, if the file system can allocate them. So a save on a
  * full disk returns FILE_FAILED, and nothing has changed. A save also returns FILE_FAILED if it would make one of the three files longer
@@ -229,12 +229,12 @@ void boddurci_close_files(boddurci_base *base);
  * last call, or of its opening. It checks .dir only if they differ, which takes some 4 microseconds for each KiB; with 900,000 pairs .dir
  * has 8 KiB. A change appends its record to the log in BASE.redo and syncs the log, so it costs one sync. If processes wait for each other,
  * a change releases the locks before the sync, and one sync serves the changes of several processes. The log stays open between the calls
- * of all processes, with its mark. A note in BASE.lock says where the records end, for the next call. These calls take longer, and as much
- * memory as opening the base:
+ * of all processes, with its mark. A note in BASE.lock has the position from which the next call reads the log. These calls take longer,
+ * and as much memory as opening the base:
  *
  * - calls that open the whole base: a change for which one page is not enough, a change after which the last page of .pag would be empty,
  *   and any call on files that this library has not written or whose .dir has more than 256 KiB;
- * - the first call after a process was killed during a call, or after the system was started: it recovers the log;
+ * - the first call after the system was started, and sometimes the first after a process was killed during a call: it recovers the log;
  * - a change by a user who may write .pag and does not own it, if BASE.redo is missing: the call makes BASE.redo and removes it again,
  *   since this user cannot give it to the owner of .pag, and other users would not accept it.
  *

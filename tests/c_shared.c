@@ -494,7 +494,7 @@ static void change_boot(const char *base)
     enum { BOOT = 64, CHECK = 144 };
     uint64_t check = 14695981039346656037u;
     struct bytes lock = read_file(base, ".lock");
-    EXPECT(is_marked(base) && lock.length >= CHECK + 8 && memcmp(lock.at, "sdbmnot4", 8) == 0);
+    EXPECT(is_marked(base) && lock.length >= CHECK + 8 && memcmp(lock.at, "sdbmnot5", 8) == 0);
     lock.at[BOOT] ^= 1;
     for (int i = 0; i < CHECK; i += 8) {
         uint64_t word = 0;

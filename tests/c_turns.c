@@ -133,7 +133,9 @@ static void *call_second(void *given)
     return NULL;
 }
 
-/* Makes both calls. A save counts as having taken `took` nanoseconds, so the second thread polls for twice that time. */
+static int served_before; /* the number of calls of the save before the first one */
+
+/* Makes both calls. A save counts as having taken `took` nanoseconds. If that was short, the second thread polls for twice that time. */
 static void meet(int64_t took, uint32_t first[2], uint32_t *second)
 {
     pthread_t first_thread;
@@ -141,6 +143,7 @@ static void meet(int64_t took, uint32_t first[2], uint32_t *second)
     first[1] = 0;
     EXPECT(boddurci_group_init(&group) == 0);
     group.took = took;
+    group.limit += LONG_CALL * served_before;
     EXPECT(pthread_create(&first_thread, NULL, call_first, first) == 0);
     AWAIT(is_saving);
     EXPECT(pthread_create(&second_thread, NULL, call_second, second) == 0);
@@ -168,6 +171,14 @@ int main(void)
     before_take = signals = 1;
     meet(LONG_SAVE, first, &second);
     EXPECT(first[0] == 102 && second == 102 && saves == 1 && posts == 1);
+    /* A save that took longer is short if it served many calls. */
+    EXPECT(group.limit == LONG_SAVE + 2 * LONG_CALL && group.took >= 50000000 && group.took < LONG_SAVE);
+    served_before = 20;
+    meet(LONG_SAVE + 20 * LONG_CALL, first, &second);
+    EXPECT(first[0] == 102 && second == 102 && saves == 1 && posts == 1);
+    meet(LONG_SAVE + 20 * LONG_CALL - 1, first, &second);
+    EXPECT(first[0] == 102 && second == 102 && saves == 1 && posts == 0);
+    served_before = 0;
     /* A call that is served does not take the turn, whether its thread was about to sleep or polls. */
     signals = 0;
     stops_clock = 1;

@@ -18,11 +18,12 @@ struct boddurci_call {
     sem_t turn; /* posted if the thread sleeps */
 };
 
-/* In nanoseconds. If the last save took less time than this, a waiting thread spins before it sleeps. Tests set another value. */
+/* In nanoseconds. If the last save took less time than this, and a twenty-fifth more for each call that it served, a waiting thread spins before
+ * it sleeps. With many threads a longer save is still short, since waking all of them would take longer. Tests set another value. */
 #ifndef BODDURCI_LONG_SAVE
 #define BODDURCI_LONG_SAVE 500000
 #endif
-static const int64_t LONG_SAVE = BODDURCI_LONG_SAVE;
+static const int64_t LONG_SAVE = BODDURCI_LONG_SAVE, LONG_CALL = BODDURCI_LONG_SAVE / 25;
 
 /* In nanoseconds: about the time that it takes to wake a thread. */
 static const int64_t MOMENT = 40000;
@@ -73,7 +74,7 @@ int boddurci_group_init(struct boddurci_group *group)
     group->own = NULL;
     group->is_saving = group->waiting = group->others = group->skips = group->skips_return = group->served = 0;
     group->freed = 0;
-    group->took = LONG_SAVE;
+    group->took = group->limit = LONG_SAVE;
     return pthread_mutex_init(&group->mutex, NULL) == 0 ? 0 : -1;
 }
 
@@ -100,22 +101,31 @@ static int waiting_in(const struct boddurci_group *group)
     return __atomic_load_n(&group->waiting, __ATOMIC_RELAXED);
 }
 
+/* Returns the duration of the last save, in nanoseconds, or -1 if that was long. */
+static int64_t short_time(const struct boddurci_group *group)
+{
+    int64_t took = __atomic_load_n(&group->took, __ATOMIC_RELAXED);
+    return took < __atomic_load_n(&group->limit, __ATOMIC_RELAXED) ? took : -1;
+}
+
 /* Returns how long a save may wait for more calls, in nanoseconds. The time is longer after a long save, since its waiting threads sleep
  * and wake one by one. */
-static int64_t patience(int64_t took)
+static int64_t patience(const struct boddurci_group *group)
 {
     static const int64_t MOST = 1000000;
-    if (took < LONG_SAVE)
+    int64_t took = __atomic_load_n(&group->took, __ATOMIC_RELAXED);
+    if (short_time(group) >= 0)
         return MOMENT;
     return took / 8 < MOST ? took / 8 : MOST;
 }
 
 /* Waits until the list has `count` calls, or until the time `end`. Returns the number of calls in the list. */
-static int await_calls(const struct boddurci_group *group, int count, int64_t took, int64_t end)
+static int await_calls(const struct boddurci_group *group, int count, int64_t end)
 {
     const struct timespec moment = {0, (long)MOMENT};
+    int is_short = short_time(group) >= 0;
     while (waiting_in(group) < count && now() < end)
-        (void)!(took < LONG_SAVE ? sched_yield() : nanosleep(&moment, NULL));
+        (void)!(is_short ? sched_yield() : nanosleep(&moment, NULL));
     return waiting_in(group);
 }
 
@@ -139,7 +149,7 @@ static int expects_calls(const struct boddurci_group *group)
 static void await_others(struct boddurci_group *group)
 {
     enum { MOMENTS = 8 };
-    int64_t took = __atomic_load_n(&group->took, __ATOMIC_RELAXED), end = now();
+    int64_t end = now();
     int others = group->others, had = waiting_in(group), before = had, has = had;
     if (!expects_calls(group)) {
         group->skips -= group->skips > 0;
@@ -147,8 +157,8 @@ static void await_others(struct boddurci_group *group)
     }
     for (int i = 0; i < MOMENTS && has < others && (i == 0 || goes_on(before, has, others)); i++) {
         before = has;
-        end += patience(took);
-        has = await_calls(group, others, took, end);
+        end += patience(group);
+        has = await_calls(group, others, end);
     }
     group->skips = had < others && has == had && 3 * has < 2 * others ? SKIPS : 0;
 }
@@ -162,7 +172,7 @@ static int has_one_that_insists(const struct boddurci_call *call)
 
 int boddurci_group_awaits(const struct boddurci_group *group)
 {
-    return expects_calls(group) && __atomic_load_n(&group->took, __ATOMIC_RELAXED) < LONG_SAVE;
+    return expects_calls(group) && short_time(group) >= 0;
 }
 
 int boddurci_group_take(struct boddurci_group *group)
@@ -280,10 +290,10 @@ static void pass_on(struct boddurci_group *group)
 
 /* Waits until a call has the turn or is served. Waking a thread takes longer than a short save. So the thread first spins for about the
  * time of two saves, yielding the processor, and then sleeps. */
-static int wait_for(struct boddurci_group *group, struct boddurci_call *call, int64_t took)
+static int wait_for(struct boddurci_group *group, struct boddurci_call *call)
 {
     int state = WAITS;
-    int64_t end = took < LONG_SAVE ? now() + 2 * took + MOMENT : 0;
+    int64_t took = short_time(group), end = took >= 0 ? now() + 2 * took + MOMENT : 0;
     while ((state = __atomic_load_n(&call->state, __ATOMIC_ACQUIRE)) == WAITS && now() < end) {
         if (takes_free_turn(group, call))
             return HAS_TURN;
@@ -299,6 +309,7 @@ static void save_for_all(struct boddurci_group *group, struct boddurci_call *cal
     call->status = save(base, call->fault);
     if (group->calls != NULL)
         serve_others(group, call->status, call->fault);
+    __atomic_store_n(&group->limit, LONG_SAVE + LONG_CALL * group->served, __ATOMIC_RELAXED);
     __atomic_store_n(&group->took, now() - group->begun, __ATOMIC_RELAXED);
     pass_on(group);
 }
@@ -311,7 +322,7 @@ uint32_t boddurci_group_save(struct boddurci_group *group, boddurci_saving *save
     if (sem_init(&call.turn, 0, 0) != 0)
         return boddurci_fail_by_system(fault, "a thread cannot wait for its save");
     pthread_setcancelstate(PTHREAD_CANCEL_DISABLE, &could_be_cancelled);
-    if (!has_to_wait(group, &call) || wait_for(group, &call, __atomic_load_n(&group->took, __ATOMIC_RELAXED)) == HAS_TURN)
+    if (!has_to_wait(group, &call) || wait_for(group, &call) == HAS_TURN)
         save_for_all(group, &call, save, base);
     pthread_setcancelstate(could_be_cancelled, NULL);
     sem_destroy(&call.turn);

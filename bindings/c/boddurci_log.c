@@ -162,6 +162,15 @@ static uint32_t look_only(const struct boddurci_place *place, int *is_marked, bo
 
 /* ---- opening */
 
+/* Clears the epoch of the notes of shared bases, which makes these notes invalid. */
+static int clear_epoch(struct boddurci_logged *logged)
+{
+    struct boddurci_disk *disk = &logged->disk;
+    disk->last = BODDURCI_REDO;
+    logged->epoch = 0;
+    return disk->files[BODDURCI_REDO] < 0 ? 0 : boddurci_clear_epoch(disk->files[BODDURCI_REDO]);
+}
+
 void boddurci_logged_of(struct boddurci_logged *logged, struct boddurci_place *place, struct boddurci_notes *notes)
 {
     boddurci_disk_of(&logged->disk, place);
@@ -178,15 +187,16 @@ static int64_t now(void)
     return (int64_t)time.tv_sec * 1000000000 + time.tv_nsec;
 }
 
-/* Abandons the log after a failed call: the next opening recovers the base. Removes the redo file if it has no mark: it is useless then,
- * and its bytes on the disk may differ from those in the page cache. */
+/* Abandons the log after a failed call: the next opening recovers the base. Clears the epoch of the notes of shared bases, so that their next
+ * call recovers the log too: if a sync has failed, a later one may succeed without writing the lost bytes. Removes the redo file if it has
+ * no mark: it is useless then, and its bytes on the disk may differ from those in the page cache. */
 static void give_up(struct boddurci_logged *logged)
 {
     struct boddurci_disk *disk = &logged->disk;
     int system = errno, last = (int)disk->last, redo = disk->files[BODDURCI_REDO];
     logged->is_open = 0;
-    logged->epoch = 0;
     logged->is_given_up = 1;
+    (void)!clear_epoch(logged);
     if (redo >= 0 && has_mark(redo) == 0) {
         if (disk->has_reserved)
             boddurci_release_room(disk);
@@ -259,15 +269,6 @@ static uint32_t read_files(struct boddurci_logged *logged, struct boddurci_bytes
     for (enum boddurci_file file = BODDURCI_PAGES; *is_marked && status == BODDURCI_DONE && file <= BODDURCI_DIRECTORY; file++)
         status = boddurci_read_data(disk->place, file, &files[file], fault);
     return status;
-}
-
-/* Clears the epoch of the notes of shared bases, before the log is emptied. */
-static int clear_epoch(struct boddurci_logged *logged)
-{
-    struct boddurci_disk *disk = &logged->disk;
-    disk->last = BODDURCI_REDO;
-    logged->epoch = 0;
-    return disk->files[BODDURCI_REDO] < 0 ? 0 : boddurci_clear_epoch(disk->files[BODDURCI_REDO]);
 }
 
 static int make_shared(struct boddurci_disk *disk)
@@ -515,12 +516,24 @@ static uint32_t ask_apply(struct boddurci_bytes bytes, size_t first, struct bodd
     return status;
 }
 
-/* Gets the step that appends the record of a save, and then the steps that apply it. Returns STALE, without a fault, if the log cannot take
- * the record. */
-static uint32_t ask_append(struct boddurci_bytes bytes, boddurci_log *log, struct boddurci_steps *steps, boddurci_fault *fault)
+/* Makes room for `count` steps on these bytes. */
+static uint32_t begin_steps(struct boddurci_bytes bytes, size_t count, struct boddurci_steps *steps, boddurci_fault *fault)
+{
+    if (make_rooms(steps, count * WORDS, 0) != 0)
+        return boddurci_no_memory(fault);
+    steps->count = steps->committed = count;
+    steps->bytes = bytes.at;
+    steps->length = bytes.length;
+    return BODDURCI_DONE;
+}
+
+/* Gets the step that appends the record of a save, and then the steps that apply it, unless the plan needs no room. Returns STALE, without a
+ * fault, if the log cannot take the record. */
+static uint32_t ask_append(const struct boddurci_disk *disk, struct boddurci_bytes bytes, boddurci_log *log, struct boddurci_steps *steps,
+                           boddurci_fault *fault)
 {
     size_t words;
-    uint32_t status = ask_apply(bytes, 1, steps, fault);
+    uint32_t status = boddurci_needs_no_room(disk, bytes) ? begin_steps(bytes, 1, steps, fault) : ask_apply(bytes, 1, steps, fault);
     if (status != BODDURCI_DONE)
         return status;
     status = boddurci_log_append(log, bytes.at, bytes.length, (uint64_t *)steps->at, WORDS, &words);
@@ -567,7 +580,7 @@ uint32_t boddurci_logged_append(struct boddurci_logged *logged, struct boddurci_
 {
     struct boddurci_steps steps = {NULL, 0, 0, NULL, 0, NULL};
     boddurci_log next = logged->next;
-    uint32_t status = ask_append(bytes, &next, &steps, fault);
+    uint32_t status = ask_append(&logged->disk, bytes, &next, &steps, fault);
     *is_appended = status == BODDURCI_DONE && have_files(&logged->disk, &steps);
     if (*is_appended)
         status = do_append(logged, &steps, fault);
@@ -582,7 +595,6 @@ uint32_t boddurci_logged_append(struct boddurci_logged *logged, struct boddurci_
 static uint32_t lose(struct boddurci_logged *logged, boddurci_fault *fault)
 {
     uint32_t status = cannot_be_written(&logged->disk, fault);
-    (void)!clear_epoch(logged);
     give_up(logged);
     return status;
 }

@@ -399,7 +399,7 @@ struct boddurci_plan_change {
 };
 
 /* The changes of a plan begin at this byte of the plan. */
-enum { BODDURCI_CHANGES_AT = 28 };
+enum { BODDURCI_COUNT_AT = 24, BODDURCI_CHANGES_AT = 28 };
 
 /* Reads the change at *at, and moves *at to the next change. Returns 0 at the end of the plan. boddurci.h has the form of a plan. */
 int boddurci_next_change(const uint8_t **at, const uint8_t *end, struct boddurci_plan_change *change);
@@ -415,6 +415,9 @@ void boddurci_lengths_of(const uint8_t *bytes, int is_after, uint64_t lengths[2]
  * `boddurci_release_room` frees the blocks past the ends of the data files, unless they are kept, and preserves errno. */
 int boddurci_take_room(struct boddurci_disk *disk, const struct boddurci_steps *steps);
 void boddurci_release_room(struct boddurci_disk *disk);
+
+/* Returns whether a plan only overwrites bytes that are not all zeros: it changes no length, and writes no hole. */
+int boddurci_needs_no_room(const struct boddurci_disk *disk, struct boddurci_bytes plan);
 
 /* ---- boddurci_log.c: the log of a base */
 
@@ -587,6 +590,7 @@ struct boddurci_group {
     int skips;                   /* the number of coming saves that do not wait for other calls, since a wait was in vain */
     int64_t begun;               /* when the present save took its calls, in nanoseconds */
     int64_t took;                /* the duration of the last save from then on; atomic */
+    int64_t limit;               /* a last save that took less was short; atomic */
 };
 
 /* Locks a mutex that is held for a few microseconds at most. Tries for a while before it sleeps, since sleeping and waking take longer than

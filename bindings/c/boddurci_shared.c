@@ -12,7 +12,7 @@
 
 enum { PAGE_FLAGS = BODDURCI_WIDE | BODDURCI_UNSIGNED_KEYS | BODDURCI_MUST_EXIST | BODDURCI_ANY_SIZE };
 enum { FLAGS = PAGE_FLAGS | BODDURCI_NO_WAIT | BODDURCI_NO_FLUSH };
-enum { PATIENCE = 5000, PLAN_ROOM = 65536 };
+enum { PATIENCE = 5000, PLAN_ROOM = BODDURCI_TAIL_MOST + 8192 };
 
 /* ---- time */
 
@@ -395,15 +395,26 @@ static uint32_t flushed(boddurci_shared *shared, uint32_t status, boddurci_fault
     return second.status;
 }
 
+/* Takes the locks, changes the page and releases the locks. */
+static uint32_t change_locked(boddurci_shared *shared, struct boddurci_command *command, int64_t end, int *is_whole, boddurci_fault *fault)
+{
+    boddurci_hold_signal(&shared->logged.disk);
+    uint32_t status = boddurci_take_call(&shared->place, 0, left_of(end), fault);
+    int is_locked = status == BODDURCI_DONE;
+    if (is_locked)
+        status = boddurci_change_page(shared, command, is_whole, fault);
+    if (is_locked)
+        boddurci_give_call(&shared->place, 0);
+    boddurci_give_signal(&shared->logged.disk);
+    return status;
+}
+
 static uint32_t change(boddurci_shared *shared, struct boddurci_command *command, int64_t end, boddurci_fault *fault)
 {
     int is_whole = 0;
     boddurci_work_ahead(shared, command);
-    uint32_t status = boddurci_take_call(&shared->place, 0, left_of(end), fault);
-    if (status != BODDURCI_DONE)
-        return status;
-    status = boddurci_change_page(shared, command, &is_whole, fault);
-    boddurci_give_call(&shared->place, 0);
+    uint32_t status = change_locked(shared, command, end, &is_whole, fault);
+    boddurci_flush_due(shared);
     return status == BODDURCI_DONE && is_whole ? call_whole(shared, command, end, fault) : flushed(shared, status, fault);
 }
 

@@ -21,11 +21,12 @@ struct boddurci_ahead {
     uint8_t plan[PLAN_MOST];
 };
 
-void boddurci_see_log(boddurci_shared *shared, const struct boddurci_log_note *note)
+void boddurci_see_log(boddurci_shared *shared)
 {
     enum { CALLS = 8 };
+    const struct boddurci_tail *tail = &shared->tail;
     const struct boddurci_logged *logged = &shared->logged;
-    int is_known = logged->epoch != 0, is_same = note->epoch == logged->epoch && note->log.end == logged->next.end;
+    int is_known = logged->epoch != 0, is_same = tail->epoch == logged->epoch && tail->end.at == logged->next.end;
     if (is_known && !is_same)
         shared->others = CALLS;
     else if (shared->others > 0)

@@ -35,23 +35,37 @@ struct boddurci_program {
     int is_stock;
 };
 
+/* An end of records of a log. */
+struct boddurci_end {
+    size_t at, count; /* the number of changes in the plans of all records before it */
+    size_t last;      /* the start of the last bytes before it */
+    uint64_t witness; /* the hash of these bytes */
+};
+
+/* The records after the end in the note have at most this many bytes. */
+enum { BODDURCI_UNNOTED_MOST = 4096 };
+
 /* The tail of a log: its records that are not applied to the data files. Their joined plan is kept between calls. */
 struct boddurci_tail {
     uint8_t *bytes;      /* NULL until there is a tail; the joined plan starts at byte BODDURCI_PLAN_AT */
     size_t length;       /* of the joined plan, or 0 */
     uint64_t plan_epoch; /* of the log of the joined plan */
-    size_t from, joined; /* the joined plan has the records between these ends */
+    size_t from;         /* the start of the records of the joined plan */
+    struct boddurci_end joined; /* their end */
+    size_t kept_from;    /* the start of those records whose bytes are in `kept` */
+    uint8_t kept[BODDURCI_UNNOTED_MOST];
     int changes_directory; /* the joined plan changes .dir */
     uint8_t changed[512];  /* a bit for each block of .pag that the joined plan changes; blocks whose numbers differ by 4,096 share a bit */
-    uint64_t epoch;      /* as the note says, like the next six fields */
-    size_t applied, end; /* the start and the end of the tail */
-    size_t last;         /* the start of the last bytes of the log */
-    uint64_t witness;    /* the hash of these bytes */
+    uint64_t epoch;      /* as the note says, like the next four fields */
+    size_t applied;      /* the start of the tail */
+    size_t noted;        /* the end in the note; records may follow it */
     uint64_t flushed;
     int is_shared;
+    struct boddurci_end end; /* the end of the tail */
     size_t room;         /* of the log when the length of the open redo file was last found to have it, or 0 */
     int is_touched;      /* this call has read a byte that the tail changes */
     int is_later;        /* a call of this handle has left a record that is flushed later than the call */
+    int is_due;          /* the tail is long, so this call flushes it after it has released the locks */
     size_t owed;         /* the end of the records that must be flushed before this call returns, or 0 */
 };
 
@@ -153,8 +167,8 @@ void boddurci_work_ahead(boddurci_shared *shared, const struct boddurci_command 
 int boddurci_take_ahead(boddurci_shared *shared, const struct boddurci_part *part, struct boddurci_command *command,
                         struct boddurci_planned *planned, uint32_t *status);
 
-/* Notes whether other processes have changed the base since the last change of this handle. The note was read under the locks. */
-void boddurci_see_log(boddurci_shared *shared, const struct boddurci_log_note *note);
+/* Notes whether other processes have changed the base since the last change of this handle. The tail was read under the locks. */
+void boddurci_see_log(boddurci_shared *shared);
 
 /* ---- boddurci_shared_tail.c: changes of a shared base that are flushed later
  *
@@ -167,7 +181,7 @@ enum { BODDURCI_TAIL_MOST = 65536, BODDURCI_BLOCK = 1024 };
 
 static inline int boddurci_has_tail(const struct boddurci_tail *tail)
 {
-    return tail->applied < tail->end;
+    return tail->applied < tail->end.at;
 }
 
 /* `boddurci_no_tail` records that the log has no note. `boddurci_read_tail` reads the tail that a note describes, and joins its plans. The
@@ -193,6 +207,10 @@ void boddurci_owe_tail(boddurci_shared *shared);
 /* Returns once the records of a log up to `end` are flushed. The caller holds no lock. Processes that call it at the same time share a
  * sync. */
 uint32_t boddurci_flush_log(boddurci_shared *shared, int redo, uint64_t epoch, size_t end, boddurci_fault *fault);
+
+/* Flushes the tail if it is due and no other process is flushing, for a call that has released the locks. So the process that applies the tail
+ * has to flush less while it holds the locks. If this fails, the next call recovers the log. */
+void boddurci_flush_due(boddurci_shared *shared);
 
 /* Flushes all records that the log has now. `boddurci_flush_owed` flushes those of shared->tail.owed, if this call has to. Both then try to
  * apply the tail. */

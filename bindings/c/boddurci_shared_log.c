@@ -17,7 +17,7 @@ enum { HEADER = BODDURCI_RECORDS_AT, WORD = 8 };
  * of the library had a note with this signature in the OLD_NOTES bytes from NOTE_AT on, and clears these bytes when it opens the log. */
 enum { SHARED_AT = 9, NOTE_AT = 16, EPOCH_AT = NOTE_AT + WORD, LOOKED = EPOCH_AT + WORD, OLD_NOTES = 160 };
 _Static_assert(BODDURCI_HEADER_USED == NOTE_AT + OLD_NOTES, "the mark, the signature and the notes");
-static const uint8_t LOG_SIGNATURE[8] = "sdbmlog1", EPOCH_SIGNATURE[8] = "sdbmnot2", NOTE_SIGNATURE[8] = "sdbmnot4";
+static const uint8_t LOG_SIGNATURE[8] = "sdbmlog1", EPOCH_SIGNATURE[8] = "sdbmnot2", NOTE_SIGNATURE[8] = "sdbmnot5";
 enum { ANY_VERSION = 7 }; /* bytes of the signature */
 
 /* The notes, as words of 8 bytes, the lowest byte first. The second note, and the epoch of a log whose flush has failed, are written without

@@ -68,6 +68,8 @@ static struct boddurci_note state_of(const struct boddurci_place *place, enum bo
     return boddurci_state_of(place->folder, place->names[file], 0, has_times);
 }
 
+static const struct timespec never = {0, 0};
+
 /* Returns whether a call has to read the times of the data files: the handle has not done so within this clock tick. After a look at the
  * times of a file, the system sets new times at the next write. Then the inodes have to be written too, and on some file systems each sync of
  * the log waits for that. */
@@ -86,7 +88,6 @@ static int needs_times(boddurci_shared *shared)
 static uint32_t find_files(boddurci_shared *shared, int has_times, boddurci_fault *fault)
 {
     enum { TRIES = 3 };
-    static const struct timespec never = {0, 0};
     uint32_t status = BODDURCI_DONE;
     shared->notes.latest = never;
     for (int tries = 0; status == BODDURCI_DONE; tries++) {
@@ -144,25 +145,25 @@ static uint32_t recover(boddurci_shared *shared, boddurci_fault *fault)
     return status == BODDURCI_DONE ? find_files(shared, 1, fault) : status;
 }
 
-/* Returns how the data files differ from the state in a note. If the log has a tail, its changes belong to exactly these files, so any
- * difference is one of other files. */
-static enum boddurci_change change_since(const struct boddurci_log_note *note, const struct boddurci_note files[2])
-{
-    enum boddurci_change change = boddurci_change_since(note, files);
-    return change != BODDURCI_SAME && note->applied != note->log.end ? BODDURCI_OTHERS : change;
-}
-
-/* Continues the log that a note describes. If the data files have not changed since, their times are those in the note. */
-static uint32_t continue_log(boddurci_shared *shared, int redo, const struct boddurci_log_note *note, int are_same, boddurci_fault *fault)
+/* Continues the log that a note describes, where `change` says how the data files differ from the state in the note. If they have not changed,
+ * their times are those in the note. If the log has a tail, its changes belong to exactly these files, so the call returns STALE if they
+ * differ. */
+static uint32_t continue_log(boddurci_shared *shared, int redo, const struct boddurci_log_note *note, enum boddurci_change change,
+                             boddurci_fault *fault)
 {
     struct boddurci_logged *logged = &shared->logged;
-    uint32_t status = boddurci_read_tail(shared, redo, note, fault);
+    const struct boddurci_tail *tail = &shared->tail;
+    uint32_t status = change != BODDURCI_OTHERS ? boddurci_read_tail(shared, redo, note, fault) : BODDURCI_STALE;
+    if (status == BODDURCI_DONE && change != BODDURCI_SAME && boddurci_has_tail(tail))
+        status = BODDURCI_STALE;
     if (status != BODDURCI_DONE)
         return status;
-    boddurci_see_log(shared, note);
-    if (are_same)
+    boddurci_see_log(shared);
+    if (change == BODDURCI_SAME)
         boddurci_take_times(note, &shared->notes);
     logged->next = note->log;
+    logged->next.end = tail->end.at;
+    logged->next.count = tail->end.count;
     logged->epoch = note->epoch;
     logged->is_open = 1;
     return status;
@@ -183,8 +184,8 @@ static uint32_t settle_log(boddurci_shared *shared, boddurci_fault *fault)
         noted = redo < 0 ? BODDURCI_UNMARKED : boddurci_read_note(redo, boddurci_notes_of(&shared->place), &shared->boot, &note);
     if (noted == BODDURCI_UNMARKED)
         return shared->notes.is_quick ? find_files(shared, 1, fault) : BODDURCI_DONE;
-    enum boddurci_change change = noted == BODDURCI_NOTED ? change_since(&note, shared->notes.files) : BODDURCI_OTHERS;
-    uint32_t status = change != BODDURCI_OTHERS ? continue_log(shared, redo, &note, change == BODDURCI_SAME, fault) : BODDURCI_STALE;
+    enum boddurci_change change = noted == BODDURCI_NOTED ? boddurci_change_since(&note, shared->notes.files) : BODDURCI_OTHERS;
+    uint32_t status = continue_log(shared, redo, &note, change, fault);
     if (status == BODDURCI_STALE) {
         boddurci_no_tail(&shared->tail);
         return recover(shared, fault);
@@ -199,12 +200,12 @@ static uint32_t settle_log(boddurci_shared *shared, boddurci_fault *fault)
 static int are_others(boddurci_shared *shared, const struct boddurci_log_note *note)
 {
     struct boddurci_note files[2];
-    if (note->applied == note->log.end)
+    if (!boddurci_has_tail(&shared->tail))
         return boddurci_change_since(note, shared->notes.files) == BODDURCI_OTHERS;
     int has_times = needs_times(shared);
     for (enum boddurci_file file = BODDURCI_PAGES; file <= BODDURCI_DIRECTORY; file++)
         files[file] = state_of(&shared->place, file, has_times);
-    return change_since(note, files) != BODDURCI_SAME;
+    return boddurci_change_since(note, files) != BODDURCI_SAME;
 }
 
 /* Reads the tail of the log for a fetch. Sets *must_recover to 1 if the log must be recovered first. */
@@ -220,8 +221,13 @@ static uint32_t look_at_log(boddurci_shared *shared, int *must_recover, boddurci
     enum boddurci_noted noted = boddurci_read_note(redo, boddurci_notes_of(place), &shared->boot, &note);
     *must_recover = noted == BODDURCI_UNKNOWN && !boddurci_has_writer(place);
     if (noted == BODDURCI_NOTED)
-        status = are_others(shared, &note) ? BODDURCI_STALE : boddurci_read_tail(shared, redo, &note, fault);
+        status = boddurci_read_tail(shared, redo, &note, fault);
+    if (noted == BODDURCI_NOTED && status == BODDURCI_DONE && are_others(shared, &note))
+        status = BODDURCI_STALE;
     *must_recover = *must_recover || status == BODDURCI_STALE;
+    /* The call that recovers has to read the times again, even within this tick. */
+    if (*must_recover)
+        shared->notes.tick = never;
     return *must_recover ? BODDURCI_DONE : status;
 }
 
@@ -284,7 +290,6 @@ uint32_t boddurci_change_page(boddurci_shared *shared, struct boddurci_command *
     shared->tail.owed = 0;
     shared->tail.is_touched = 0;
     boddurci_no_tail(&shared->tail);
-    boddurci_hold_signal(&shared->logged.disk);
     uint32_t status = find_files(shared, needs_times(shared), fault);
     if (status == BODDURCI_DONE)
         status = settle_log(shared, fault);
@@ -299,7 +304,6 @@ uint32_t boddurci_change_page(boddurci_shared *shared, struct boddurci_command *
     if (!*is_whole)
         boddurci_owe_tail(shared);
     remove_unlike(shared);
-    boddurci_give_signal(&shared->logged.disk);
     return status;
 }
 
@@ -349,7 +353,7 @@ void boddurci_read_ahead(boddurci_shared *shared)
 
 static int is_flushed_tail(const struct boddurci_log_note *note)
 {
-    return note->applied < note->log.end && note->flushed == note->log.end;
+    return note->applied < note->flushed && note->flushed >= note->log.end;
 }
 
 /* Applies the tail of the log, under both locks. */
@@ -365,7 +369,10 @@ static void apply_flushed(boddurci_shared *shared)
     int lock = boddurci_notes_of(&shared->place);
     if (boddurci_read_note(redo, lock, &shared->boot, &note) != BODDURCI_NOTED || !is_flushed_tail(&note))
         return;
-    if (change_since(&note, shared->notes.files) == BODDURCI_SAME && continue_log(shared, redo, &note, 1, &unsaid) == BODDURCI_DONE)
+    enum boddurci_change change = boddurci_change_since(&note, shared->notes.files);
+    if (change != BODDURCI_SAME || continue_log(shared, redo, &note, change, &unsaid) != BODDURCI_DONE)
+        return;
+    if (shared->tail.flushed >= shared->tail.end.at)
         (void)!boddurci_apply_tail(shared, &unsaid);
 }
 

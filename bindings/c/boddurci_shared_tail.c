@@ -14,12 +14,18 @@
 /* A record is this much longer than its plan. */
 enum { HEAD = 8 };
 
+/* If a change with NO_FLUSH leaves a tail of DUE bytes, its process flushes the tail after it has released the locks. Once FLUSHED_LEAST bytes
+ * of the tail are flushed, the next change with NO_FLUSH applies it. */
+enum { DUE = BODDURCI_TAIL_MOST / 4 * 3, FLUSHED_LEAST = BODDURCI_TAIL_MOST / 2 };
+
 /* ---- the joined plan */
 
 void boddurci_no_tail(struct boddurci_tail *tail)
 {
+    static const struct boddurci_end start;
     tail->epoch = tail->flushed = 0;
-    tail->applied = tail->end = 0;
+    tail->applied = tail->noted = 0;
+    tail->end = start;
     tail->is_shared = 0;
 }
 
@@ -28,7 +34,7 @@ static void begin_plan(struct boddurci_tail *tail)
 {
     tail->length = 0;
     tail->plan_epoch = tail->epoch;
-    tail->from = tail->joined = tail->applied;
+    tail->from = tail->joined.at = tail->applied;
     tail->changes_directory = 0;
     memset(tail->changed, 0, sizeof tail->changed);
 }
@@ -58,66 +64,121 @@ static int may_change(const struct boddurci_tail *tail, enum boddurci_file file,
     return 0;
 }
 
-/* Joins the plans of records, which begin where the joined plan ends. */
-static uint32_t join(boddurci_shared *shared, const uint8_t *records, size_t length)
+/* Joins the plan of the first of some records to the joined plan. */
+static uint32_t join_next(struct boddurci_tail *tail, const uint8_t *records, size_t length)
 {
     size_t used = 0;
-    struct boddurci_tail *tail = &shared->tail;
-    for (size_t at = 0; at < length; at += used) {
-        uint8_t *plan = tail->bytes + BODDURCI_PLAN_AT;
-        if (boddurci_log_join(plan, BODDURCI_TAIL_MOST, &tail->length, records + at, length - at, &used) != BODDURCI_DONE) {
-            begin_plan(tail);
-            return BODDURCI_STALE;
-        }
-        note_changes(tail, records + at + HEAD, used - HEAD);
-    }
-    tail->joined = tail->end;
-    return BODDURCI_DONE;
+    if (tail->bytes == NULL && (tail->bytes = malloc(BODDURCI_PLAN_AT + BODDURCI_TAIL_MOST)) == NULL)
+        return BODDURCI_NO_MEMORY;
+    uint32_t status = boddurci_log_join(tail->bytes + BODDURCI_PLAN_AT, BODDURCI_TAIL_MOST, &tail->length, records, length, &used);
+    if (status != BODDURCI_DONE)
+        return status;
+    note_changes(tail, records + HEAD, used - HEAD);
+    tail->joined.at += used;
+    tail->joined.count += (size_t)boddurci_number_at(records + HEAD + BODDURCI_COUNT_AT);
+    tail->joined.last = tail->joined.at - (used < BODDURCI_WITNESS_MOST ? used : BODDURCI_WITNESS_MOST);
+    tail->joined.witness = boddurci_witness_of(records + (used - (tail->joined.at - tail->joined.last)), tail->joined.at - tail->joined.last);
+    return status;
 }
 
-/* Begins a new joined plan if the present one is not of this tail. */
-static uint32_t prepare_plan(struct boddurci_tail *tail, boddurci_fault *fault)
+/* A piece of a log that was read: its start and its bytes, which are followed by BODDURCI_NEXT more. */
+struct piece {
+    const uint8_t *bytes;
+    size_t start, length;
+};
+
+/* Joins the plans of the records in a piece of the log, up to the end `known`, and those of all whole records after it. Only zeros may follow
+ * these, or if this process holds no lock, a record that is being written. Only a shared log may have records after `known`: the last record
+ * of another log may not be flushed, and nothing says that it is a tail. */
+static uint32_t join(struct boddurci_tail *tail, struct piece piece, const struct boddurci_end *known, int is_locked)
 {
-    if (tail->end - tail->applied > BODDURCI_TAIL_MOST)
-        return BODDURCI_STALE;
-    if (boddurci_has_tail(tail) && tail->bytes == NULL && (tail->bytes = malloc(BODDURCI_PLAN_AT + BODDURCI_TAIL_MOST)) == NULL)
-        return boddurci_no_memory(fault);
-    if (tail->length == 0 || tail->plan_epoch != tail->epoch || tail->from != tail->applied || tail->joined > tail->end)
+    const size_t stop = piece.start + piece.length;
+    if (tail->joined.at <= known->at)
+        tail->joined.count = known->count;
+    for (;;) {
+        size_t at = tail->joined.at, before = tail->joined.count;
+        int is_known = at < known->at;
+        const uint8_t *records = piece.bytes + (at - piece.start);
+        if (!is_known && boddurci_is_zero(records, BODDURCI_NEXT))
+            return BODDURCI_DONE;
+        uint32_t status = is_known || tail->is_shared ? join_next(tail, records, (is_known ? known->at : stop) - at) : BODDURCI_STALE;
+        if (is_known)
+            tail->joined.count = before;
+        if (status == BODDURCI_DONE)
+            continue;
+        if (status == BODDURCI_BAD_FILES && !is_known && !is_locked)
+            return BODDURCI_DONE;
         begin_plan(tail);
-    return BODDURCI_DONE;
+        return status == BODDURCI_NO_MEMORY ? status : BODDURCI_STALE;
+    }
 }
 
-/* Returns whether the records of the tail end as the note says. A later record may follow them if this process holds no lock. */
-static int is_end(const struct boddurci_tail *tail, const uint8_t *last, int is_locked)
+/* Returns whether a piece of a log has the last bytes before an end. */
+static int has_end(struct piece piece, const struct boddurci_end *end)
 {
-    size_t length = tail->end - tail->last;
-    return is_locked ? boddurci_is_end(last, length, tail->witness) : boddurci_witness_of(last, length) == tail->witness;
+    return boddurci_witness_of(piece.bytes + (end->last - piece.start), end->at - end->last) == end->witness;
 }
 
-/* Joins the plans of all records of the tail, and checks that the records end as the note says. Reads the records that are not in the joined
- * plan yet, and the last bytes of the log. The bytes of shared->plan are lost. */
+/* Returns whether a piece of a log has the records of the joined plan after an end. */
+static int has_kept_records(const struct boddurci_tail *tail, struct piece piece, const struct boddurci_end *end)
+{
+    if (tail->joined.at <= end->at)
+        return 1;
+    return memcmp(piece.bytes + (end->at - piece.start), tail->kept + (end->at - tail->kept_from), tail->joined.at - end->at) == 0;
+}
+
+/* Keeps the records of the joined plan after an end. A note describes the records before its end, but nothing describes those after it. */
+static void keep_records(struct boddurci_tail *tail, struct piece piece, const struct boddurci_end *end)
+{
+    tail->kept_from = end->at;
+    if (tail->joined.at > end->at)
+        memcpy(tail->kept, piece.bytes + (end->at - piece.start), tail->joined.at - end->at);
+}
+
+/* Begins a new joined plan if the present one is not of this tail, or if its records after the end `known` are not kept. */
+static void prepare_plan(struct boddurci_tail *tail, const struct boddurci_end *known)
+{
+    int is_of_tail = tail->length != 0 && tail->plan_epoch == tail->epoch && tail->from == tail->applied;
+    int is_beyond = tail->joined.at > known->at, is_kept = tail->kept_from <= known->at && tail->joined.at <= known->at + BODDURCI_UNNOTED_MOST;
+    if (!is_of_tail || (is_beyond && !is_kept))
+        begin_plan(tail);
+}
+
+/* Joins the plans of all records of the tail, whose end is known from the note or from this call, and sets its end. Reads the records that are
+ * not in the joined plan yet, and checks that the log has the last bytes before the known end, and the records of the joined plan after it.
+ * The bytes of shared->plan are lost. */
 static uint32_t join_tail(boddurci_shared *shared, int redo, int is_locked, boddurci_fault *fault)
 {
     struct boddurci_tail *tail = &shared->tail;
-    uint32_t status = prepare_plan(tail, fault);
-    if (status != BODDURCI_DONE)
-        return status;
-    size_t start = tail->joined < tail->last ? tail->joined : tail->last, length = tail->end - start;
-    if (boddurci_read_at(redo, BODDURCI_RECORDS_AT + start, shared->plan, length + BODDURCI_NEXT) != 0)
-        return boddurci_fail_by_system(fault, "BASE.redo cannot be read");
-    if (!is_end(tail, shared->plan + (tail->last - start), is_locked))
+    const struct boddurci_end known = tail->end;
+    if (known.at - tail->applied > BODDURCI_TAIL_MOST)
         return BODDURCI_STALE;
-    return join(shared, shared->plan + (tail->joined - start), tail->end - tail->joined);
+    prepare_plan(tail, &known);
+    struct piece piece = {shared->plan, tail->joined.at < known.last ? tail->joined.at : known.last, 0};
+    piece.length = known.at + BODDURCI_UNNOTED_MOST - piece.start;
+    if (boddurci_read_at(redo, BODDURCI_RECORDS_AT + piece.start, shared->plan, piece.length + BODDURCI_NEXT) != 0)
+        return boddurci_fail_by_system(fault, "BASE.redo cannot be read");
+    if (!has_end(piece, &known) || !has_kept_records(tail, piece, &known))
+        return BODDURCI_STALE;
+    uint32_t status = join(tail, piece, &known, is_locked);
+    if (status != BODDURCI_DONE)
+        return status == BODDURCI_NO_MEMORY ? boddurci_no_memory(fault) : status;
+    keep_records(tail, piece, &known);
+    if (tail->joined.at == known.at)
+        tail->joined = known;
+    tail->end = tail->joined;
+    /* The flushed records are no longer there: a copy of the log was put back. */
+    return is_locked && tail->flushed > tail->end.at ? BODDURCI_STALE : status;
 }
 
 static uint32_t read_tail(boddurci_shared *shared, int redo, const struct boddurci_log_note *note, int is_locked, boddurci_fault *fault)
 {
     struct boddurci_tail *tail = &shared->tail;
+    const struct boddurci_end end = {note->log.end, note->log.count, note->last, note->witness};
     tail->epoch = note->epoch;
     tail->applied = note->applied;
-    tail->end = note->log.end;
-    tail->last = note->last;
-    tail->witness = note->witness;
+    tail->noted = note->log.end;
+    tail->end = end;
     tail->flushed = note->flushed;
     tail->is_shared = note->is_shared;
     if (tail->room != note->log.room && !boddurci_has_room(redo, note))
@@ -132,7 +193,7 @@ uint32_t boddurci_read_tail(boddurci_shared *shared, int redo, const struct bodd
 }
 
 /* The joined plan stays valid for later calls if the log has its epoch then. An epoch is cleared before its log is emptied, and never comes
- * back, so the log was not emptied between this note and that call, and the records before the end in the note have not changed. */
+ * back, so the log was not emptied between this note and that call, and its records up to the end have not changed. */
 uint32_t boddurci_glance_at_tail(boddurci_shared *shared, int redo, const struct boddurci_log_note *note)
 {
     boddurci_fault unsaid;
@@ -172,14 +233,14 @@ static void note_written(boddurci_shared *shared)
     }
 }
 
-/* Notes the last bytes of the log, which are those of the record of this plan. */
+/* Notes the end of the log, which is that of the record of this plan. */
 static void note_record(boddurci_shared *shared, struct boddurci_bytes plan)
 {
-    struct boddurci_tail *tail = &shared->tail;
+    const boddurci_log *next = &shared->logged.next;
     size_t record = plan.length - BODDURCI_PLAN_AT + HEAD, length = record < BODDURCI_WITNESS_MOST ? record : BODDURCI_WITNESS_MOST;
-    size_t end = shared->logged.next.end;
-    tail->last = end > length ? end - length : 0;
-    tail->witness = boddurci_witness_of(plan.at + (plan.length - length), length);
+    struct boddurci_end end = {next->end, next->count, next->end > length ? next->end - length : 0,
+                               boddurci_witness_of(plan.at + (plan.length - length), length)};
+    shared->tail.end = end;
 }
 
 /* Writes a note, and makes it valid if it is the first of its log. The epoch is written last. */
@@ -196,6 +257,17 @@ static int put_note(boddurci_shared *shared, const struct boddurci_log_note *not
     return status;
 }
 
+/* Returns whether the next call finds the record of this call without a new note, since it reads the records after the end in the note. A call
+ * that is flushed leaves a note, so that the flush of another process covers its record. */
+static int needs_no_note(const boddurci_shared *shared)
+{
+    const struct boddurci_tail *tail = &shared->tail;
+    const struct boddurci_logged *logged = &shared->logged;
+    int is_of_log = logged->epoch != 0 && logged->epoch == tail->epoch && !shared->notes.is_overtaken;
+    int is_unflushed = (shared->flags & BODDURCI_NO_FLUSH) && !logged->disk.has_reserved;
+    return is_of_log && is_unflushed && logged->next.end - tail->noted <= BODDURCI_UNNOTED_MOST;
+}
+
 /* Leaves a note for the next call, with the noted state of the data files. Closes the log instead in three cases: if another program has
  * written during this call, since the records may not belong to these files; if the boot id is unknown, since a note is valid for one boot
  * only; or if the note cannot be written. If this fails too, the next call recovers the files. Returns -1 if the note cannot be written and
@@ -205,7 +277,7 @@ static int leave_note(boddurci_shared *shared)
     boddurci_fault unsaid;
     struct boddurci_logged *logged = &shared->logged;
     struct boddurci_tail *tail = &shared->tail;
-    struct boddurci_log_note note = {.log = logged->next, .applied = tail->applied, .last = tail->last, .witness = tail->witness};
+    struct boddurci_log_note note = {.log = logged->next, .applied = tail->applied, .last = tail->end.last, .witness = tail->end.witness};
     boddurci_settle_locks(&shared->place);
     if (!boddurci_logged_is_marked(logged))
         return 0;
@@ -213,9 +285,11 @@ static int leave_note(boddurci_shared *shared)
     if (is_valid && is_new)
         logged->epoch = boddurci_new_epoch();
     note.epoch = tail->epoch = logged->epoch;
-    tail->end = logged->next.end;
-    if (is_valid && put_note(shared, &note, is_new) == 0)
+    tail->end.at = logged->next.end;
+    if (is_valid && put_note(shared, &note, is_new) == 0) {
+        tail->noted = note.log.end;
         return 0;
+    }
     if (is_valid && boddurci_has_tail(tail))
         return -1;
     (void)!boddurci_logged_renew(logged, &unsaid);
@@ -229,18 +303,18 @@ uint32_t boddurci_apply_tail(boddurci_shared *shared, boddurci_fault *fault)
     if (!boddurci_has_tail(tail))
         return BODDURCI_DONE;
     /* If this call has a plan in shared->plan, boddurci_read_tail has joined all records. */
-    uint32_t status = tail->joined < tail->end ? join_tail(shared, logged->disk.files[BODDURCI_REDO], 1, fault) : BODDURCI_DONE;
+    uint32_t status = tail->joined.at < tail->end.at ? join_tail(shared, logged->disk.files[BODDURCI_REDO], 1, fault) : BODDURCI_DONE;
     if (status == BODDURCI_STALE)
         return boddurci_fail(fault, BODDURCI_BAD_REDO, 0, boddurci_files_text(BODDURCI_BAD_REDO));
     shared->notes.is_overtaken = 0;
-    if (status == BODDURCI_DONE && tail->flushed < tail->end)
+    if (status == BODDURCI_DONE && tail->flushed < tail->end.at)
         status = boddurci_logged_flush(logged, fault);
     struct boddurci_bytes plan = {tail->bytes, BODDURCI_PLAN_AT + tail->length, 0};
     if (status == BODDURCI_DONE)
         status = boddurci_logged_apply(logged, plan, fault);
     if (status != BODDURCI_DONE)
         return status;
-    tail->applied = tail->flushed = tail->end;
+    tail->applied = tail->flushed = tail->end.at;
     tail->owed = tail->length = 0;
     note_written(shared);
     (void)!leave_note(shared);
@@ -264,6 +338,15 @@ static int accepts_unflushed(const boddurci_shared *shared)
     return shared->tail.is_shared && boddurci_logged_is_marked(&shared->logged);
 }
 
+/* Returns whether to apply the tail before a record is appended: there is no room for the record, or most of the tail is flushed. A base without
+ * NO_FLUSH leaves the latter to the next flush. */
+static int has_to_apply(const struct boddurci_shared *shared, size_t record)
+{
+    const struct boddurci_tail *tail = &shared->tail;
+    int is_flushed = (shared->flags & BODDURCI_NO_FLUSH) && tail->flushed >= tail->applied + FLUSHED_LEAST;
+    return is_flushed || tail->end.at - tail->applied + record > BODDURCI_TAIL_MOST;
+}
+
 /* Appends the record of a plan without a sync. Sets *is_appended to 0 if the plan must be saved in the usual way. */
 static uint32_t append(boddurci_shared *shared, struct boddurci_bytes plan, int *is_appended, boddurci_fault *fault)
 {
@@ -276,7 +359,7 @@ static uint32_t append(boddurci_shared *shared, struct boddurci_bytes plan, int 
         return status;
     if (!accepts_unflushed(shared))
         return boddurci_logged_share(logged, fault);
-    if (tail->end - tail->applied + record > BODDURCI_TAIL_MOST)
+    if (has_to_apply(shared, record))
         status = boddurci_apply_tail(shared, fault);
     if (status != BODDURCI_DONE || !accepts_unflushed(shared))
         return status;
@@ -287,13 +370,16 @@ static uint32_t append(boddurci_shared *shared, struct boddurci_bytes plan, int 
         note_written(shared);
     if (*is_appended)
         note_record(shared, plan);
-    /* Without a note the next flush would not find the record, so it is flushed at once. */
-    int is_noted = (*is_appended || status != BODDURCI_DONE) ? leave_note(shared) == 0 : 1;
+    /* If a note is needed and cannot be written, the record is flushed and applied at once. */
+    boddurci_settle_locks(&shared->place);
+    int has_to_note = status != BODDURCI_DONE || (*is_appended && !needs_no_note(shared));
+    int is_noted = has_to_note ? leave_note(shared) == 0 : 1;
     if (!is_noted)
         return status == BODDURCI_DONE ? boddurci_apply_tail(shared, fault) : status;
     tail->is_later = tail->is_later || (*is_appended && (shared->flags & BODDURCI_NO_FLUSH));
+    tail->is_due = *is_appended && (shared->flags & BODDURCI_NO_FLUSH) && tail->end.at - tail->applied >= DUE;
     if (*is_appended && !(shared->flags & BODDURCI_NO_FLUSH))
-        tail->owed = tail->end;
+        tail->owed = tail->end.at;
     return status;
 }
 
@@ -306,7 +392,7 @@ static uint32_t save(boddurci_shared *shared, struct boddurci_bytes plan, boddur
         return status;
     shared->notes.is_overtaken = 0;
     status = boddurci_logged_save(&shared->logged, plan, &is_left, fault);
-    shared->tail.applied = shared->tail.end = shared->logged.next.end;
+    shared->tail.applied = shared->tail.end.at = shared->logged.next.end;
     if (status == BODDURCI_DONE && !is_left) {
         note_written(shared);
         note_record(shared, plan);
@@ -327,12 +413,15 @@ uint32_t boddurci_save_or_append(boddurci_shared *shared, size_t length, boddurc
 
 /* ---- flushing */
 
+/* An end that no log has. */
+static const size_t ALL_RECORDS = SIZE_MAX;
+
 void boddurci_owe_tail(boddurci_shared *shared)
 {
     struct boddurci_tail *tail = &shared->tail;
-    int depends = tail->is_touched && boddurci_has_tail(tail) && tail->flushed < tail->end;
+    int depends = tail->is_touched && boddurci_has_tail(tail) && tail->flushed < tail->end.at;
     if (depends && tail->owed == 0 && !(shared->flags & BODDURCI_NO_FLUSH))
-        tail->owed = tail->end;
+        tail->owed = tail->end.at;
 }
 
 /* Writes how a flush of a log up to `end` has ended. A lock may be open for reading only, so the file is opened again if necessary. Preserves
@@ -362,7 +451,8 @@ static int is_flushed(const boddurci_shared *shared, int redo, uint64_t epoch, s
     return *noted == BODDURCI_NOTED && note->epoch == epoch && !note->has_failed && note->flushed >= end;
 }
 
-/* Flushes a log up to `end`, unless that is done, for a process that holds the lock of the redo file or has waited long for it. If the log was
+/* Flushes a log up to `end` or further, unless that is done, for a process that holds the lock of the redo file or has waited long for it. If
+ * the end is unknown (ALL_RECORDS), it flushes in any case, but counts only the records that the note describes. If the log was
  * emptied or recovered meanwhile, all its former records are durable, unless a flush has failed, which this flush reports too. After a failed
  * flush the next call recovers the log, since a further flush might succeed without writing the lost bytes. */
 static int flush_alone(boddurci_shared *shared, int redo, uint64_t epoch, size_t end)
@@ -378,7 +468,7 @@ static int flush_alone(boddurci_shared *shared, int redo, uint64_t epoch, size_t
     }
     int status = boddurci_keep_opened(redo);
     if (is_own)
-        put_outcome(shared, epoch, note.log.end, status != 0);
+        put_outcome(shared, epoch, end == ALL_RECORDS || note.log.end > end ? note.log.end : end, status != 0);
     return status;
 }
 
@@ -417,6 +507,17 @@ uint32_t boddurci_flush_log(boddurci_shared *shared, int redo, uint64_t epoch, s
     return status == 0 ? boddurci_no_fault(fault) : boddurci_fail_by_system(fault, "BASE.redo cannot be written");
 }
 
+void boddurci_flush_due(boddurci_shared *shared)
+{
+    struct boddurci_tail *tail = &shared->tail;
+    int redo = shared->logged.disk.files[BODDURCI_REDO], is_due = tail->is_due && redo >= 0;
+    tail->is_due = 0;
+    if (!is_due || flock(redo, LOCK_EX | LOCK_NB) != 0)
+        return;
+    (void)!flush_alone(shared, redo, tail->epoch, tail->end.at);
+    flock(redo, LOCK_UN);
+}
+
 uint32_t boddurci_flush_all(boddurci_shared *shared, boddurci_fault *fault)
 {
     int redo;
@@ -425,8 +526,9 @@ uint32_t boddurci_flush_all(boddurci_shared *shared, boddurci_fault *fault)
     enum boddurci_noted noted = BODDURCI_UNMARKED;
     if (status == BODDURCI_DONE && redo >= 0)
         noted = boddurci_look_at_note(redo, boddurci_open_notes(&shared->place), &shared->boot, &note);
+    int is_read = noted == BODDURCI_NOTED && boddurci_glance_at_tail(shared, redo, &note) == BODDURCI_DONE;
     if (noted == BODDURCI_NOTED)
-        status = boddurci_flush_log(shared, redo, note.epoch, note.log.end, fault);
+        status = boddurci_flush_log(shared, redo, note.epoch, is_read ? shared->tail.end.at : ALL_RECORDS, fault);
     else if (noted == BODDURCI_UNKNOWN && boddurci_keep_opened(redo) != 0)
         status = boddurci_fail_by_system(fault, "BASE.redo cannot be written");
     if (status == BODDURCI_DONE)

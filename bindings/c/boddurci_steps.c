@@ -190,6 +190,22 @@ void boddurci_lengths_of(const uint8_t *bytes, int is_after, uint64_t lengths[2]
     lengths[BODDURCI_DIRECTORY] = boddurci_number_at(at + 4);
 }
 
+int boddurci_needs_no_room(const struct boddurci_disk *disk, struct boddurci_bytes bytes)
+{
+    uint64_t before[2], after[2];
+    struct boddurci_plan_change change;
+    const uint8_t *at = bytes.at + BODDURCI_PLAN_AT + BODDURCI_CHANGES_AT, *end = bytes.at + bytes.length;
+    boddurci_lengths_of(bytes.at, 0, before);
+    boddurci_lengths_of(bytes.at, 1, after);
+    for (enum boddurci_file file = BODDURCI_PAGES; file <= BODDURCI_DIRECTORY; file++)
+        if (disk->files[file] < 0 || before[file] != after[file] || after[file] > disk->most || after[file] > boddurci_most_bytes(file))
+            return 0;
+    while (boddurci_next_change(&at, end, &change))
+        if (boddurci_is_zero(at - change.length, change.length))
+            return 0;
+    return 1;
+}
+
 /* An open data file has the length in the plan, since the save has checked its length. A closed data file is opened to get its length. */
 int boddurci_take_room(struct boddurci_disk *disk, const struct boddurci_steps *steps)
 {

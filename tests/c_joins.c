@@ -64,7 +64,7 @@ static void test_joining(void)
     EXPECT(flushes == before && one.done == 0 && late.done == 0);
     stops_reads = 0;
     AWAIT(is_write_stopped);
-    for (int i = 0; i < 100 && late.done == 0; i++)
+    for (int i = 0; i < 5000 && late.done == 0; i++)
         rest();
     EXPECT(one.done == 0 && late.done == 1);
     stops_writes = 0;

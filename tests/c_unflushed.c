@@ -71,6 +71,14 @@ int fdatasync(int file)
     return -1;
 }
 
+static unsigned long reserves;
+
+int fallocate(int file, int how, off_t at, off_t length)
+{
+    reserves++;
+    return (int)syscall(SYS_fallocate, file, how, at, length);
+}
+
 /* ---- calls */
 
 static boddurci_shared *opened(const char *name, uint32_t flags)
@@ -465,6 +473,41 @@ static void test_unnoted_blocks(void)
         EXPECT(nanosleep(&(struct timespec){0, 6000000}, NULL) == 0);
         EXPECT(stores(later, (sprintf(key, "key%d", i), key), value) && epoch_of_log("blocks") == epoch);
     }
+    boddurci_close_shared(later);
+}
+
+static off_t length_of_pages(const char *base)
+{
+    int pages = open_file(base, ".pag");
+    off_t length = lseek(pages, 0, SEEK_END);
+    close(pages);
+    return length;
+}
+
+/* A change that writes a page of zeros, which may be a hole, allocates its blocks before its record is appended. A change that only overwrites
+ * other bytes allocates nothing. */
+static void test_holes(void)
+{
+    char key[20], value[901];
+    unsigned long holes = 0;
+    memset(value, 'v', 900);
+    value[900] = 0;
+    boddurci_shared *later = opened("holes", BODDURCI_NO_FLUSH);
+    for (int i = 0; i < 30; i++)
+        EXPECT(stores(later, (sprintf(key, "key%d", i), key), value));
+    EXPECT(flushes(later));
+    for (int i = 0; i < 30; i++) {
+        sprintf(key, "key%d", i);
+        value[0]++;
+        unsigned long before = reserves;
+        EXPECT(stores(later, key, value) && stores(later, key, value) && reserves == before && flushes(later));
+        EXPECT(boddurci_shared_delete(later, (const uint8_t *)key, strlen(key), &fault) == BODDURCI_DONE && flushes(later));
+        off_t length = length_of_pages("holes");
+        before = reserves;
+        EXPECT(stores(later, key, value) && stores(later, "other", "1") && flushes(later));
+        holes += length_of_pages("holes") == length && reserves != before;
+    }
+    EXPECT(holes > 5);
     boddurci_close_shared(later);
 }
 
@@ -885,6 +928,7 @@ int main(int count, char **words)
     test_lost_records();
     test_unnoted();
     test_unnoted_blocks();
+    test_holes();
     test_unnoted_and_written();
     test_unshared();
     test_failed_sync();

@@ -686,20 +686,14 @@ static int clear_mark(struct boddurci_disk *disk)
 }
 
 /* Executes a step that closes the log. The steps are the syncs of both data files, the write that clears the mark, and the sync of the redo
- * file. For the write, calls clear_mark, which also clears the epoch. If a sync fails, clears the epoch: the data files may
- * lack written bytes, so the next call has to recover them. */
+ * file. For the write, calls clear_mark, which also clears the epoch. If a step fails, the caller gives up the log: the data files may lack
+ * written bytes, so the next call has to recover them. */
 static int close_by(struct boddurci_logged *logged, const boddurci_step *step)
 {
     struct boddurci_disk *disk = &logged->disk;
     if (step->file >= 2 && step->kind != BODDURCI_SYNC)
         return clear_mark(disk);
-    if (boddurci_do_steps(disk, step, 1, (const uint8_t *)step) == 0)
-        return 0;
-    int system = errno, last = (int)disk->last;
-    (void)!clear_epoch(logged);
-    disk->last = (enum boddurci_file)last;
-    errno = system;
-    return -1;
+    return boddurci_do_steps(disk, step, 1, (const uint8_t *)step);
 }
 
 /* Executes the steps that close the log. */

@@ -677,15 +677,13 @@ enum boddurci_noted {
 };
 
 /* Reads the notes about an open redo file in an open BASE.lock, which is -1 if it is missing. Sets the note if the result is NOTED.
- * `boddurci_read_note` does not test whether the redo file has the room and the end of the note: `boddurci_has_room` and
- * `boddurci_is_end` do. The latter gets the last bytes of the records, their length without the BODDURCI_NEXT bytes
- * that follow, and their witness. `boddurci_look_at_note` is for a process that holds no lock. It makes neither test, returns NOTED even if a
- * flush has failed, and returns UNKNOWN if a process writes the note meanwhile, even if it reads again. */
+ * `boddurci_read_note` does not test whether the redo file has the room in the note (`boddurci_has_room`), and the last bytes of the records
+ * before the end in the note (`boddurci_witness_of`). `boddurci_look_at_note` is for a process that holds no lock. It makes neither test,
+ * returns NOTED even if a flush has failed, and returns UNKNOWN if a process writes the note meanwhile, even if it reads again. */
 enum { BODDURCI_RECORDS_AT = 4096, BODDURCI_NEXT = 8, BODDURCI_WITNESS_MOST = 256 };
 enum boddurci_noted boddurci_read_note(int redo, int lock, const struct boddurci_boot *boot, struct boddurci_log_note *note);
 enum boddurci_noted boddurci_look_at_note(int redo, int lock, const struct boddurci_boot *boot, struct boddurci_log_note *note);
 int boddurci_has_room(int redo, const struct boddurci_log_note *note);
-int boddurci_is_end(const uint8_t *bytes, size_t length, uint64_t witness);
 uint64_t boddurci_witness_of(const uint8_t *bytes, size_t length);
 
 /* Returns the state of the file under a name in a folder, or of an open file (with AT_EMPTY_PATH). A reader requests no times: after such a

@@ -204,7 +204,8 @@ int boddurci_has_room(int redo, const struct boddurci_log_note *note)
     return boddurci_look_at(redo, &found) == 0 && found.st_size >= HEADER && note->log.room <= (uint64_t)found.st_size - HEADER;
 }
 
-int boddurci_is_end(const uint8_t *bytes, size_t length, uint64_t witness)
+/* Returns whether the last bytes of the records have this witness, and only zeros follow them. */
+static int is_end(const uint8_t *bytes, size_t length, uint64_t witness)
 {
     return boddurci_witness_of(bytes, length) == witness && word_at(bytes + length) == 0;
 }
@@ -218,7 +219,7 @@ static enum boddurci_noted find_note(int redo, int lock, const struct boddurci_b
         return noted;
     size_t length = note->log.end - note->last;
     int is_read = boddurci_has_room(redo, note) && boddurci_read_at(redo, HEADER + note->last, bytes, length + BODDURCI_NEXT) == 0;
-    return is_read && boddurci_is_end(bytes, length, note->witness) ? BODDURCI_NOTED : BODDURCI_UNKNOWN;
+    return is_read && is_end(bytes, length, note->witness) ? BODDURCI_NOTED : BODDURCI_UNKNOWN;
 }
 
 enum boddurci_noted boddurci_look_at_note(int redo, int lock, const struct boddurci_boot *boot, struct boddurci_log_note *note)

@@ -64,6 +64,14 @@ static int may_change(const struct boddurci_tail *tail, enum boddurci_file file,
     return 0;
 }
 
+/* Returns the end at offset `at` of the log, after a record with this length whose bytes end at `stop`. */
+static struct boddurci_end end_after(size_t at, size_t count, const uint8_t *stop, size_t record)
+{
+    size_t length = record < BODDURCI_WITNESS_MOST ? record : BODDURCI_WITNESS_MOST;
+    struct boddurci_end end = {at, count, at - length, boddurci_witness_of(stop - length, length)};
+    return end;
+}
+
 /* Joins the plan of the first of some records to the joined plan. */
 static uint32_t join_next(struct boddurci_tail *tail, const uint8_t *records, size_t length)
 {
@@ -73,11 +81,9 @@ static uint32_t join_next(struct boddurci_tail *tail, const uint8_t *records, si
     uint32_t status = boddurci_log_join(tail->bytes + BODDURCI_PLAN_AT, BODDURCI_TAIL_MOST, &tail->length, records, length, &used);
     if (status != BODDURCI_DONE)
         return status;
+    size_t count = (size_t)boddurci_number_at(records + HEAD + BODDURCI_COUNT_AT);
     note_changes(tail, records + HEAD, used - HEAD);
-    tail->joined.at += used;
-    tail->joined.count += (size_t)boddurci_number_at(records + HEAD + BODDURCI_COUNT_AT);
-    tail->joined.last = tail->joined.at - (used < BODDURCI_WITNESS_MOST ? used : BODDURCI_WITNESS_MOST);
-    tail->joined.witness = boddurci_witness_of(records + (used - (tail->joined.at - tail->joined.last)), tail->joined.at - tail->joined.last);
+    tail->joined = end_after(tail->joined.at + used, tail->joined.count + count, records + used, used);
     return status;
 }
 
@@ -237,10 +243,7 @@ static void note_written(boddurci_shared *shared)
 static void note_record(boddurci_shared *shared, struct boddurci_bytes plan)
 {
     const boddurci_log *next = &shared->logged.next;
-    size_t record = plan.length - BODDURCI_PLAN_AT + HEAD, length = record < BODDURCI_WITNESS_MOST ? record : BODDURCI_WITNESS_MOST;
-    struct boddurci_end end = {next->end, next->count, next->end > length ? next->end - length : 0,
-                               boddurci_witness_of(plan.at + (plan.length - length), length)};
-    shared->tail.end = end;
+    shared->tail.end = end_after(next->end, next->count, plan.at + plan.length, plan.length - BODDURCI_PLAN_AT + HEAD);
 }
 
 /* Writes a note, and makes it valid if it is the first of its log. The epoch is written last. */

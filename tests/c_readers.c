@@ -744,7 +744,8 @@ static void loop(double length, useconds_t rest)
     printf("saves a second: %.0f without a reader; beside one of another database %.0f, and of this one %.0f and %.0f\n", alone,
            (double)saves[READS_COPY] / times[READS_COPY], (double)saves[READS] / times[READS], (double)saves[READS_WITHIN] / times[READS_WITHIN]);
     unsigned long readings = figures[READS].readings + figures[READS_WITHIN].readings;
-    EXPECT(figures[READS].slow + figures[READS_WITHIN].slow <= readings / 1000);
+    /* Two more, since a busy machine may pause any process. */
+    EXPECT(figures[READS].slow + figures[READS_WITHIN].slow <= readings / 1000 + 2);
 }
 
 int main(int argc, char **argv)

@@ -59,13 +59,24 @@ static uint32_t open_data(boddurci_shared *shared, boddurci_fault *fault)
     return status;
 }
 
-/* Returns the state of a data file: of the open file if the names are the same, otherwise of the file under the name. */
-static struct boddurci_note state_of(const struct boddurci_place *place, enum boddurci_file file, int has_times)
+/* Returns the length of a data file that is open, or -1. This takes less time than to look at its inode. */
+static off_t length_of(const boddurci_shared *shared, enum boddurci_file file)
 {
+    int written = shared->logged.disk.files[file], opened = written >= 0 ? written : shared->files[file];
+    return opened >= 0 ? lseek(opened, 0, SEEK_END) : -1;
+}
+
+/* Returns the state of a data file: of the open file if the names are the same, otherwise of the file under the name. */
+static struct boddurci_note state_of(const boddurci_shared *shared, enum boddurci_file file, int has_times)
+{
+    const struct boddurci_place *place = &shared->place;
     const struct boddurci_seen *seen = &place->seen[file];
-    if (place->all.are_same && seen->is_there)
+    if (!place->all.are_same || !seen->is_there)
+        return boddurci_state_of(place->folder, place->names[file], 0, has_times);
+    off_t length = has_times ? -1 : length_of(shared, file);
+    if (length < 0)
         return boddurci_state_of(seen->opened, "", AT_EMPTY_PATH, has_times);
-    return boddurci_state_of(place->folder, place->names[file], 0, has_times);
+    return (struct boddurci_note){.is_there = 1, .device = seen->device, .number = seen->number, .length = length};
 }
 
 static const struct timespec never = {0, 0};
@@ -92,7 +103,7 @@ static uint32_t find_files(boddurci_shared *shared, int has_times, boddurci_faul
     shared->notes.latest = never;
     for (int tries = 0; status == BODDURCI_DONE; tries++) {
         for (enum boddurci_file file = BODDURCI_PAGES; file <= BODDURCI_DIRECTORY; file++)
-            shared->notes.files[file] = state_of(&shared->place, file, has_times);
+            shared->notes.files[file] = state_of(shared, file, has_times);
         if (are_named(shared))
             break;
         status = tries < TRIES ? open_data(shared, fault) : boddurci_fail(fault, BODDURCI_MOVED, 0, "BASE.pag or BASE.dir comes and goes");
@@ -204,7 +215,7 @@ static int are_others(boddurci_shared *shared, const struct boddurci_log_note *n
         return boddurci_change_since(note, shared->notes.files) == BODDURCI_OTHERS;
     int has_times = needs_times(shared);
     for (enum boddurci_file file = BODDURCI_PAGES; file <= BODDURCI_DIRECTORY; file++)
-        files[file] = state_of(&shared->place, file, has_times);
+        files[file] = state_of(shared, file, has_times);
     return boddurci_change_since(note, files) != BODDURCI_SAME;
 }
 

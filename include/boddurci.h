@@ -332,7 +332,7 @@ uint32_t boddurci_changed(boddurci *db, uint32_t *numbers, size_t room, size_t *
  * pages may have changed, for example because another program may have written the files, pass all pages of the file and of the database.
  *
  * The plan has a change for each differing block of 1,024 bytes, first for the blocks of .dir, then for those of the pages. A change covers
- * the differing part of its block, extended to multiples of 128 bytes. The plan is empty if nothing differs. After DONE no page counts as
+ * the differing part of its block, extended to multiples of 32 bytes. The plan is empty if nothing differs. After DONE no page counts as
  * changed: if you do not carry out the plan, pass the numbers to boddurci_mark. STALE if a page that may have changed is not among the
  * numbers, or if `pages_length` is not the length of `count` pages; SHORT_ROOM; FILE_TOO_LONG also for more than 2^22 numbers; IS_CLOSED,
  * NO_MEMORY. After each of these the handle is unchanged.

@@ -88,7 +88,7 @@ static size_t plan_from(boddurci *db, struct files old, size_t page)
 
 void test_plans(uint32_t wide)
 {
-    enum { PART = 2 * 128, BLOCK = CHANGE_HEAD + 2 * 1024 };
+    enum { PART = 2 * 32, BLOCK = CHANGE_HEAD + 2 * 1024 };
     boddurci db = BODDURCI_CLOSED;
     size_t page = wide ? 8192 : 1024;
     char key[16];
@@ -104,7 +104,7 @@ void test_plans(uint32_t wide)
     EXPECT(boddurci_store(&db, BYTES("7"), BYTES("another"), 1) == BODDURCI_DONE && changed_in(&db) == 1);
     size_t one = plan_from(&db, full, page) - PLAN_HEAD;
     EXPECT(one >= CHANGE_HEAD + PART && one <= BLOCK * page / 1024 && (wide || (one - CHANGE_HEAD) % PART == 0));
-    /* A change consists of whole parts of 128 bytes, with the old and the new bytes. */
+    /* A change consists of whole parts of 32 bytes, with the old and the new bytes. */
     struct files grown = files_of(&db);
     EXPECT(boddurci_store(&db, BYTES("7"), BYTES("0ther"), 1) == BODDURCI_DONE && plan_from(&db, grown, page) > 0);
     free_files(grown);

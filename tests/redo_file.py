@@ -5,7 +5,7 @@ versions of `dbm` left such plans."""
 SIGNATURE = b"sdbmred2"
 # A plan divides both files into blocks of BLOCK bytes. The changes of the directory come first. A change begins and ends at multiples of
 # PART within its block.
-BLOCK, PART = 1024, 128
+BLOCK, PART = 1024, 32
 
 
 def number(value):

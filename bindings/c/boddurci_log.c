@@ -105,11 +105,11 @@ static uint32_t ask(const struct boddurci_bytes files[3], size_t room, boddurci_
     return boddurci_is_within_limits(steps) ? status : too_long(fault);
 }
 
-/* Gets the steps of a save. Each change of a plan has at least 128 old bytes and 128 new bytes, so the first buffer is usually long
+/* Gets the steps of a save. Each change of a plan has at least 32 old bytes and 32 new bytes, so the first buffer is usually long
  * enough. */
 static uint32_t ask_save(struct boddurci_bytes bytes, boddurci_log *log, struct boddurci_steps *steps, boddurci_fault *fault)
 {
-    size_t words = (bytes.length / 256 + 32) * WORDS, room, committed = 0;
+    size_t words = (bytes.length / 64 + 32) * WORDS, room, committed = 0;
     uint32_t status = BODDURCI_SHORT_ROOM;
     while (status == BODDURCI_SHORT_ROOM) {
         room = words;
@@ -499,7 +499,7 @@ uint32_t boddurci_logged_save(struct boddurci_logged *logged, struct boddurci_by
 /* Gets the steps that apply a plan, after `first` free steps. */
 static uint32_t ask_apply(struct boddurci_bytes bytes, size_t first, struct boddurci_steps *steps, boddurci_fault *fault)
 {
-    size_t words = (bytes.length / 256 + 32) * WORDS, room;
+    size_t words = (bytes.length / 64 + 32) * WORDS, room;
     uint32_t status = BODDURCI_SHORT_ROOM;
     while (status == BODDURCI_SHORT_ROOM) {
         room = words;

@@ -8,6 +8,7 @@ mod limit;
 mod peeking;
 mod saving;
 mod session_log;
+mod sight;
 mod states;
 mod writing;
 

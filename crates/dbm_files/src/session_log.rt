@@ -8,27 +8,32 @@ ghost use Rattle.sdbm_logged.specs.Keeping.{bytes_of};
 use crate::files::{LockedFiles, read_again};
 use crate::host::{RealFiles, forget_redo};
 use crate::saving::SaveOutcome;
+use crate::sight::{Look, Sight, knows};
 use crate::states::DataStates;
 use crate::writing::{find_redo, must_be_unwritten, save_held};
-use dbm_places::{FileBytes, FilesFault, RunPlace, SeenFiles};
+use dbm_places::{DataFiles, FileBytes, FilesFault, RunPlace, SeenFiles};
 use sdbm_files::Image;
 use sdbm_logged::{
     DataBytes, Keeper, KeptDisk, LogSave, LoggedDisk, NextSave, PLAN_LIMIT, close_kept, save_first,
     save_next,
 };
 use sdbm_saves::{
-    CallLog, FoundRead, GhostImage, ReadFiles, Recorded, Unknown, number, plan_kept, plan_nothing,
-    plan_read,
+    CallLog, Contents, FoundRead, GhostImage, ReadFiles, Recorded, Unknown, number, plan_kept,
+    plan_nothing, plan_read,
 };
 use std::alloc::Global;
 use std::fs::File;
 use std::mem;
 use std::rt::Files;
+use std::time::Clock;
 
 // If `.pag` has at most this many bytes, the session keeps the bytes of both files in memory, and its log takes one save after another.
 const MOST_KEPT: usize = 16_777_216;
 
-// The size of a session's log in bytes, enough for about a hundred small saves.
+// If both data files have more bytes than this, each save looks at them, since it takes long to compare all bytes.
+const MOST_COMPARED: usize = 1_048_576;
+
+// The size of a session's log in bytes, enough for some two thousand small saves.
 const ROOM: usize = 258_048;
 
 // The disk of a session, which holds the files open.
@@ -49,14 +54,30 @@ impl<'a, R: Files<File = File>> SessionLog<'a, R> {
     fn take(&mut self) -> Self {
         mem::replace(self, SessionLog::Closed)
     }
+
+    // Returns the bytes of both data files, if they are in memory.
+    fn kept(&self) -> Option<Contents<'_>> {
+        match self {
+            SessionLog::Kept(kept) => Some(kept.contents()),
+            _ => None,
+        }
+    }
+
+    // Returns `true` if the bytes of both data files are in memory, and can be compared with the files soon.
+    fn is_short(&self) -> bool {
+        match self.kept() {
+            Some(kept) => kept.pages.len().saturating_add(kept.directory.len()) <= MOST_COMPARED,
+            None => false,
+        }
+    }
 }
 
 /// The state of a session between two saves.
 #[derive(Drop)]
 pub struct SessionSaves<'a, R: Files<File = File>> {
     log: SessionLog<'a, R>,
-    // The state of the data files when the session last read or saved them.
-    states: DataStates,
+    // What the session saw when it last looked at its data files.
+    sight: Sight,
 }
 
 impl<'a, R: Files<File = File> + AllocGlobal> SessionSaves<'a, R> {
@@ -71,7 +92,7 @@ impl<'a, R: Files<File = File> + AllocGlobal> SessionSaves<'a, R> {
         }
         SessionSaves {
             log,
-            states: held.states,
+            sight: Sight::of(held.states),
         }
     }
 }
@@ -96,10 +117,14 @@ fn mark_log<'a, R: Files<File = File> + AllocGlobal>(
 /// closed; then the files are read again, and the database is saved in a new log. If the database is large, each save opens a new log. If
 /// the disk has no room for a log that stays open, the save uses a log for this save alone.
 ///
+/// A save within some milliseconds after a look at the files does not look again, since a system may write the inodes of the files at each
+/// sync after their times were read. It compares `.dir` and the pages that it writes with the bytes that it knows, and the next look
+/// compares all. A save without a change looks.
+///
 /// # Errors
 /// `Changed` if another program has written a data file since the session read or saved it; nothing is saved then. The errors of
 /// `save_held` and `read_again`. Earlier saves are never lost. After an error BASE.lock is still held, unless it could not be taken.
-pub fn save_session<'a, R: Files<File = File> + AllocGlobal>(
+pub fn save_session<'a, R: Files<File = File> + Clock + AllocGlobal>(
     rt: &'a R,
     place: RunPlace<'_>,
     held: &'a LockedFiles,
@@ -108,22 +133,63 @@ pub fn save_session<'a, R: Files<File = File> + AllocGlobal>(
     image: &Image<Global>,
 ) -> Result<SaveOutcome, FilesFault> {
     held.locks.enter_files()?;
-    held.place.must_be_held(rt, &held.locks, seen)?;
-    let found = DataStates::look(rt, &held.place.names);
-    if found.are_written_since(saves.states) {
-        let _ = close_log(rt.alloc(), saves.log.take());
-        return Err(FilesFault::Changed);
-    }
-    if found != saves.states || image.pag_len() > MOST_KEPT as u64 {
-        close_log(rt.alloc(), saves.log.take())?;
-    }
-    let saved = save_locked(rt, place, held, seen, &mut saves.log, image);
-    saves.states = DataStates::look(rt, &held.place.names);
+    let saved = match save_soon(rt, held, saves, image) {
+        Ok(Some(saved)) => Ok(saved),
+        Ok(None) => save_looking(rt, place, held, seen, saves, image),
+        Err(fault) => Err(fault),
+    };
     match saved {
         Ok(SaveOutcome::Whole | SaveOutcome::Unchanged) => held.locks.leave_files(),
         Ok(SaveOutcome::Pending) => held.locks.leave_unfinished(),
         Err(_) => (),
     }
+    saved
+}
+
+// Saves in the open log without a look at the files, under BASE.lock. Returns `None`, and leaves the log open, if the save has to look.
+fn save_soon<'a, R: Files<File = File> + Clock + AllocGlobal>(
+    rt: &'a R,
+    held: &'a LockedFiles,
+    saves: &mut SessionSaves<'a, R>,
+    image: &Image<Global>,
+) -> Result<Option<SaveOutcome>, FilesFault> {
+    if !saves.sight.is_recent(rt, &held.place) {
+        return Ok(None);
+    }
+    let saved = save_more(rt.alloc(), &mut saves.log, image, Some(held.place.data()))?;
+    match saved {
+        Some(SaveOutcome::Whole) => saves.sight.note_save(true),
+        Some(_) => saves.sight.note_save(false),
+        None => (),
+    }
+    Ok(saved)
+}
+
+// Looks at the files, and saves, under BASE.lock.
+fn save_looking<'a, R: Files<File = File> + Clock + AllocGlobal>(
+    rt: &'a R,
+    place: RunPlace<'_>,
+    held: &'a LockedFiles,
+    seen: &SeenFiles,
+    saves: &mut SessionSaves<'a, R>,
+    image: &Image<Global>,
+) -> Result<SaveOutcome, FilesFault> {
+    let look = Look::begin(rt, &held.place);
+    held.place.must_be_held(rt, &held.locks, seen)?;
+    let found = DataStates::look(rt, &held.place.names);
+    if saves
+        .sight
+        .is_stale(held.place.data(), found, saves.log.kept())?
+    {
+        let _ = close_log(rt.alloc(), saves.log.take());
+        return Err(FilesFault::Changed);
+    }
+    if saves.sight.is_other(found) || image.pag_len() > MOST_KEPT as u64 {
+        close_log(rt.alloc(), saves.log.take())?;
+    }
+    let saved = save_locked(rt, place, held, seen, &mut saves.log, image);
+    let look = if saves.log.is_short() { look } else { None };
+    saves.sight.renew(rt, &held.place, seen, look);
     saved
 }
 
@@ -136,14 +202,10 @@ fn save_locked<'a, R: Files<File = File> + AllocGlobal>(
     log: &mut SessionLog<'a, R>,
     image: &Image<Global>,
 ) -> Result<SaveOutcome, FilesFault> {
-    match log.take() {
-        SessionLog::Kept(kept) => {
-            if let Some(saved) = save_more(rt.alloc(), kept, image, log)? {
-                return Ok(saved);
-            }
-        }
-        other => close_log(rt.alloc(), other)?,
+    if let Some(saved) = save_more(rt.alloc(), log, image, None)? {
+        return Ok(saved);
     }
+    close_log(rt.alloc(), log.take())?;
     let read = read_again(rt, place, held, seen)?;
     match save_opening(rt, held, &read, Some(image), log) {
         Err(FilesFault::WriteFile) => save_alone(rt, place, held, seen, image),
@@ -202,19 +264,54 @@ fn save_alone<R: Files<File = File> + AllocGlobal>(
     save_held(rt, held, &read.seen, old, image)
 }
 
-// Saves in an open log, which stays open. Returns `None` if the log had to be closed instead. If the save cannot be planned, the log stays
-// open.
+// Saves in a log that stays open. Returns `None` if the log cannot take the save: it is not open for that, or it has no room; or if `files` are
+// given, and nothing has changed, or these data files have other bytes than the known ones where the save needs them. Then, and after an error
+// before the save begins, the log is unchanged.
 fn save_more<'a, R: Files<File = File>>(
+    alloc: Global,
+    log: &mut SessionLog<'a, R>,
+    image: &Image<Global>,
+    files: Option<&DataFiles>,
+) -> Result<Option<SaveOutcome>, FilesFault> {
+    match log.take() {
+        SessionLog::Kept(kept) => save_kept(alloc, kept, image, files, log),
+        other => {
+            *log = other;
+            Ok(None)
+        }
+    }
+}
+
+// Saves in an open log, like `save_more`.
+fn save_kept<'a, R: Files<File = File>>(
     alloc: Global,
     kept: KeptDisk<SessionDisk<'a, R>>,
     image: &Image<Global>,
+    files: Option<&DataFiles>,
     log: &mut SessionLog<'a, R>,
 ) -> Result<Option<SaveOutcome>, FilesFault> {
     match plan_kept(alloc, kept.contents(), image) {
-        Ok(Some(plan)) => save_planned(alloc, kept, plan.as_slice(), log),
+        Ok(Some(plan)) => {
+            let size = image.page_size();
+            let is_known = match files {
+                Some(files) => knows(files, plan.as_slice(), kept.contents(), size),
+                None => Ok(true),
+            };
+            match is_known {
+                Ok(true) => save_planned(alloc, kept, plan.as_slice(), log),
+                other => {
+                    *log = SessionLog::Kept(kept);
+                    other?;
+                    Ok(None)
+                }
+            }
+        }
         Ok(None) => {
             *log = SessionLog::Kept(kept);
-            Ok(Some(SaveOutcome::Unchanged))
+            match files {
+                Some(_) => Ok(None),
+                None => Ok(Some(SaveOutcome::Unchanged)),
+            }
         }
         Err(fault) => {
             *log = SessionLog::Kept(kept);
@@ -223,7 +320,7 @@ fn save_more<'a, R: Files<File = File>>(
     }
 }
 
-// Saves a plan in an open log, which stays open. Returns `None` if the log had to be closed instead.
+// Saves a plan in an open log, which stays open. Returns `None` if the log has no room for it; the log is unchanged then.
 fn save_planned<'a, R: Files<File = File>>(
     alloc: Global,
     kept: KeptDisk<SessionDisk<'a, R>>,
@@ -236,7 +333,7 @@ fn save_planned<'a, R: Files<File = File>>(
     let (mut disk, mut keeper) = kept.into_parts();
     match save_next(alloc, &mut disk, &mut keeper, plan)? {
         NextSave::Full => {
-            close_kept(alloc, &mut disk, keeper.log)?;
+            *log = SessionLog::Kept(KeptDisk::new(disk, keeper));
             Ok(None)
         }
         NextSave::Pending(_) => Ok(Some(SaveOutcome::Pending)),

@@ -1,23 +1,73 @@
-//! Detects changes of the data files by another program.
+//! The states of files, which show whether another program has changed them.
 
-use dbm_places::{FileId, Names};
-use std::fs;
+use dbm_places::{FileId, Names, Place};
+use std::fs::{self, Metadata};
 use std::os::unix::fs::MetadataExt;
 use std::rt::Files;
+use std::time::Duration;
 
-// The ID and the length of a file, and the times of the last changes of its bytes and of its inode.
+// Two changes within this many milliseconds may leave the same time.
+const SETTLED: u64 = 20;
+
+/// The ID and the length of a file, its rights, and the times of the last changes of its bytes and of its inode.
 #[derive(Clone, Copy, PartialEq, Eq)]
 struct FileState {
     id: FileId,
     len: u64,
+    // The permissions, the owner and the group.
+    rights: (u32, u32, u32),
     written: (i64, i64),
     changed: (i64, i64),
 }
 
 impl FileState {
+    fn of(found: &Metadata) -> FileState {
+        FileState {
+            id: FileId::of(found),
+            len: found.len(),
+            rights: (found.mode(), found.uid(), found.gid()),
+            written: (found.mtime(), found.mtime_nsec()),
+            changed: (found.ctime(), found.ctime_nsec()),
+        }
+    }
+
+    // Returns `true` if `other` is a state of the same file with the same length.
+    fn is_like(self, other: FileState) -> bool {
+        self.id == other.id && self.len == other.len
+    }
+
     // Returns `true` if `other` is the state of a different file, or if the file was written after `other`.
     fn is_written_since(self, other: FileState) -> bool {
-        self.id != other.id || self.len != other.len || self.written != other.written
+        !self.is_like(other) || self.written != other.written
+    }
+}
+
+/// The time of the last change of an inode, in seconds and nanoseconds since 1970.
+pub(crate) type Changed = (i64, i64);
+
+/// Returns the time at which a name in the folder of a database was last created, removed or changed. Returns `None` if the folder is not
+/// held open.
+pub(crate) fn names_changed(place: &Place) -> Option<Changed> {
+    let found = place.folder()?;
+    Some((found.ctime(), found.ctime_nsec()))
+}
+
+/// Returns `true` if a time shows later changes: it is finer than seconds, and more than some milliseconds before now, since two changes
+/// within a tick of the system's clock may leave the same time. `now` is counted from 1970.
+pub(crate) fn is_settled(changed: Changed, now: Duration) -> bool {
+    let (seconds, nanos) = changed;
+    let (Ok(seconds), Ok(now)) = (u64::try_from(seconds), u64::try_from(now.as_millis())) else {
+        return false;
+    };
+    nanos != 0
+        && now.saturating_sub(seconds.saturating_mul(1000)) > SETTLED.saturating_add(millis(nanos))
+}
+
+// Returns the milliseconds in some nanoseconds.
+fn millis(nanos: i64) -> u64 {
+    match u64::try_from(nanos) {
+        Ok(nanos) => nanos / 1_000_000,
+        Err(_) => 0,
     }
 }
 
@@ -39,6 +89,17 @@ impl DataStates {
     pub(crate) fn are_written_since(self, other: DataStates) -> bool {
         is_written(self.pages, other.pages) || is_written(self.directory, other.directory)
     }
+
+    /// Returns `true` if both are states of the same two files with the same lengths.
+    pub(crate) fn are_like(self, other: DataStates) -> bool {
+        is_like(self.pages, other.pages) && is_like(self.directory, other.directory)
+    }
+
+    /// Returns `true` if both files have the same rights in both states.
+    pub(crate) fn have_rights_of(self, other: DataStates) -> bool {
+        rights_of(self.pages) == rights_of(other.pages)
+            && rights_of(self.directory) == rights_of(other.directory)
+    }
 }
 
 // Returns `true` if a file was written, created or removed between two states.
@@ -50,12 +111,22 @@ fn is_written(now: Option<FileState>, before: Option<FileState>) -> bool {
     }
 }
 
+fn rights_of(state: Option<FileState>) -> Option<(u32, u32, u32)> {
+    match state {
+        Some(state) => Some(state.rights),
+        None => None,
+    }
+}
+
+// Returns `true` if both are states of one file with the same length.
+fn is_like(now: Option<FileState>, before: Option<FileState>) -> bool {
+    match (now, before) {
+        (Some(now), Some(before)) => now.is_like(before),
+        _ => false,
+    }
+}
+
 fn state_of<R: Files>(rt: &R, name: &str) -> Option<FileState> {
     let found = fs::metadata(rt, name).ok()?;
-    Some(FileState {
-        id: FileId::of(&found),
-        len: found.len(),
-        written: (found.mtime(), found.mtime_nsec()),
-        changed: (found.ctime(), found.ctime_nsec()),
-    })
+    Some(FileState::of(&found))
 }

@@ -5,12 +5,16 @@ use crate::fault::{FilesFault, MovedFile};
 use crate::links::resolve;
 use crate::lock::WriteLocks;
 use crate::names::{Names, folder_of, names_of};
+use sdbm_saves::DiskFile;
 use std::alloc::AllocError;
 use std::fs::{self, File, Metadata};
-use std::io::ErrorKind;
+use std::io::{ErrorKind, Seek, SeekFrom};
 use std::os::fd::AsRawFd;
-use std::os::unix::fs::MetadataExt;
+use std::os::unix::fs::{FileExt, MetadataExt};
 use std::rt::Files;
+
+// The number of bytes of a data file that are compared at once.
+const PIECE: usize = 4096;
 
 /// Identifies a file by its device and inode. No two files have the same ID at the same time. A removed file keeps its ID as long as it is
 /// open.
@@ -27,6 +31,11 @@ impl FileId {
             device: found.dev(),
             number: found.ino(),
         }
+    }
+
+    /// Returns the device and the number of the inode.
+    pub fn parts(self) -> (u64, u64) {
+        (self.device, self.number)
     }
 }
 
@@ -117,6 +126,47 @@ impl DataFiles {
         }
     }
 
+    /// Returns `true` if a data file is open and has these bytes at this offset.
+    ///
+    /// # Errors
+    /// `ReadFile` if the file cannot be read.
+    pub fn has(&self, part: DiskFile, at: usize, bytes: &[u8]) -> Result<bool, FilesFault> {
+        match self.opened(part) {
+            Some(file) => reads_as(file, at as u64, bytes),
+            None => Ok(false),
+        }
+    }
+
+    /// Returns `true` if both data files are open and their names lead to them without a link, which may lead into another folder.
+    pub fn are_named<R: Files>(&self, rt: &R, names: &Names) -> bool {
+        match (&self.pages, &self.directory) {
+            (Some(pages), Some(directory)) => {
+                is_named(rt, names.pages.as_str(), pages)
+                    && is_named(rt, names.directory.as_str(), directory)
+            }
+            _ => false,
+        }
+    }
+
+    /// Returns `true` if a data file is open and has this length. Does not read its times.
+    pub fn is_long(&self, part: DiskFile, len: usize) -> bool {
+        let Some(mut file) = self.opened(part) else {
+            return false;
+        };
+        match file.seek(SeekFrom::End(0)) {
+            Ok(end) => end == len as u64,
+            Err(_) => false,
+        }
+    }
+
+    fn opened(&self, part: DiskFile) -> Option<&File> {
+        match part {
+            DiskFile::Pages => self.pages.as_ref(),
+            DiskFile::Directory => self.directory.as_ref(),
+            DiskFile::Redo => None,
+        }
+    }
+
     /// Returns the IDs of these files.
     pub fn seen(&self) -> SeenFiles {
         SeenFiles {
@@ -132,6 +182,24 @@ fn open_plain<R: Files<File = File>>(rt: &R, name: &str) -> Option<File> {
         return None;
     }
     fs::open(rt, name).ok()
+}
+
+// Returns `true` if a file has these bytes at this offset.
+fn reads_as(file: &File, at: u64, bytes: &[u8]) -> Result<bool, FilesFault> {
+    let mut at = at;
+    for piece in bytes.chunks(PIECE) {
+        let mut room = [0u8; PIECE];
+        let read = &mut room[..piece.len().min(PIECE)];
+        match file.read_exact_at(read, at) {
+            Err(error) if error.kind() != ErrorKind::UnexpectedEof => {
+                return Err(FilesFault::ReadFile);
+            }
+            Ok(()) if *read == *piece => (),
+            _ => return Ok(false),
+        }
+        at = at.wrapping_add(PIECE as u64);
+    }
+    Ok(true)
 }
 
 // Returns the ID of an open file, or `None` if no file is open.
@@ -151,7 +219,7 @@ fn id_of_opened(file: &Option<File>) -> Option<FileId> {
 pub struct Place {
     pub names: Names,
     data: DataFiles,
-    _folder: Option<File>,
+    folder: Option<File>,
 }
 
 impl Place {
@@ -178,13 +246,27 @@ impl Place {
         Ok(Place {
             names: names_of(rt.alloc(), inside.as_str())?,
             data: DataFiles::none(),
-            _folder: Some(folder),
+            folder: Some(folder),
         })
     }
 
     /// Opens the data files that are not open yet. `must_be_open` checks later that these files were read.
     pub fn hold_data<R: Files<File = File>>(&mut self, rt: &R) {
         self.data.open_more(rt, &self.names);
+    }
+
+    /// Returns the metadata of the folder, whose times change if a name in it is created, removed or changed. Returns `None` if the folder
+    /// is not held open, or the system does not report it.
+    pub fn folder(&self) -> Option<Metadata> {
+        match &self.folder {
+            Some(folder) => folder.metadata().ok(),
+            None => None,
+        }
+    }
+
+    /// Borrows the data files that are held open.
+    pub fn data(&self) -> &DataFiles {
+        &self.data
     }
 
     /// Checks that the data files that were read are the open ones.
@@ -250,7 +332,7 @@ fn plain_place<R: Files + AllocGlobal>(rt: &R, base: &str) -> Result<Place, File
     Ok(Place {
         names: names_of(rt.alloc(), base)?,
         data: DataFiles::none(),
-        _folder: None,
+        folder: None,
     })
 }
 

@@ -17,7 +17,7 @@ const MOST_LOOKS: usize = 10;
 pub enum Side {
     /// The redo file, whose changes are applied to both data files.
     Redo,
-    /// A lock, which is empty.
+    /// A lock. Its bytes are only notes, without which nothing is lost.
     Lock,
 }
 

@@ -5,7 +5,7 @@ ghost use Rattle.sdbm_saves.specs.Drafts.{AreOutside};
 use crate::blocks::reads_as;
 
 // The length in bytes of a part of a block. A change consists of whole parts, so it may also contain bytes that do not differ.
-const PART: usize = 128;
+const PART: usize = 32;
 
 /// A range of bytes in a block.
 #[derive(Clone, Copy)]
@@ -49,7 +49,7 @@ fn with_part(known: &[u8], block: &[u8], span: Span, at: usize) -> Span
     requires inside { at < length block.now }
     requires short { length block.now < 2 ^ 32 }
     requires outside { AreOutside known.now block.now span.start span.end at }
-    ensures { AreOutside known.now block.now result.start result.end (at + 128) }
+    ensures { AreOutside known.now block.now result.start result.end (at + 32) }
 {
     let stop = block.len().min(at + PART);
     if reads_as(known, at, &block[at..stop]) {

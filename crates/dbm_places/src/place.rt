@@ -32,11 +32,6 @@ impl FileId {
             number: found.ino(),
         }
     }
-
-    /// Returns the device and the number of the inode.
-    pub fn parts(self) -> (u64, u64) {
-        (self.device, self.number)
-    }
 }
 
 /// The IDs of the data files that a run has read, each `None` if the file was missing.

@@ -1,8 +1,6 @@
 /* Tests calls of the library from C: every call and every status (calls), threads under a mutex (threads SECONDS), and each allocation
  * failing in turn (growths). tests/c_library builds and runs it. The last line has the number of checks. */
 #include "c_library.h"
-#include <pthread.h>
-#include <time.h>
 
 unsigned long looked;
 
@@ -13,7 +11,7 @@ void *__real_realloc(void *at, size_t size);
 void *__wrap_malloc(size_t size);
 void *__wrap_realloc(void *at, size_t size);
 
-static unsigned long growths, refused;
+unsigned long growths, refused;
 static size_t largest; /* the largest allocation since it was set to 0 */
 
 static int refuses(size_t size)
@@ -34,25 +32,14 @@ void *__wrap_realloc(void *at, size_t size)
 
 /* ---- helpers */
 
-static const char counter_text[] = "; adds 1 to a number of 8 bytes\n"
-                                   "jlt r2, 8, keep\n"
-                                   "ldxdw r6, [r1]\n"
-                                   "add r6, 1\n"
-                                   "stxdw [r1], r6\n"
-                                   "mov r0, 1\n"
-                                   "exit\n"
-                                   "keep:\n"
-                                   "mov r0, 0\n"
-                                   "exit\n";
-
-static uint8_t counter[BODDURCI_IMAGE_MOST];
-static size_t counter_length;
+uint8_t counter[BODDURCI_IMAGE_MOST];
+size_t counter_length;
 
 static void assemble_counter(void)
 {
     uint8_t text[100];
     size_t length, line;
-    EXPECT(boddurci_assemble(BYTES(counter_text), counter, sizeof counter, &counter_length, &line, text, sizeof text, &length) ==
+    EXPECT(boddurci_assemble(BYTES(COUNTER_TEXT), counter, sizeof counter, &counter_length, &line, text, sizeof text, &length) ==
            BODDURCI_DONE);
     EXPECT(counter_length == 64);
 }
@@ -89,12 +76,25 @@ void free_files(struct files files)
     free(files.pag);
 }
 
-static uint64_t number_of(const uint8_t *bytes)
+uint64_t number_of(const uint8_t *bytes)
 {
     uint64_t number = 0;
     for (int i = 7; i >= 0; i--)
         number = number << 8 | bytes[i];
     return number;
+}
+
+void submit_counter(boddurci *db)
+{
+    uint8_t text[100];
+    size_t length, unit;
+    uint32_t number;
+    EXPECT(boddurci_submit(db, counter, counter_length, &number, &unit, text, sizeof text, &length) == BODDURCI_DONE && number == 0);
+}
+
+uint32_t ask(boddurci *db, boddurci_ticket *ticket, const char *key, uint32_t has_blank)
+{
+    return boddurci_ask(db, ticket, 0, (const uint8_t *)key, strlen(key), BODDURCI_NO_BYTES, has_blank, 8, 0);
 }
 
 /* ---- every call and every status */
@@ -204,8 +204,6 @@ static void test_pairs(uint32_t wide, uint32_t unsigned_keys)
     boddurci_close(&db);
     EXPECT(!boddurci_is_open(&db));
 }
-
-static void submit_counter(boddurci *db);
 
 /* Keys of zero bytes all have the same hash, so they fill a page that no split divides. */
 static void test_crowded(void)
@@ -341,7 +339,7 @@ static void test_programs(void)
     EXPECT(line == 2 && length == 16 && !memcmp(text, "line 2: Mnemonic", 16));
     EXPECT(boddurci_assemble(BYTES("\xff"), image, sizeof image, &image_length, &line, text, sizeof text, &length) == BODDURCI_BAD_TEXT);
     EXPECT(line == 0 && length == 7 && !memcmp(text, "NotText", 7));
-    EXPECT(boddurci_assemble(BYTES(counter_text), image, 63, &image_length, &line, text, sizeof text, &length) == BODDURCI_SHORT_ROOM);
+    EXPECT(boddurci_assemble(BYTES(COUNTER_TEXT), image, 63, &image_length, &line, text, sizeof text, &length) == BODDURCI_SHORT_ROOM);
     EXPECT(image_length == 64);
 
     open_empty(&db, 0, 0);
@@ -383,143 +381,6 @@ static void test_arguments(void)
     EXPECT(end == 7 && word == 1005);
     EXPECT(boddurci_count(&db, &length) == BODDURCI_DONE && length == 0);
     boddurci_close(&db);
-}
-
-/* ---- runs by a ticket */
-
-static void submit_counter(boddurci *db)
-{
-    uint8_t text[100];
-    size_t length, unit;
-    uint32_t number;
-    EXPECT(boddurci_submit(db, counter, counter_length, &number, &unit, text, sizeof text, &length) == BODDURCI_DONE && number == 0);
-}
-
-static uint32_t ask(boddurci *db, boddurci_ticket *ticket, const char *key, uint32_t has_blank)
-{
-    return boddurci_ask(db, ticket, 0, (const uint8_t *)key, strlen(key), BODDURCI_NO_BYTES, has_blank, 8, 0);
-}
-
-static uint64_t count_at(boddurci *db, const char *key)
-{
-    uint8_t value[8];
-    size_t length;
-    EXPECT(boddurci_fetch(db, (const uint8_t *)key, strlen(key), value, sizeof value, &length) == BODDURCI_DONE && length == 8);
-    return number_of(value);
-}
-
-static void test_tickets(void)
-{
-    boddurci db = BODDURCI_CLOSED;
-    boddurci_ticket ticket = BODDURCI_FREE;
-    uint8_t arg[BODDURCI_ARG_MOST + 1] = {0};
-    size_t length;
-    uint64_t end = 9, word = 9;
-    open_empty(&db, 0, 0);
-    EXPECT(ask(&db, &ticket, "hits", 1) == BODDURCI_NO_PROGRAM && boddurci_work(&ticket) == BODDURCI_NO_TICKET);
-    submit_counter(&db);
-    EXPECT(boddurci_ask(&db, &ticket, 0, BYTES("hits"), arg, sizeof arg, 1, 1005, 0) == BODDURCI_PAIR_TOO_LARGE);
-    EXPECT(boddurci_ask(&db, &ticket, 0, BYTES("hits"), arg, sizeof arg, 1, 1004, 0) == BODDURCI_ARG_TOO_LONG);
-    EXPECT(boddurci_finish(&db, &ticket, &end, &word) == BODDURCI_NO_TICKET && end == 9);
-    EXPECT(ask(&db, &ticket, "hits", 1) == BODDURCI_DONE && boddurci_finish(&db, &ticket, &end, &word) == BODDURCI_NO_TICKET);
-    EXPECT(boddurci_work(&ticket) == BODDURCI_DONE && boddurci_work(&ticket) == BODDURCI_DONE);
-    EXPECT(boddurci_count(&db, &length) == BODDURCI_DONE && length == 0);
-    EXPECT(boddurci_finish(&db, &ticket, &end, &word) == BODDURCI_DONE && end == 1 && word == 0 && count_at(&db, "hits") == 1);
-    EXPECT(boddurci_finish(&db, &ticket, &end, &word) == BODDURCI_NO_TICKET && boddurci_work(&ticket) == BODDURCI_NO_TICKET);
-    EXPECT(ask(&db, &ticket, "none", 0) == BODDURCI_DONE && boddurci_work(&ticket) == BODDURCI_DONE);
-    EXPECT(boddurci_finish(&db, &ticket, &end, &word) == BODDURCI_MISSING && end == 0);
-    /* boddurci_ask replaces an earlier run in the ticket. */
-    EXPECT(ask(&db, &ticket, "other", 1) == BODDURCI_DONE && boddurci_work(&ticket) == BODDURCI_DONE);
-    EXPECT(ask(&db, &ticket, "hits", 1) == BODDURCI_DONE && boddurci_finish(&db, &ticket, &end, &word) == BODDURCI_NO_TICKET);
-    EXPECT(boddurci_work(&ticket) == BODDURCI_DONE && boddurci_finish(&db, &ticket, &end, &word) == BODDURCI_DONE);
-    EXPECT(count_at(&db, "hits") == 2);
-    boddurci_abandon(&ticket);
-    boddurci_close(&db);
-}
-
-/* Tests tickets with other calls in between: on the page, on the handle, and on other pages. */
-static void test_meanwhile(void)
-{
-    boddurci db = BODDURCI_CLOSED, wide = BODDURCI_CLOSED, twin = BODDURCI_CLOSED;
-    boddurci_ticket ticket = BODDURCI_FREE, second = BODDURCI_FREE;
-    uint64_t end, word;
-    open_empty(&db, 0, 0);
-    submit_counter(&db);
-    EXPECT(ask(&db, &ticket, "hits", 1) == BODDURCI_DONE && boddurci_work(&ticket) == BODDURCI_DONE);
-    EXPECT(ask(&db, &second, "hits", 1) == BODDURCI_DONE && boddurci_work(&second) == BODDURCI_DONE);
-    EXPECT(boddurci_finish(&db, &second, &end, &word) == BODDURCI_DONE);
-    EXPECT(boddurci_finish(&db, &ticket, &end, &word) == BODDURCI_CHANGED && count_at(&db, "hits") == 1);
-    EXPECT(boddurci_finish(&db, &ticket, &end, &word) == BODDURCI_CHANGED);
-    /* The page has its old contents again. */
-    EXPECT(boddurci_delete(&db, BYTES("hits")) == BODDURCI_DONE);
-    EXPECT(boddurci_finish(&db, &ticket, &end, &word) == BODDURCI_DONE && count_at(&db, "hits") == 1);
-    EXPECT(ask(&db, &ticket, "hits", 1) == BODDURCI_DONE && boddurci_work(&ticket) == BODDURCI_DONE);
-    EXPECT(boddurci_store(&db, BYTES("beside"), BYTES("it"), 1) == BODDURCI_DONE);
-    EXPECT(boddurci_finish(&db, &ticket, &end, &word) == BODDURCI_CHANGED);
-    /* Two other handles: one with a different page, and one with the same page. */
-    EXPECT(ask(&db, &ticket, "new", 1) == BODDURCI_DONE && boddurci_work(&ticket) == BODDURCI_DONE);
-    open_empty(&wide, 1, 0);
-    EXPECT(boddurci_finish(&wide, &ticket, &end, &word) == BODDURCI_CHANGED);
-    struct files files = files_of(&db);
-    uint8_t text[100];
-    size_t length;
-    EXPECT(boddurci_open(&twin, files.dir, files.dir_length, files.pag, files.pag_length, 0, 0, text, sizeof text, &length) == BODDURCI_DONE);
-    free_files(files);
-    boddurci_close(&db);
-    EXPECT(boddurci_finish(&db, &ticket, &end, &word) == BODDURCI_IS_CLOSED);
-    EXPECT(boddurci_finish(&twin, &ticket, &end, &word) == BODDURCI_DONE && count_at(&twin, "new") == 1 && count_at(&twin, "hits") == 1);
-    EXPECT(boddurci_finish(&wide, &ticket, &end, &word) == BODDURCI_NO_TICKET);
-    /* A ticket with a run outlives its handle. */
-    submit_counter(&twin);
-    EXPECT(ask(&twin, &second, "new", 1) == BODDURCI_DONE);
-    boddurci_close(&twin);
-    boddurci_close(&wide);
-    EXPECT(boddurci_work(&second) == BODDURCI_DONE);
-    boddurci_abandon(&second);
-}
-
-/* Many concurrent tickets have the same results and files as the same runs on another handle. The order of boddurci_work and
- * boddurci_finish differs from the order of boddurci_ask. */
-static void test_many_tickets(void)
-{
-    enum { OPEN = 40, ROUNDS = 60 };
-    boddurci db = BODDURCI_CLOSED, model = BODDURCI_CLOSED;
-    boddurci_ticket tickets[OPEN];
-    char keys[OPEN][16];
-    uint64_t end, word, model_end, model_word, state = 1;
-    unsigned long changed = 0;
-    open_empty(&db, 0, 0);
-    open_empty(&model, 0, 0);
-    submit_counter(&db);
-    submit_counter(&model);
-    for (int round = 0; round < ROUNDS; round++) {
-        for (int i = 0; i < OPEN; i++) {
-            tickets[i] = (boddurci_ticket)BODDURCI_FREE;
-            state = state * 6364136223846793005u + 1442695040888963407u;
-            snprintf(keys[i], sizeof keys[i], "key%u", (unsigned)(state >> 40) % 3000);
-            EXPECT(ask(&db, &tickets[i], keys[i], 1) == BODDURCI_DONE);
-        }
-        for (int i = 0; i < OPEN; i++)
-            EXPECT(boddurci_work(&tickets[i * 7 % OPEN]) == BODDURCI_DONE);
-        for (int i = 0; i < OPEN; i++) {
-            int at = i * 11 % OPEN;
-            uint32_t status = boddurci_finish(&db, &tickets[at], &end, &word);
-            EXPECT(status == BODDURCI_DONE || status == BODDURCI_CHANGED);
-            if (status == BODDURCI_DONE) {
-                EXPECT(boddurci_run(&model, 0, (const uint8_t *)keys[at], strlen(keys[at]), BODDURCI_NO_BYTES, 1, 8, 0, &model_end, &model_word) == status);
-                EXPECT(end == model_end && word == model_word);
-            }
-            changed += status == BODDURCI_CHANGED;
-            boddurci_abandon(&tickets[at]);
-        }
-    }
-    EXPECT(changed != 0 && changed < OPEN * ROUNDS);
-    struct files files = files_of(&db), others = files_of(&model);
-    EXPECT(are_same(files, others));
-    free_files(files);
-    free_files(others);
-    boddurci_close(&db);
-    boddurci_close(&model);
 }
 
 /* ---- iteration, files and texts */
@@ -603,251 +464,6 @@ static void test_texts(void)
     }
 }
 
-/* ---- threads under a mutex */
-
-static pthread_mutex_t mutex = PTHREAD_MUTEX_INITIALIZER;
-static boddurci shared = BODDURCI_CLOSED;
-static time_t until;
-
-static void run_under(const char *key)
-{
-    uint64_t end, word;
-    pthread_mutex_lock(&mutex);
-    if (boddurci_run(&shared, 0, (const uint8_t *)key, strlen(key), BODDURCI_NO_BYTES, 1, 8, 0, &end, &word) != BODDURCI_DONE)
-        abort();
-    pthread_mutex_unlock(&mutex);
-}
-
-/* Runs by a ticket, outside the mutex, until it succeeds. */
-static uint64_t run_by_ticket(const char *key)
-{
-    boddurci_ticket ticket = BODDURCI_FREE;
-    uint64_t end, word, again = 0;
-    uint32_t status = BODDURCI_CHANGED;
-    for (; status == BODDURCI_CHANGED; again++) {
-        pthread_mutex_lock(&mutex);
-        uint32_t asked = ask(&shared, &ticket, key, 1);
-        pthread_mutex_unlock(&mutex);
-        if (asked != BODDURCI_DONE || boddurci_work(&ticket) != BODDURCI_DONE)
-            abort();
-        pthread_mutex_lock(&mutex);
-        status = boddurci_finish(&shared, &ticket, &end, &word);
-        pthread_mutex_unlock(&mutex);
-    }
-    if (status != BODDURCI_DONE || end != 1)
-        abort();
-    return again - 1;
-}
-
-/* A thread: its key, whether it runs by tickets, and the numbers of its runs and of its repeated runs. */
-struct worker {
-    const char *key;
-    int by_ticket;
-    uint64_t done, again;
-};
-
-static void *work(void *given)
-{
-    struct worker *worker = given;
-    /* Run at least once, since on a busy machine a thread may wait long for the mutex. */
-    do {
-        if (worker->by_ticket) {
-            worker->again += run_by_ticket(worker->key);
-            worker->again += run_by_ticket("all");
-        } else {
-            run_under(worker->key);
-            run_under("all");
-        }
-        worker->done++;
-    } while (time(NULL) < until);
-    return NULL;
-}
-
-static void test_threads(int seconds)
-{
-    enum { THREADS = 4 };
-    struct worker workers[THREADS] = {{"t0", 0, 0, 0}, {"t1", 0, 0, 0}, {"t2", 1, 0, 0}, {"t3", 1, 0, 0}};
-    pthread_t threads[THREADS];
-    uint64_t all = 0, again = 0;
-    open_empty(&shared, 0, 0);
-    submit_counter(&shared);
-    until = time(NULL) + seconds;
-    for (int i = 0; i < THREADS; i++)
-        EXPECT(pthread_create(&threads[i], NULL, work, &workers[i]) == 0);
-    for (int i = 0; i < THREADS; i++)
-        EXPECT(pthread_join(threads[i], NULL) == 0);
-    for (int i = 0; i < THREADS; i++) {
-        EXPECT(count_at(&shared, workers[i].key) == workers[i].done && workers[i].done != 0);
-        all += workers[i].done;
-        again += workers[i].again;
-    }
-    EXPECT(count_at(&shared, "all") == all);
-    boddurci_close(&shared);
-    printf("%llu runs by %d threads, %llu of them begun anew\n", (unsigned long long)(2 * all), THREADS, (unsigned long long)again);
-}
-
-/* ---- each allocation failing in turn */
-
-enum { STEPS = 80 };
-
-/* The number of calls that reported a failed allocation. */
-static unsigned long told_growths;
-
-/* Expects a fault with its text, or NO_MEMORY. */
-static uint32_t with_text(uint32_t status, const size_t *length)
-{
-    EXPECT(status == BODDURCI_NO_MEMORY || *length != 0);
-    return status;
-}
-
-/* Plans a save of all changes into empty files. */
-static uint32_t plan_changed(boddurci *db, uint8_t *plan, size_t room)
-{
-    static const uint8_t zeros[65536];
-    static uint32_t numbers[64];
-    size_t count, length;
-    EXPECT(boddurci_changed(db, numbers, 64, &count) == BODDURCI_DONE);
-    return boddurci_plan(db, BODDURCI_NO_BYTES, 0, numbers, count, zeros, count * 1024, plan, room, &length);
-}
-
-/* Makes one step: a call on a handle and a ticket. */
-static uint32_t do_step(boddurci *db, boddurci_ticket *ticket, int step)
-{
-    uint8_t text[100], value[200];
-    size_t length, unit, line, image_length;
-    uint32_t number;
-    uint64_t end, word;
-    char key[16];
-    static uint8_t image[BODDURCI_IMAGE_MOST], dir[65536], pag[262144];
-    static const uint8_t page[1024] = {1, 0, 0xff};
-    static const uint32_t many = 20000;
-    boddurci other = BODDURCI_CLOSED;
-    memset(value, step, sizeof value);
-    size_t key_length = (size_t)snprintf(key, sizeof key, "key %d", step);
-    switch (step) {
-    case 0: return boddurci_open(db, BODDURCI_NO_BYTES, BODDURCI_NO_BYTES, 0, 0, text, sizeof text, &length);
-    case 1: return boddurci_assemble(BYTES(counter_text), image, sizeof image, &image_length, &line, text, sizeof text, &length);
-    case 2: return boddurci_submit(db, counter, counter_length, &number, &unit, text, sizeof text, &length);
-    case 3: return with_text(boddurci_submit(db, counter, 56, &number, &unit, text, sizeof text, &length), &length);
-    case 4: return boddurci_run(db, 0, BYTES("hits"), BYTES("argument"), 1, 8, 0, &end, &word);
-    case 5: return boddurci_run(db, 0, BYTES("hits"), BYTES("argument"), 1, 8, 0, &end, &word);
-    case 6: return boddurci_delete(db, BYTES("hits"));
-    case 7: return boddurci_delete(db, BYTES("none"));
-    case 8: return with_text(boddurci_assemble(BYTES("hop"), image, sizeof image, &image_length, &line, text, sizeof text, &length), &length);
-    case 9: return with_text(boddurci_open(&other, BODDURCI_NO_BYTES, page, sizeof page, 0, 0, text, sizeof text, &length), &length);
-    case 50: return ask(db, ticket, "hits", 1);
-    case 51: return boddurci_work(ticket);
-    case 52: return boddurci_finish(db, ticket, &end, &word);
-    case 53: return ask(db, ticket, "hits", 1);
-    case 54: return boddurci_work(ticket);
-    case 55: return boddurci_finish(db, ticket, &end, &word);
-    case 56: return boddurci_files(db, dir, sizeof dir, &length, pag, sizeof pag, &unit);
-    case 57: return plan_changed(db, pag, sizeof pag);
-    case 58: return boddurci_run(db, 0, (const uint8_t *)key, key_length, BODDURCI_NO_BYTES, 1, 900, 0, &end, &word);
-    case 59: return boddurci_run(db, 0, (const uint8_t *)key, key_length, BODDURCI_NO_BYTES, 1, 900, 0, &end, &word);
-    case 60: return boddurci_mark(db, &many, 1);
-    default: return boddurci_store(db, (const uint8_t *)key, key_length, value, sizeof value, 1);
-    }
-}
-
-/* Makes one step. The nth allocation, counted from the first step on, may fail during this step. If so, the step succeeds nevertheless, or
- * it changes nothing and is repeated. Returns whether the allocation was reached. */
-static int refuse_in_step(boddurci *db, boddurci_ticket *ticket, int step, unsigned long nth, uint32_t expected)
-{
-    struct files before = {NULL, NULL, 0, 0}, after;
-    if (step > 0)
-        before = files_of(db);
-    refused = nth;
-    uint32_t status = do_step(db, ticket, step);
-    int was_met = growths >= nth;
-    refused = 0;
-    EXPECT(status == expected || (was_met && status == BODDURCI_NO_MEMORY));
-    if (status == BODDURCI_NO_MEMORY) {
-        told_growths++;
-        EXPECT(boddurci_is_open(db) == (step > 0));
-        if (step > 0) {
-            after = files_of(db);
-            EXPECT(are_same(before, after));
-            free_files(after);
-        }
-        EXPECT(do_step(db, ticket, step) == expected);
-    }
-    free_files(before);
-    return was_met;
-}
-
-/* Makes all steps. The nth allocation fails, or no allocation if n is 0. Returns whether the nth allocation was reached. */
-static int refuse_in_steps(unsigned long nth, uint32_t *expected, struct files *made)
-{
-    boddurci db = BODDURCI_CLOSED;
-    boddurci_ticket ticket = BODDURCI_FREE;
-    int was_met = 0;
-    growths = 0;
-    for (int step = 0; step < STEPS; step++)
-        if (nth == 0)
-            expected[step] = do_step(&db, &ticket, step);
-        else if (!was_met)
-            was_met = refuse_in_step(&db, &ticket, step, nth, expected[step]);
-        else
-            EXPECT(do_step(&db, &ticket, step) == expected[step]);
-    *made = files_of(&db);
-    boddurci_close(&db);
-    return was_met;
-}
-
-/* Opens these files while the nth allocation fails. Returns whether it was reached. */
-static int refuse_in_opening(unsigned long nth, struct files files)
-{
-    boddurci db = BODDURCI_CLOSED;
-    uint8_t text[100];
-    size_t length;
-    growths = 0;
-    refused = nth;
-    uint32_t status = boddurci_open(&db, files.dir, files.dir_length, files.pag, files.pag_length, 0, 0, text, sizeof text, &length);
-    int was_met = growths >= nth;
-    refused = 0;
-    EXPECT(status == BODDURCI_DONE || (status == BODDURCI_NO_MEMORY && !boddurci_is_open(&db) && was_met));
-    boddurci_close(&db);
-    return was_met;
-}
-
-/* Opens the files in pieces, and submits programs by name, while the nth allocation fails. Returns whether it was reached. */
-static int refuse_in_others(unsigned long nth, struct files files)
-{
-    int is_met = 0;
-    for (int others = 0; others < 2; others++) {
-        growths = 0;
-        refused = nth;
-        int ran_out = others == 0 ? reads_in_memory(files) : stocks_in_memory(), was_met = growths >= nth;
-        refused = 0;
-        EXPECT(was_met || !ran_out);
-        is_met = is_met || was_met;
-    }
-    return is_met;
-}
-
-static void test_growths(void)
-{
-    uint32_t expected[STEPS];
-    struct files whole, made;
-    unsigned long nth = 0;
-    int in_steps = 1, in_opening = 1, in_others = 1;
-    refuse_in_steps(0, expected, &whole);
-    for (int step = 0; step < STEPS; step++)
-        EXPECT(expected[step] != BODDURCI_NO_MEMORY);
-    while (in_steps || in_opening || in_others) {
-        nth++;
-        in_steps = refuse_in_steps(nth, expected, &made);
-        EXPECT(are_same(made, whole));
-        in_opening = refuse_in_opening(nth, made);
-        in_others = refuse_in_others(nth, made);
-        free_files(made);
-    }
-    free_files(whole);
-    EXPECT(told_growths != 0);
-    printf("%lu growths refused in turn, %lu of them told\n", nth - 1, told_growths);
-}
-
 static void test_calls(void)
 {
     test_closed();
@@ -862,8 +478,6 @@ static void test_calls(void)
     test_programs();
     test_arguments();
     test_tickets();
-    test_meanwhile();
-    test_many_tickets();
     test_plans(0);
     test_plans(1);
     test_marks();

@@ -90,3 +90,31 @@ def others_write_in_a_burst(program, folder):
         session.ask(f"put 61 {count:02x}")
     holds((folder / "db.redo").stat().st_mode & 0o777 == 0o600, "the redo file does not get the mode of .pag")
     session.end()
+
+
+def others_replace_a_new_file(program, folder):
+    """If another program replaces .pag while the first save creates it, no later save that is answered is lost. strace delays the writes to
+    .pag."""
+    if shutil.which("strace") is None:
+        print("session_lines: no strace, so no new file is replaced")
+        return
+    for file in folder.glob("db*"):
+        file.unlink()
+    pages, slow = folder / "db.pag", folder / "slow"
+    slow.write_text(f'#!/bin/sh\nexec strace -f -qq -o /dev/null -P {pages} -e inject=pwrite64:delay_exit=300000 {program} "$@"\n')
+    slow.chmod(0o755)
+    session = Session(slow, folder)
+    session.ask("put 61 01")
+    session.send("save")
+    while not pages.exists() or not pages.stat().st_size:
+        time.sleep(0.01)
+    shutil.copy2(pages, folder / "other")
+    os.replace(folder / "other", pages)
+    answers = [session.answer()]
+    for count in (2, 3):
+        session.ask(f"put 61 {count:02x}")
+        answers.append(session.ask("save"))
+    session.end()
+    found = listed(program, folder)
+    holds(answers == ["saved"] * 3 and found == "61 03\n", f"after a new .pag was replaced, {answers} left {found}")
+    slow.unlink()

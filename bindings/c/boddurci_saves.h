@@ -15,7 +15,7 @@
 
 #pragma GCC visibility push(hidden)
 
-/* BASE.pag, .dir, .redo, .lock and .writer. The last two serve as locks; the first of them also has the notes of shared bases. */
+/* BASE.pag, .dir, .redo, .lock and .writer. The last two serve as locks; the first of them also has notes. */
 enum boddurci_file { BODDURCI_PAGES, BODDURCI_DIRECTORY, BODDURCI_REDO, BODDURCI_LOCK, BODDURCI_WRITER, BODDURCI_FILES };
 
 /* The bytes of a file: a mapping of `room` bytes, or memory from malloc if `room` is 0. `boddurci_let_go` frees the bytes. */

@@ -2,10 +2,11 @@
 ghost use Rattle.std.specs.Prelude.{◌≡◌, IfErr};
 ghost use Rattle.sdbm_saves.specs.declared.disk.DiskError.TheVariants.{Failed};
 
+use crate::durable::{DurableNotes, Subject};
 use crate::limit::{most_bytes, number_at};
 use dbm_places::{
-    FileId, Names, SeenFiles, Side, folder_of, is_like_pages, make, make_directory, make_redo,
-    open_beside,
+    FileId, Names, SeenFiles, Side, folder_of, is_like_pages, length_of, make, make_directory,
+    make_redo, open_beside,
 };
 use sdbm_saves::{CallLog, DiskError, DiskFile, Host};
 use std::fs::{self, File, OpenFile, OpenOptions};
@@ -30,6 +31,8 @@ struct SaveFile {
     file: Option<File>,
     // The file was synced, and has not been written since then.
     is_synced: bool,
+    // This run has opened the file to write it.
+    is_written: bool,
 }
 
 impl SaveFile {
@@ -37,7 +40,22 @@ impl SaveFile {
         SaveFile {
             file: None,
             is_synced: false,
+            is_written: false,
         }
+    }
+
+    // Syncs a file, unless it is missing or has not been written since its last sync. There may be a note that `.dir` is durable.
+    fn sync(&mut self, part: DiskFile, notes: &DurableNotes) -> io::Result<()> {
+        if !self.is_synced
+            && let Some(file) = &self.file
+        {
+            match part {
+                DiskFile::Directory if !self.is_written => notes.sync(Subject::Directory, file)?,
+                _ => file.sync_data()?,
+            }
+        }
+        self.is_synced = true;
+        Ok(())
     }
 }
 
@@ -54,7 +72,9 @@ struct OpenFiles<'a, R: Files<File = File>> {
     pages: SaveFile,
     directory: SaveFile,
     redo: SaveFile,
-    // This run has synced the folder, and has created no file since then. The names that an earlier run created may not be durable.
+    // Notes about the states in which `.dir` and the folder are durable.
+    notes: DurableNotes,
+    // This run has made the folder durable, and has created no file since then. The names that an earlier run created may not be durable.
     is_folder_kept: bool,
     // The redo file counts as missing, and is removed before a new one is created.
     is_redo_stale: bool,
@@ -82,6 +102,7 @@ impl<'a, R: Files<File = File>> OpenFiles<'a, R> {
         }
         let slot = self.slot(part);
         slot.is_synced = false;
+        slot.is_written = true;
         match &mut slot.file {
             Some(file) => Ok(file),
             None => Err(io::Error::from(ErrorKind::NotFound)),
@@ -148,13 +169,13 @@ impl<'a, R: Files<File = File>> OpenFiles<'a, R> {
     // Returns `true` if a file is open and has this length.
     fn is_long(&mut self, part: DiskFile, len: usize) -> io::Result<bool> {
         match &self.slot(part).file {
-            Some(file) => Ok(file.metadata()?.len() == len as u64),
+            Some(file) => Ok(length_of(file)? == len as u64),
             None => Ok(false),
         }
     }
 
-    // Syncs a file, and the folder with its name. A file that this run has not written is synced too, because an earlier run may have been
-    // killed after a write. A missing file needs no sync. The call also opens the file for writing, so a missing permission is found before
+    // Makes a file durable, and the folder with its name. A file that this run has not written is synced too, because an earlier run may have
+    // been killed after a write, unless a note says that it is durable. A missing file needs no sync. The call also opens the file for writing, so a missing permission is found before
     // the commit.
     fn keep(&mut self, part: DiskFile) -> io::Result<()> {
         if self.slot(part).file.is_none() {
@@ -164,15 +185,14 @@ impl<'a, R: Files<File = File>> OpenFiles<'a, R> {
                 Err(error) => return Err(error),
             }
         }
-        let slot = self.slot(part);
-        if !slot.is_synced
-            && let Some(file) = &slot.file
-        {
-            file.sync_data()?;
+        match part {
+            DiskFile::Pages => self.pages.sync(part, &self.notes)?,
+            DiskFile::Directory => self.directory.sync(part, &self.notes)?,
+            DiskFile::Redo => self.redo.sync(part, &self.notes)?,
         }
-        slot.is_synced = true;
         if !self.is_folder_kept {
-            fs::open(self.rt, folder_of(name_of(self.names, part)))?.sync_all()?;
+            let folder = fs::open(self.rt, folder_of(name_of(self.names, part)))?;
+            self.notes.sync(Subject::Folder, &folder)?;
             self.is_folder_kept = true;
         }
         Ok(())
@@ -213,7 +233,7 @@ pub struct RealFiles<'a, R: Files<File = File>> {
     pub(crate) log: CallLog,
 }
 
-impl<'a, R: Files<File = File>> RealFiles<'a, R> {
+impl<'a, R: Files<File = File> + AllocGlobal> RealFiles<'a, R> {
     ghost use Rattle.sdbm_saves.specs.CallLog.{acts};
 
     /// Returns the files with these names, without opening any. `seen` has the IDs of the data files that were read. A stale redo file
@@ -227,15 +247,20 @@ impl<'a, R: Files<File = File>> RealFiles<'a, R> {
     ) -> Self
         ensures { result.log ≡ log }
     {
+        let most = most_bytes(rt);
+        // Whether BASE.lock is accepted depends on `.pag`.
+        let may_note = seen.pages.is_some();
+        let notes = DurableNotes::open(rt, names, if may_note { most } else { 0 });
         RealFiles {
             files: OpenFiles {
                 rt,
                 names,
                 seen,
-                most: most_bytes(rt),
+                most,
                 pages: SaveFile::new(),
                 directory: SaveFile::new(),
                 redo: SaveFile::new(),
+                notes,
                 is_folder_kept: false,
                 is_redo_stale,
                 is_redo_gone: false,
@@ -255,7 +280,7 @@ fn told(outcome: io::Result<()>) -> Result<(), DiskError>
     }
 }
 
-// A call is logged before it is made, but a sync only after it succeeded.
+// A call is logged before it is made, but a sync only after the file is durable.
 impl<'a, R: Files<File = File>> Host for RealFiles<'a, R> {
     ghost use Rattle.sdbm_saves.specs.CallLog.{acts};
 

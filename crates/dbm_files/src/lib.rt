@@ -2,6 +2,7 @@
 #![tactic(auto)]
 
 mod copying;
+mod durable;
 mod files;
 mod host;
 mod limit;

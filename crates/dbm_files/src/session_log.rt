@@ -11,7 +11,7 @@ use crate::saving::SaveOutcome;
 use crate::sight::{Look, Sight, knows};
 use crate::states::DataStates;
 use crate::writing::{find_redo, must_be_unwritten, save_held};
-use dbm_places::{DataFiles, FileBytes, FilesFault, RunPlace, SeenFiles};
+use dbm_places::{DataFiles, FileBytes, FilesFault, Place, RunPlace, SeenFiles};
 use sdbm_files::Image;
 use sdbm_logged::{
     DataBytes, Keeper, KeptDisk, LogSave, LoggedDisk, NextSave, PLAN_LIMIT, close_kept, save_first,
@@ -76,6 +76,10 @@ impl<'a, R: Files<File = File>> SessionLog<'a, R> {
 #[derive(Drop)]
 pub struct SessionSaves<'a, R: Files<File = File>> {
     log: SessionLog<'a, R>,
+    // The IDs of the data files. The session saves only into these.
+    seen: SeenFiles,
+    // The data files, held open. They may be other files than those of the IDs, if another program has replaced these.
+    files: DataFiles,
     // What the session saw when it last looked at its data files.
     sight: Sight,
 }
@@ -86,14 +90,28 @@ impl<'a, R: Files<File = File> + AllocGlobal> SessionSaves<'a, R> {
     /// save. Releases BASE.lock.
     pub fn begin(rt: &'a R, place: RunPlace<'_>, held: &'a LockedFiles) -> Self {
         let mut log = SessionLog::Closed;
+        let mut files = DataFiles::none();
+        files.open_more(rt, &held.place.names);
         match mark_log(rt, place, held, &mut log) {
             Ok(SaveOutcome::Pending) => held.locks.leave_unfinished(),
             _ => held.locks.leave_files(),
         }
         SessionSaves {
             log,
+            seen: held.seen,
+            files,
             sight: Sight::of(held.states),
         }
+    }
+
+    // Takes over the data files that a save has created. Closes the log, since another program may have replaced a new file that is open in
+    // it. The next save opens the files by their names.
+    fn take_made(&mut self, rt: &R, place: &Place) {
+        let _ = close_log(rt.alloc(), self.log.take());
+        let mut files = DataFiles::none();
+        files.open_more(rt, &place.names);
+        self.seen = self.seen.with_made(&files);
+        self.files = files;
     }
 }
 
@@ -128,16 +146,20 @@ pub fn save_session<'a, R: Files<File = File> + Clock + AllocGlobal>(
     rt: &'a R,
     place: RunPlace<'_>,
     held: &'a LockedFiles,
-    seen: &SeenFiles,
     saves: &mut SessionSaves<'a, R>,
     image: &Image<Global>,
 ) -> Result<SaveOutcome, FilesFault> {
     held.locks.enter_files()?;
     let saved = match save_soon(rt, held, saves, image) {
         Ok(Some(saved)) => Ok(saved),
-        Ok(None) => save_looking(rt, place, held, seen, saves, image),
+        Ok(None) => save_looking(rt, place, held, saves, image),
         Err(fault) => Err(fault),
     };
+    if let Ok(SaveOutcome::Whole | SaveOutcome::Pending) = saved
+        && saves.seen.lacks_file()
+    {
+        saves.take_made(rt, &held.place);
+    }
     match saved {
         Ok(SaveOutcome::Whole | SaveOutcome::Unchanged) => held.locks.leave_files(),
         Ok(SaveOutcome::Pending) => held.locks.leave_unfinished(),
@@ -156,7 +178,7 @@ fn save_soon<'a, R: Files<File = File> + Clock + AllocGlobal>(
     if !saves.sight.is_recent(rt, &held.place) {
         return Ok(None);
     }
-    let saved = save_more(rt.alloc(), &mut saves.log, image, Some(held.place.data()))?;
+    let saved = save_more(rt.alloc(), &mut saves.log, image, Some(&saves.files))?;
     match saved {
         Some(SaveOutcome::Whole) => saves.sight.note_save(true),
         Some(_) => saves.sight.note_save(false),
@@ -170,26 +192,26 @@ fn save_looking<'a, R: Files<File = File> + Clock + AllocGlobal>(
     rt: &'a R,
     place: RunPlace<'_>,
     held: &'a LockedFiles,
-    seen: &SeenFiles,
     saves: &mut SessionSaves<'a, R>,
     image: &Image<Global>,
 ) -> Result<SaveOutcome, FilesFault> {
     let look = Look::begin(rt, &held.place);
-    held.place.must_be_held(rt, &held.locks, seen)?;
+    let seen = saves.seen;
+    held.place.must_be_held(rt, &held.locks, &seen)?;
     let found = DataStates::look(rt, &held.place.names);
-    if saves
-        .sight
-        .is_stale(held.place.data(), found, saves.log.kept())?
-    {
+    if saves.sight.is_stale(&saves.files, found, saves.log.kept())? {
         let _ = close_log(rt.alloc(), saves.log.take());
         return Err(FilesFault::Changed);
     }
     if saves.sight.is_other(found) || image.pag_len() > MOST_KEPT as u64 {
         close_log(rt.alloc(), saves.log.take())?;
     }
-    let saved = save_locked(rt, place, held, seen, &mut saves.log, image);
+    let saved = save_locked(rt, place, held, &seen, &mut saves.log, image);
     let look = if saves.log.is_short() { look } else { None };
-    saves.sight.renew(rt, &held.place, seen, look);
+    let is_held = saves.files.seen() == seen && saves.files.are_named(rt, &held.place.names);
+    saves
+        .sight
+        .renew(rt, &held.place, if is_held { look } else { None });
     saved
 }
 

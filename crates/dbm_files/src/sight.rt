@@ -3,7 +3,7 @@ ghost use Rattle.std.specs.Prelude.{◌≤◌, length};
 ghost use Rattle.sdbm_saves.specs.Redo.{span_of, IsPlan};
 
 use crate::states::{Changed, DataStates, is_settled, names_changed};
-use dbm_places::{DataFiles, FilesFault, Place, SeenFiles};
+use dbm_places::{DataFiles, FilesFault, Place};
 use sdbm_addr::PageSize;
 use sdbm_saves::{Contents, DiskFile, file_of, number, rest_of};
 use std::fs::File;
@@ -12,6 +12,9 @@ use std::time::{Clock, Duration, Instant};
 
 // A save within this many milliseconds after a look at the files does not look again.
 const RECENT: u64 = 10;
+
+// Two changes within this many milliseconds may leave the same time.
+const SETTLED: u64 = 20;
 
 /// A look at the names of the files, between two saves.
 #[derive(Clone, Copy)]
@@ -27,7 +30,8 @@ impl Look {
     pub(crate) fn begin<R: Clock>(rt: &R, place: &Place) -> Option<Look> {
         let at = Instant::now(rt).ok()?;
         let names = names_changed(place)?;
-        if !is_settled(names, rt.since_1970().ok()?) {
+        let now = rt.since_1970().ok()?;
+        if !is_settled(names, now, Duration::from_millis(SETTLED)) {
             return None;
         }
         Some(Look { at, names })
@@ -80,22 +84,17 @@ impl Sight {
         }
     }
 
-    /// Looks at the data files after a save. Later saves may do without a look if `look` was begun before the names were checked, the session
-    /// has created no data file, and no data file is a link.
+    /// Looks at the data files after a save. Later saves may do without a look if there is a `look` that was begun before the names were
+    /// checked. There must be none if a data file is a link, or is not held open.
     pub(crate) fn renew<R: Files<File = File>>(
         &mut self,
         rt: &R,
         place: &Place,
-        seen: &SeenFiles,
         look: Option<Look>,
     ) {
         self.states = DataStates::look(rt, &place.names);
         self.has_saved = false;
-        self.look = None;
-        let files = place.data();
-        if look.is_some() && files.seen() == *seen && files.are_named(rt, &place.names) {
-            self.look = look;
-        }
+        self.look = look;
     }
 
     /// Returns `true` if another program has written a data file since the last look, given their states now. `kept` has the bytes that the

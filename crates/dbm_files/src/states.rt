@@ -6,9 +6,6 @@ use std::os::unix::fs::MetadataExt;
 use std::rt::Files;
 use std::time::Duration;
 
-// Two changes within this many milliseconds may leave the same time.
-const SETTLED: u64 = 20;
-
 /// The ID and the length of a file, its rights, and the times of the last changes of its bytes and of its inode.
 #[derive(Clone, Copy, PartialEq, Eq)]
 struct FileState {
@@ -27,7 +24,7 @@ impl FileState {
             len: found.len(),
             rights: (found.mode(), found.uid(), found.gid()),
             written: (found.mtime(), found.mtime_nsec()),
-            changed: (found.ctime(), found.ctime_nsec()),
+            changed: changed_of(found),
         }
     }
 
@@ -45,29 +42,35 @@ impl FileState {
 /// The time of the last change of an inode, in seconds and nanoseconds since 1970.
 pub(crate) type Changed = (i64, i64);
 
+/// Returns the time of the last change of an inode.
+pub(crate) fn changed_of(found: &Metadata) -> Changed {
+    (found.ctime(), found.ctime_nsec())
+}
+
 /// Returns the time at which a name in the folder of a database was last created, removed or changed. Returns `None` if the folder is not
 /// held open.
 pub(crate) fn names_changed(place: &Place) -> Option<Changed> {
     let found = place.folder()?;
-    Some((found.ctime(), found.ctime_nsec()))
+    Some(changed_of(&found))
 }
 
-/// Returns `true` if a time shows later changes: it is finer than seconds, and more than some milliseconds before now, since two changes
-/// within a tick of the system's clock may leave the same time. `now` is counted from 1970.
-pub(crate) fn is_settled(changed: Changed, now: Duration) -> bool {
+/// Returns a time that is counted from 1970. Returns `None` if it is in whole seconds, since many file systems count only these.
+pub(crate) fn fine_time(changed: Changed) -> Option<Duration> {
     let (seconds, nanos) = changed;
-    let (Ok(seconds), Ok(now)) = (u64::try_from(seconds), u64::try_from(now.as_millis())) else {
-        return false;
-    };
-    nanos != 0
-        && now.saturating_sub(seconds.saturating_mul(1000)) > SETTLED.saturating_add(millis(nanos))
+    if nanos == 0 {
+        return None;
+    }
+    let seconds = Duration::from_secs(u64::try_from(seconds).ok()?);
+    let nanos = Duration::from_nanos(u64::try_from(nanos).ok()?);
+    Some(seconds.saturating_add(nanos))
 }
 
-// Returns the milliseconds in some nanoseconds.
-fn millis(nanos: i64) -> u64 {
-    match u64::try_from(nanos) {
-        Ok(nanos) => nanos / 1_000_000,
-        Err(_) => 0,
+/// Returns `true` if no later change can have the same time: the time is not in whole seconds, and at least `age` before now, since two
+/// changes within a tick of the system's clock may have the same time. `now` is counted from 1970.
+pub(crate) fn is_settled(changed: Changed, now: Duration, age: Duration) -> bool {
+    match fine_time(changed) {
+        Some(time) => now.saturating_sub(time) > age,
+        None => false,
     }
 }
 

@@ -20,7 +20,7 @@ pub use names::{
     DIR_LIMIT, FileBytes, Names, PROGRAM_LIMIT, RunPlace, Source, SourceKind, folder_of, names_of,
     sources,
 };
-pub use place::{DataFiles, FileId, Place, SeenFiles};
+pub use place::{DataFiles, FileId, Place, SeenFiles, has_bytes, length_of};
 pub use side::{
     Side, SideFault, Standing, doubt_of, is_like_pages, make, make_directory, make_redo,
     open_beside, side_fault, takes_lock, takes_redo,

@@ -8,7 +8,7 @@ use crate::names::{Names, folder_of, names_of};
 use sdbm_saves::DiskFile;
 use std::alloc::AllocError;
 use std::fs::{self, File, Metadata};
-use std::io::{ErrorKind, Seek, SeekFrom};
+use std::io::{self, ErrorKind, Seek, SeekFrom};
 use std::os::fd::AsRawFd;
 use std::os::unix::fs::{FileExt, MetadataExt};
 use std::rt::Files;
@@ -127,7 +127,7 @@ impl DataFiles {
     /// `ReadFile` if the file cannot be read.
     pub fn has(&self, part: DiskFile, at: usize, bytes: &[u8]) -> Result<bool, FilesFault> {
         match self.opened(part) {
-            Some(file) => reads_as(file, at as u64, bytes),
+            Some(file) => has_bytes(file, at as u64, bytes),
             None => Ok(false),
         }
     }
@@ -145,11 +145,11 @@ impl DataFiles {
 
     /// Returns `true` if a data file is open and has this length. Does not read its times.
     pub fn is_long(&self, part: DiskFile, len: usize) -> bool {
-        let Some(mut file) = self.opened(part) else {
+        let Some(file) = self.opened(part) else {
             return false;
         };
-        match file.seek(SeekFrom::End(0)) {
-            Ok(end) => end == len as u64,
+        match length_of(file) {
+            Ok(length) => length == len as u64,
             Err(_) => false,
         }
     }
@@ -179,8 +179,18 @@ fn open_plain<R: Files<File = File>>(rt: &R, name: &str) -> Option<File> {
     fs::open(rt, name).ok()
 }
 
-// Returns `true` if a file has these bytes at this offset.
-fn reads_as(file: &File, at: u64, bytes: &[u8]) -> Result<bool, FilesFault> {
+/// Returns the length of an open file. Moves its position to the end. `metadata` would read the times too, and then some systems write
+/// the inode at the next sync.
+pub fn length_of(file: &File) -> io::Result<u64> {
+    let mut file = file;
+    file.seek(SeekFrom::End(0))
+}
+
+/// Returns `true` if a file has these bytes at this offset.
+///
+/// # Errors
+/// `ReadFile` if the file cannot be read.
+pub fn has_bytes(file: &File, at: u64, bytes: &[u8]) -> Result<bool, FilesFault> {
     let mut at = at;
     for piece in bytes.chunks(PIECE) {
         let mut room = [0u8; PIECE];
@@ -257,11 +267,6 @@ impl Place {
             Some(folder) => folder.metadata().ok(),
             None => None,
         }
-    }
-
-    /// Borrows the data files that are held open.
-    pub fn data(&self) -> &DataFiles {
-        &self.data
     }
 
     /// Checks that the data files that were read are the open ones.

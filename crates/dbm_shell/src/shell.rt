@@ -8,7 +8,7 @@ use dbm_files::{
     LockedFiles, SaveOutcome, SessionSaves, close_session, read_program, save_session,
 };
 use dbm_messages::ServeFault;
-use dbm_places::{DataFiles, FilesFault, RunPlace, SeenFiles};
+use dbm_places::{FilesFault, RunPlace};
 use dbm_reports::is_too_long;
 use dbm_script::{Notation, TimeOfDay};
 use dbm_session::{Every, Host, Own, OwnLine, program_line, read_own, show_own};
@@ -28,17 +28,13 @@ pub struct Options<'a> {
     pub clock: bool,
 }
 
-/// The files of a session's database, the clock, and the terminal at which lines are typed, if there is one. The shell remembers the IDs of
-/// its files, because it may save only into these. Only clauses read the field `log`, which has the saves and the times that the shell
-/// returned.
+/// The files of a session's database, the clock, and the terminal at which lines are typed, if there is one. Only clauses read the field
+/// `log`, which has the saves and the times that the shell returned.
 #[derive(Drop)]
 pub struct Shell<'a, R: Runtime<File = File>> {
     rt: &'a R,
     place: RunPlace<'a>,
     held: &'a LockedFiles,
-    seen: SeenFiles,
-    // The data files that the saves of the session have created, held open.
-    made: DataFiles,
     saves: SessionSaves<'a, R>,
     options: Options<'a>,
     is_prompted: bool,
@@ -63,8 +59,6 @@ impl<'a, R: Runtime<File = File> + Clock + AllocGlobal> Shell<'a, R> {
             rt,
             place,
             held,
-            seen: held.seen,
-            made: DataFiles::none(),
             saves,
             options,
             is_prompted: is_terminal(rt, 0) && is_terminal(rt, 2),
@@ -102,8 +96,7 @@ impl<'a, R: Runtime<File = File> + Clock + AllocGlobal> Shell<'a, R> {
         ensures saved { IfOk result (λ log. log.calls ≡ self.old.log.calls ++ DidSave image.now ∷ []) }
         ensures same { self.new.log.calls ≡ self.old.log.calls }
     {
-        let saves = &mut self.saves;
-        let saved = save_session(self.rt, self.place, self.held, &self.seen, saves, image)?;
+        let saved = save_session(self.rt, self.place, self.held, &mut self.saves, image)?;
         if saved == SaveOutcome::Pending {
             note_waiting_save(self.rt, self.place.base);
         }
@@ -220,10 +213,6 @@ impl<R: Runtime<File = File> + Clock + AllocGlobal> Host for Shell<'_, R> {
             return Err(FilesFault::FileTooLong);
         }
         self.log = self.save_logged(image)?;
-        if self.seen.lacks_file() {
-            self.made.open_more(self.rt, &self.held.place.names);
-            self.seen = self.seen.with_made(&self.made);
-        }
         self.changes = 0;
         self.has_saved = true;
         self.saved_at = self.rt.monotonic().ok();

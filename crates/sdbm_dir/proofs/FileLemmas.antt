@@ -157,6 +157,19 @@ AreDirectoryBytes-take bytes end size p fit e whole long short = record {
         let byte : found.0 / 8 ≡ end - 1 = found.1.0 in
         (word_of found.0, (contains-word_of bytes found.0 ∙ found.1.1, rw (size_is, word_number-word_of found.0) (omega arith)))
 
+-- whole blocks whose last block has a nonzero byte
+pub AreDirectoryBytes-whole : (bytes : List ℕ) (at : ℕ) → IsBitmap bytes → ((k : ℕ) → get_or bytes k 0 < 256) → 0 < get_or bytes at 0 → length bytes ≤ at + 4096
+    → AreDirectoryBytes (splits_of bytes) bytes
+AreDirectoryBytes-whole bytes at p fit one near = record {
+  spells = record { bits = λ w. sym (contains-splits_of bytes w); directory = p.directory };
+  fit = fit;
+  blocks = p.blocks;
+  last = λ _.
+      let found = set_bit_of bytes at one (fit at) in
+      let byte : found.0 / 8 ≡ at = found.1.0 in
+      (word_of found.0, (contains-word_of bytes found.0 ∙ found.1.1, rw (word_number-word_of found.0) (omega arith)));
+}
+
 -- ---- bytes and directories determine each other
 
 pub SpellsDirectory-unique : (bytes : List ℕ) (d e : Splits) → SpellsDirectory bytes d → SpellsDirectory bytes e → d ≡ e

@@ -159,6 +159,16 @@ pub fn used_blocks(bytes: &[u8]) -> &[u8]
     requires { IsBitmap bytes.now }
     ensures { AreDirectoryBytes (splits_of bytes.now) result.now }
 {
+    if uses_last_block(bytes) {
+        return bytes;
+    }
     let blocks = end_of(bytes).div_ceil(BLOCK_BYTES);
     &bytes[..blocks * BLOCK_BYTES]
+}
+
+// Returns `true` if the first byte of the last block is not zero, which spares the search for the last nonzero byte.
+fn uses_last_block(bytes: &[u8]) -> bool
+    ensures { IsTrue result → (at : ℕ) × ((length bytes.now ≤ at + 4096) × (0 < slice_index_or bytes.now at 0)) }
+{
+    bytes.len() >= BLOCK_BYTES && bytes[bytes.len() - BLOCK_BYTES] != 0
 }

@@ -101,7 +101,7 @@ def others_replace_a_new_file(program, folder):
     for file in folder.glob("db*"):
         file.unlink()
     pages, slow = folder / "db.pag", folder / "slow"
-    slow.write_text(f'#!/bin/sh\nexec strace -f -qq -o /dev/null -P {pages} -e inject=pwrite64:delay_exit=300000 {program} "$@"\n')
+    slow.write_text(f'#!/bin/sh\nexec strace -f -qq -o /dev/null -P {pages} -e inject=pwrite64:delay_exit=1000000 {program} "$@"\n')
     slow.chmod(0o755)
     session = Session(slow, folder)
     session.ask("put 61 01")

@@ -118,3 +118,29 @@ def others_replace_a_new_file(program, folder):
     found = listed(program, folder)
     holds(answers == ["saved"] * 3 and found == "61 03\n", f"after a new .pag was replaced, {answers} left {found}")
     slow.unlink()
+
+
+def tells_of_a_log_that_is_not_closed(program, folder):
+    """If a sync fails while the session closes its log after the save that creates the files, the session says that the save is in the log.
+    strace makes each sync fail in turn."""
+    if shutil.which("strace") is None:
+        print("session_lines: no strace, so no sync fails")
+        return
+    failing, left = folder / "failing", 0
+    for number in range(1, 8):
+        for file in folder.glob("db*"):
+            file.unlink()
+        failing.write_text(f'#!/bin/sh\nexec strace -f -qq -o /dev/null -e inject=fdatasync:error=EIO:when={number} {program} "$@"\n')
+        failing.chmod(0o755)
+        session = Session(failing, folder)
+        session.ask("put 61 01")
+        if session.ask("save") == "saved":
+            is_marked = (folder / "db.redo").read_bytes()[:1] == b"\1"
+            holds(listed(program, folder) == "61 01\n", f"with a failed sync {number} a save is lost")
+            _, _, error = session.end()
+            left += is_marked
+            holds(not is_marked or "the change is saved in db.redo" in error, f"with a failed sync {number} the session says {error!r}")
+        else:
+            session.end()
+    holds(left > 0, "no sync fails while the log is closed")
+    failing.unlink()

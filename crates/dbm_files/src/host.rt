@@ -175,8 +175,8 @@ impl<'a, R: Files<File = File>> OpenFiles<'a, R> {
     }
 
     // Makes a file durable, and the folder with its name. A file that this run has not written is synced too, because an earlier run may have
-    // been killed after a write, unless a note says that it is durable. A missing file needs no sync. The call also opens the file for writing, so a missing permission is found before
-    // the commit.
+    // been killed after a write, unless a note says that it is durable. A missing file needs no sync. The call also opens the file for
+    // writing, so a missing permission is found before the commit.
     fn keep(&mut self, part: DiskFile) -> io::Result<()> {
         if self.slot(part).file.is_none() {
             match self.open_there(part) {

@@ -86,8 +86,8 @@ pub struct SessionSaves<'a, R: Files<File = File>> {
 
 impl<'a, R: Files<File = File> + AllocGlobal> SessionSaves<'a, R> {
     /// Begins the saves of a session that has read its files. Opens a log with a mark that keeps older versions of this program from
-    /// writing the files during the session. If that fails, or a data file is missing, the session continues without a mark until its first
-    /// save. Releases BASE.lock.
+    /// writing the files during the session. If that fails, or a data file is missing, the session continues without a mark until a save
+    /// opens a log. Releases BASE.lock.
     pub fn begin(rt: &'a R, place: RunPlace<'_>, held: &'a LockedFiles) -> Self {
         let mut log = SessionLog::Closed;
         let mut files = DataFiles::none();
@@ -105,13 +105,17 @@ impl<'a, R: Files<File = File> + AllocGlobal> SessionSaves<'a, R> {
     }
 
     // Takes over the data files that a save has created. Closes the log, since another program may have replaced a new file that is open in
-    // it. The next save opens the files by their names.
-    fn take_made(&mut self, rt: &R, place: &Place) {
-        let _ = close_log(rt.alloc(), self.log.take());
+    // it. The next save opens the files by their names. If the log cannot be closed, the save is `Pending`.
+    fn take_made(&mut self, rt: &R, place: &Place, saved: SaveOutcome) -> SaveOutcome {
+        let closed = close_log(rt.alloc(), self.log.take());
         let mut files = DataFiles::none();
         files.open_more(rt, &place.names);
         self.seen = self.seen.with_made(&files);
         self.files = files;
+        match closed {
+            Ok(()) => saved,
+            Err(_) => SaveOutcome::Pending,
+        }
     }
 }
 
@@ -155,11 +159,12 @@ pub fn save_session<'a, R: Files<File = File> + Clock + AllocGlobal>(
         Ok(None) => save_looking(rt, place, held, saves, image),
         Err(fault) => Err(fault),
     };
-    if let Ok(SaveOutcome::Whole | SaveOutcome::Pending) = saved
-        && saves.seen.lacks_file()
-    {
-        saves.take_made(rt, &held.place);
-    }
+    let saved = match saved {
+        Ok(made) if made != SaveOutcome::Unchanged && saves.seen.lacks_file() => {
+            Ok(saves.take_made(rt, &held.place, made))
+        }
+        saved => saved,
+    };
     match saved {
         Ok(SaveOutcome::Whole | SaveOutcome::Unchanged) => held.locks.leave_files(),
         Ok(SaveOutcome::Pending) => held.locks.leave_unfinished(),

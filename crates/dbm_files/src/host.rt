@@ -44,7 +44,7 @@ impl SaveFile {
         }
     }
 
-    // Syncs a file, unless it is missing or has not been written since its last sync. There may be a note that `.dir` is durable.
+    // Syncs a file, unless it is missing, has not been written since its last sync, or is a `.dir` that is durable by its note.
     fn sync(&mut self, part: DiskFile, notes: &DurableNotes) -> io::Result<()> {
         if !self.is_synced
             && let Some(file) = &self.file

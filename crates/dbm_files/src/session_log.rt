@@ -137,7 +137,8 @@ fn mark_log<'a, R: Files<File = File> + AllocGlobal>(
 /// Saves a database in a session: takes BASE.lock, and releases it once the save is committed. The first save opens a log. A later save
 /// needs one sync, as long as this log stays open. If the log is full, or the data files may need new blocks of the disk, the log is
 /// closed; then the files are read again, and the database is saved in a new log. If the database is large, each save opens a new log. If
-/// the disk has no room for a log that stays open, the save uses a log for this save alone.
+/// the disk has no room for a log that stays open, the save uses a log for this save alone. A save that has created a data file closes the
+/// log, and is `Pending` if that fails.
 ///
 /// A save within some milliseconds after a look at the files does not look again, since a system may write the inodes of the files at each
 /// sync after their times were read. It compares `.dir` and the pages that it writes with the bytes that it knows, and the next look

@@ -65,7 +65,7 @@ pub(crate) fn fine_time(changed: Changed) -> Option<Duration> {
     Some(seconds.saturating_add(nanos))
 }
 
-/// Returns `true` if no later change can have the same time: the time is not in whole seconds, and at least `age` before now, since two
+/// Returns `true` if no later change can have the same time: the time is not in whole seconds, and more than `age` before now, since two
 /// changes within a tick of the system's clock may have the same time. `now` is counted from 1970.
 pub(crate) fn is_settled(changed: Changed, now: Duration, age: Duration) -> bool {
     match fine_time(changed) {

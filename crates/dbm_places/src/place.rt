@@ -50,7 +50,7 @@ impl SeenFiles {
         }
     }
 
-    /// Returns the IDs of the files to which the names of the data files refer now. Links are followed.
+    /// Returns the IDs of the files that have the names of the data files now. Links are followed.
     ///
     /// # Errors
     /// `Moved` with the first file that cannot be looked up.
@@ -363,7 +363,7 @@ pub fn is_named<R: Files>(rt: &R, name: &str, file: &File) -> bool {
     }
 }
 
-// Returns the ID of the file to which a name refers, or `None` if the file is missing.
+// Returns the ID of the file with this name, or `None` if the file is missing.
 fn id_of<R: Files>(rt: &R, name: &str) -> Result<Option<FileId>, FilesFault> {
     match fs::metadata(rt, name) {
         Ok(found) => Ok(Some(FileId::of(&found))),

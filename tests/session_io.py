@@ -5,6 +5,11 @@ import subprocess
 
 SECONDS = 60
 
+# A program that counts its runs in eight bytes.
+COUNTER = (
+    "a502050008000000791600000000000007060000010000007b61000000000000b7000000010000009500000000000000b7000000000000009500000000000000"
+)
+
 
 class Count:
     """The number of checks, and of those that failed."""
@@ -72,5 +77,5 @@ def run(program, folder, *words, text=""):
     return subprocess.run([program, *words], cwd=folder, input=text, capture_output=True, text=True, timeout=SECONDS)
 
 
-def listed(program, folder):
-    return run(program, folder, "list", "db").stdout
+def listed(program, folder, base="db"):
+    return run(program, folder, "list", base).stdout

@@ -22,7 +22,7 @@ use Rattle.store_cmd.specs.declared.Reply.{Reply}
 use Rattle.boddurci_handles.specs.declared.status.Status.{Status}
 use Rattle.boddurci_c.specs.Calls.{DoesCommand, RunsBy, ReadsUnmarked}
 use Rattle.boddurci_handles.specs.declared.opened.Db.{Db}
-use Rattle.boddurci_handles.specs.Marks.{DifferOn, DifferOn-prop}
+use Rattle.store_marks.specs.Marks.{DifferOn, DifferOn-prop}
 
 abbrev with : (d : Db) (image : Database) (marks : List ℕ) → DifferOn marks d.base.database image → Db
 with d image marks differ = record { image = image; registry = d.registry; marks = marks; limit = d.limit; base = d.base; differ = differ }
@@ -34,21 +34,6 @@ same_db d image marks differ same_image same_marks =
     subst (λ (i : Database). (h : DifferOn marks d.base.database i) → with d i marks h ≡ d) (sym same_image)
     (subst (λ (m : List ℕ). (h : DifferOn m d.base.database d.image) → with d d.image m h ≡ d) (sym same_marks) (λ h. ap (λ (k : DifferOn d.marks d.base.database d.image). with d d.image d.marks k) (DifferOn-prop d.marks d.base.database d.image h d.differ)))
     differ
-
-module _ (base image image' : Database) (marks marks' : List ℕ) where
-  pub differ_same : image' ≡ image → marks' ≡ marks → DifferOn marks base image → DifferOn marks' base image'
-  differ_same same_image same_marks differ =
-      subst (λ (i : Database). DifferOn marks' base i) (sym same_image) (subst (λ (m : List ℕ). DifferOn m base image) (sym same_marks) differ)
-
-pub differ_either : {A B : Type 0} (r : Result A B) (base image image' : Database) (marks marks' : List ℕ) → OnOk r ((b : Database) → DifferOn marks b image → DifferOn marks' b image') → OnErr r (image' ≡ image) → OnErr r (marks' ≡ marks)
-    → DifferOn marks base image → DifferOn marks' base image'
-differ_either (Ok a) base image image' marks marks' ok err kept differ = ok base differ
-differ_either (Err b) base image image' marks marks' ok err kept differ = differ_same base image image' marks marks' err kept differ
-
-pub differ_unless : (done : Bool) (base image image' : Database) (marks marks' : List ℕ) → (done ≡ true → (b : Database) → DifferOn marks b image → DifferOn marks' b image') → (done ≡ false → image' ≡ image) → (done ≡ false → marks' ≡ marks)
-    → DifferOn marks base image → DifferOn marks' base image'
-differ_unless true base image image' marks marks' ok err kept differ = ok refl base differ
-differ_unless false base image image' marks marks' ok err kept differ = differ_same base image image' marks marks' (err refl) (kept refl) differ
 
 -- ---- commands that leave the database unchanged
 

@@ -7,7 +7,7 @@ use Rattle.sdbm_addr.specs.Database.{pairs_at}
 use Rattle.sdbm_saves.specs.declared.marked.Marked.{Marked}
 use Rattle.sdbm_saves.specs.Parts.{ReadsPage, ReadPages, IsMarkedIn}
 use Rattle.boddurci_handles.specs.declared.opened.Db.{Db}
-use Rattle.boddurci_handles.specs.Marks.{AreAmong}
+use Rattle.store_marks.specs.Marks.{AreAmong}
 use Rattle.boddurci_c.specs.Plans.{IsReadBeside}
 
 -- the file has every other page as a save of the database would write it

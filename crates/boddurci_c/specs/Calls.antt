@@ -38,7 +38,7 @@ use Rattle.boddurci_handles.specs.declared.status.Status.TheVariants.{Done, Miss
 use Rattle.boddurci_handles.specs.Statuses.{status_code, status_of_reply}
 use Rattle.boddurci_c.specs.Units.{unit_in, nowhere}
 use Rattle.boddurci_handles.specs.Growth.{FitsWithin, Outgrows}
-use Rattle.boddurci_handles.specs.Marks.{HasMoreMarks}
+use Rattle.store_marks.specs.Marks.{HasMoreMarks}
 
 -- ---- a handle before a call and after it
 

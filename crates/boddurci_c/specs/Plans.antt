@@ -13,7 +13,7 @@ use Rattle.boddurci_handles.specs.declared.status.Status.{Status}
 use Rattle.boddurci_handles.specs.declared.status.Status.TheVariants.{Done, ShortRoom, Stale, TooLong, NoMemory}
 use Rattle.boddurci_handles.specs.Statuses.{status_code}
 use Rattle.boddurci_c.specs.Calls.{At, IsCopied}
-use Rattle.boddurci_handles.specs.Marks.{AreAmong}
+use Rattle.store_marks.specs.Marks.{AreAmong}
 
 -- the `.pag` after a plan; an empty plan leaves it unchanged
 abbrev pub pages_left : List ℕ → List ℕ → List ℕ

@@ -11,9 +11,7 @@ ghost use Rattle.boddurci_c.specs.Calls.{DoesCommand, DeniesBy, RunsBy, DeniesRu
 ghost use Rattle.boddurci_c.specs.Tickets.{IsRunAsked};
 
 use crate::rooms::copy_out;
-use boddurci_handles::{
-    Db, Job, Status, has_pairs, may_grow, most_pages, put_marked, run_there, store_there,
-};
+use boddurci_handles::{Db, Job, Status, has_pairs, may_grow, most_pages};
 use bpf_verify::Verified;
 use prog_registry::ProgId;
 use sdbm_addr::{Bytes, Mode};
@@ -21,6 +19,7 @@ use sdbm_files::MemSink;
 use std::alloc::{AllocError, Global};
 use std::sync::Arc;
 use store_cmd::{Command, Program, Reply, check_pair, check_run};
+use store_marks::{put_marked, run_there, store_there};
 use store_moves::{key_in, work_at};
 
 // Executes a command that has a key and a valid size, unless it would extend `.pag` past its limit.

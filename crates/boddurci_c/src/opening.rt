@@ -8,11 +8,12 @@ ghost use Rattle.sdbm_saves.specs.Parts.{ReadsPage};
 ghost use Rattle.boddurci_handles.specs.Pieces.{bytes_read};
 ghost use Rattle.boddurci_c.specs.Calls.{IsDbOpened, ReadsUnmarked, empty_registry};
 
-use boddurci_handles::{Base, Db, Marks, Reading};
+use boddurci_handles::{Db, Reading};
 use prog_registry::Registry;
 use sdbm_addr::{KeyBytes, PageSize};
 use sdbm_files::{BLOCK, Image, OpenFault, ReadPages};
 use std::alloc::{AllocError, Global};
+use store_marks::{Base, Marks};
 
 // The default limit of a `.pag` in bytes, and the highest limit that takes effect.
 const LONGEST: usize = 1_073_741_824;

@@ -5,10 +5,11 @@ ghost use Rattle.boddurci_c.specs.Page.{TurnsTo, PlansPage, bytes_of_plan};
 ghost use Rattle.boddurci_handles.specs.declared.status.Status.TheVariants.{Done, Stale};
 
 use crate::rooms::copy_out;
-use boddurci_handles::{Base, Db, Status};
+use boddurci_handles::{Db, Status};
 use sdbm_addr::PageSize;
 use sdbm_saves::Part;
 use std::alloc::Global;
+use store_marks::Base;
 use store_parts::{open_next_part, plan_after};
 
 // Returns true if the page is whole, and the file consists of whole pages.

@@ -1,12 +1,13 @@
 //! The plan of a save.
 ghost use Rattle.std.specs.Prelude.{◌≡◌, ◌↔◌, ◌⊎◌, ◌*◌, IsTrue, IfOk, IfErr, OnOk};
-ghost use Rattle.boddurci_handles.specs.Marks.{AreAmong};
+ghost use Rattle.store_marks.specs.Marks.{AreAmong};
 ghost use Rattle.boddurci_c.specs.Plans.{HasRead, PlansFor, PlansOn, DeniesPlan};
 
 use crate::rooms::copy_out;
-use boddurci_handles::{Base, Db, Marks, Status};
+use boddurci_handles::{Db, Status};
 use sdbm_saves::{Marked, SavePlanFault, plan_marked};
 use std::alloc::{AllocError, Global};
+use store_marks::{Base, Marks};
 
 /// Writes the plan of a save to `room` if it fits, and sets its length either way. The plan turns the old files, of which some
 /// pages were read, into those of the database. It is empty if nothing differs. Once the plan is written, the database is its

@@ -1,5 +1,3 @@
-pub mod Marked
-pub mod Marking
 pub mod Values
 pub mod Handles
 pub mod Tickets

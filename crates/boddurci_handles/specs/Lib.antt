@@ -1,4 +1,3 @@
-pub mod Marks
 pub mod Growth
 pub mod Held
 pub mod Statuses

@@ -8,12 +8,10 @@ ghost use Rattle.store_moves.specs.Works.{HasKey};
 ghost use Rattle.sdbm_files.specs.Limits.{FitsFiles};
 ghost use Rattle.boddurci_handles.specs.Asked.{asked_result};
 ghost use Rattle.boddurci_handles.specs.Growth.{FitsWithin, has_pairs, may_grow, most_in};
-ghost use Rattle.boddurci_handles.specs.Marks.{HasMoreMarks, DifferOn};
+ghost use Rattle.store_marks.specs.Marks.{HasMoreMarks, DifferOn};
 ghost use Rattle.boddurci_handles.specs.Asked.{IsAskedOf, IsCurrent, DeniesFinish, worked_out};
 
-use crate::changes::put_marked;
 use crate::growth::{lends_pairs, may_grow, most_pages};
-use crate::marks::Marks;
 use crate::status::Status;
 use sdbm_addr::KeyBytes;
 use sdbm_dir::Place;
@@ -21,6 +19,7 @@ use sdbm_files::Image;
 use std::alloc::{AllocError, Global};
 use std::marker::Model;
 use store_cmd::{Command, Reply};
+use store_marks::{Marks, put_marked};
 use store_moves::{PageCopy, Worked, key_in, work_on};
 
 /// A requested command, with the place of its key, the hash kind of the database, a snapshot of the page, and the result once

@@ -1,11 +1,10 @@
 //! An open database with its programs.
-ghost use Rattle.boddurci_handles.specs.Marks.{DifferOn, DifferOn-prop};
+ghost use Rattle.store_marks.specs.Marks.{DifferOn, DifferOn-prop};
 
-use crate::base::Base;
-use crate::marks::Marks;
 use prog_registry::Registry;
 use sdbm_files::Image;
 use std::alloc::Global;
+use store_marks::{Base, Marks};
 
 /// An open database with its programs, the maximum number of pages of its `.pag`, and the numbers of the pages that may differ
 /// from its base: the database that was opened, or from which the last plan was made.

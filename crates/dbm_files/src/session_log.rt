@@ -1,31 +1,35 @@
 //! The saves of a session, whose log stays open from one save to the next.
-ghost use Rattle.std.specs.Prelude.{◌≡◌, ◌≢◌, ◌<◌, [], length, get_or, IfOk, IfSome};
+ghost use Rattle.std.specs.Prelude.{◌≡◌, ◌≢◌, ◌<◌, [], length, get_or, IfOk, IfSome, None, OnOk, Some};
 ghost use Rattle.sdbm_saves.specs.CallLog.{acts};
 ghost use Rattle.sdbm_saves.specs.Redo.{renewed, IsPlan, Knows};
 ghost use Rattle.sdbm_saves.specs.declared.disk.DiskFile.TheVariants.{Pages, Directory};
-ghost use Rattle.sdbm_logged.specs.Keeping.{bytes_of};
+ghost use Rattle.sdbm_saves.specs.Saves.{AreFilesFor, IsSaving};
+ghost use Rattle.store_marks.specs.Noted.{AreNoted};
+ghost use Rattle.dbm_files.specs.Sessions.{IsSavedAs, saved_in};
 
 use crate::files::{LockedFiles, read_again};
 use crate::host::{RealFiles, forget_redo};
 use crate::saving::SaveOutcome;
-use crate::sight::{Look, Sight, knows};
+use crate::sight::{Look, Sight, have_bytes, knows};
 use crate::states::DataStates;
 use crate::writing::{find_redo, must_be_unwritten, save_held};
 use dbm_places::{DataFiles, FileBytes, FilesFault, Place, RunPlace, SeenFiles};
 use sdbm_files::Image;
 use sdbm_logged::{
-    DataBytes, Keeper, KeptDisk, LogSave, LoggedDisk, NextSave, PLAN_LIMIT, close_kept, save_first,
-    save_next,
+    DataBytes, Keeper, KeptDisk, LogSave, LoggedDisk, PLAN_LIMIT, close_kept, save_first,
 };
 use sdbm_saves::{
-    CallLog, Contents, FoundRead, GhostImage, ReadFiles, Recorded, Unknown, number, plan_kept,
-    plan_nothing, plan_read,
+    CallLog, Contents, FoundRead, GhostImage, ReadFiles, Recorded, Unknown, number, plan_nothing,
+    plan_read,
 };
 use std::alloc::Global;
 use std::fs::File;
+use std::marker::Model;
 use std::mem;
 use std::rt::Files;
 use std::time::Clock;
+use store_marks::Changes;
+use store_saves::{AfterSave, SavedDisk};
 
 // If `.pag` has at most this many bytes, the session keeps the bytes of both files in memory, and its log takes one save after another.
 const MOST_KEPT: usize = 16_777_216;
@@ -45,14 +49,24 @@ enum SessionLog<'a, R: Files<File = File>> {
     // No log is open: a data file was missing, the log could not be opened, or a save has failed.
     Closed,
     // The log is open and takes the next save.
-    Kept(KeptDisk<SessionDisk<'a, R>>),
+    Kept(SavedDisk<SessionDisk<'a, R>>),
     // The database is large. Its log stays open only for the mark, and is closed before the next save.
     Marked(LoggedDisk<SessionDisk<'a, R>>),
 }
 
 impl<'a, R: Files<File = File>> SessionLog<'a, R> {
-    fn take(&mut self) -> Self {
+    fn take(&mut self) -> Self
+        ensures taken { result ≡ self.old }
+        ensures closed { saved_in self.new ≡ None }
+    {
         mem::replace(self, SessionLog::Closed)
+    }
+
+    fn is_open(&self) -> bool {
+        match self {
+            SessionLog::Closed => false,
+            SessionLog::Kept(_) | SessionLog::Marked(_) => true,
+        }
     }
 
     // Returns the bytes of both data files, if they are in memory.
@@ -60,6 +74,14 @@ impl<'a, R: Files<File = File>> SessionLog<'a, R> {
         match self {
             SessionLog::Kept(kept) => Some(kept.contents()),
             _ => None,
+        }
+    }
+
+    // Returns `true` if these data files have the bytes in memory, or no bytes are in memory. Returns `false` if they cannot be read.
+    fn is_in(&self, files: &DataFiles) -> bool {
+        match self.kept() {
+            Some(kept) => have_bytes(files, kept).unwrap_or(false),
+            None => true,
         }
     }
 
@@ -72,7 +94,7 @@ impl<'a, R: Files<File = File>> SessionLog<'a, R> {
     }
 }
 
-/// The state of a session between two saves.
+/// The state of a session between two saves. The model is the database of the last save, if the log is open and the database is known.
 #[derive(Drop)]
 pub struct SessionSaves<'a, R: Files<File = File>> {
     log: SessionLog<'a, R>,
@@ -82,6 +104,19 @@ pub struct SessionSaves<'a, R: Files<File = File>> {
     files: DataFiles,
     // What the session saw when it last looked at its data files.
     sight: Sight,
+}
+
+impl<'a, R: Files<File = File>> Model for SessionSaves<'a, R> {
+    ghost use Rattle.std.specs.Coded.{codes};
+    ghost use Rattle.std.specs.Prelude.{Option};
+    ghost use Rattle.sdbm_addr.specs.Database.{Database, coded_database};
+    ghost use Rattle.dbm_files.specs.Sessions.{saved_in};
+
+    ghost Value = { Option Database };
+
+    ghost coded = { Prim.hlevel (codes, coded_database) };
+
+    ghost view = { λ a. saved_in a.log };
 }
 
 impl<'a, R: Files<File = File> + AllocGlobal> SessionSaves<'a, R> {
@@ -104,15 +139,20 @@ impl<'a, R: Files<File = File> + AllocGlobal> SessionSaves<'a, R> {
         }
     }
 
-    // Takes over the data files that a save has created. Closes the log, since another program may have replaced a new file that is open in
-    // it. The next save opens the files by their names. If the log cannot be closed, the save is `Pending`.
-    fn take_made(&mut self, rt: &R, place: &Place, saved: SaveOutcome) -> SaveOutcome {
-        let closed = close_log(rt.alloc(), self.log.take());
+    // Takes over the data files that a save has created. If the files that have their names now have other bytes, or cannot be read, another
+    // program has written or replaced a new file, and the next save fails with `Changed`. Closes the log, in which a replaced file may be
+    // open; the next save opens the files by their names. If the log cannot be closed, the save is `Pending`.
+    fn take_made(&mut self, rt: &R, place: &Place, saved: SaveOutcome) -> SaveOutcome
+        ensures { self.new ≡ None }
+    {
         let mut files = DataFiles::none();
         files.open_more(rt, &place.names);
+        if !self.log.is_in(&files) {
+            self.sight.refuse();
+        }
         self.seen = self.seen.with_made(&files);
         self.files = files;
-        match closed {
+        match close_log(rt.alloc(), self.log.take()) {
             Ok(()) => saved,
             Err(_) => SaveOutcome::Pending,
         }
@@ -142,7 +182,7 @@ fn mark_log<'a, R: Files<File = File> + AllocGlobal>(
 ///
 /// A save within some milliseconds after a look at the files does not look again, since a system may write the inodes of the files at each
 /// sync after their times were read. It compares `.dir` and the pages that it writes with the bytes that it knows, and the next look
-/// compares all. A save without a change looks.
+/// compares all. A save without a change looks. Since the last save, the database must have changed only on the pages in `changes`.
 ///
 /// # Errors
 /// `Changed` if another program has written a data file since the session read or saved it; nothing is saved then. The errors of
@@ -153,9 +193,13 @@ pub fn save_session<'a, R: Files<File = File> + Clock + AllocGlobal>(
     held: &'a LockedFiles,
     saves: &mut SessionSaves<'a, R>,
     image: &Image<Global>,
-) -> Result<SaveOutcome, FilesFault> {
+    changes: &Changes,
+) -> Result<SaveOutcome, FilesFault>
+    requires noted { AreNoted saves.old changes.now image.now }
+    ensures saved { OnOk result (IfSome saves.new (λ base. base ≡ image.now)) }
+{
     held.locks.enter_files()?;
-    let saved = match save_soon(rt, held, saves, image) {
+    let saved = match save_soon(rt, held, saves, image, changes) {
         Ok(Some(saved)) => Ok(saved),
         Ok(None) => save_looking(rt, place, held, saves, image),
         Err(fault) => Err(fault),
@@ -180,14 +224,19 @@ fn save_soon<'a, R: Files<File = File> + Clock + AllocGlobal>(
     held: &'a LockedFiles,
     saves: &mut SessionSaves<'a, R>,
     image: &Image<Global>,
-) -> Result<Option<SaveOutcome>, FilesFault> {
+    changes: &Changes,
+) -> Result<Option<SaveOutcome>, FilesFault>
+    requires noted { AreNoted saves.old changes.now image.now }
+    ensures saved { IfOk result (λ saved. saved ≢ None → IfSome saves.new (λ base. base ≡ image.now)) }
+{
     if !saves.sight.is_recent(rt, &held.place) {
         return Ok(None);
     }
-    let saved = save_more(rt.alloc(), &mut saves.log, image, Some(&saves.files))?;
+    let files = Some(&saves.files);
+    let saved = save_more(rt.alloc(), &mut saves.log, image, changes, files)?;
     match saved {
-        Some(SaveOutcome::Whole) => saves.sight.note_save(true),
-        Some(_) => saves.sight.note_save(false),
+        Some(SaveOutcome::Whole) => saves.sight.note_save(),
+        Some(_) => saves.sight.renew(rt, &held.place, None, false),
         None => (),
     }
     Ok(saved)
@@ -200,7 +249,9 @@ fn save_looking<'a, R: Files<File = File> + Clock + AllocGlobal>(
     held: &'a LockedFiles,
     saves: &mut SessionSaves<'a, R>,
     image: &Image<Global>,
-) -> Result<SaveOutcome, FilesFault> {
+) -> Result<SaveOutcome, FilesFault>
+    ensures saved { OnOk result (IfSome saves.new (λ base. base ≡ image.now)) }
+{
     let look = Look::begin(rt, &held.place);
     let seen = saves.seen;
     held.place.must_be_held(rt, &held.locks, &seen)?;
@@ -209,34 +260,44 @@ fn save_looking<'a, R: Files<File = File> + Clock + AllocGlobal>(
         let _ = close_log(rt.alloc(), saves.log.take());
         return Err(FilesFault::Changed);
     }
+    let unwritten = if saves.log.is_open() {
+        Some(found)
+    } else {
+        None
+    };
     if saves.sight.is_other(found) || image.pag_len() > MOST_KEPT as u64 {
         close_log(rt.alloc(), saves.log.take())?;
     }
-    let saved = save_locked(rt, place, held, &seen, &mut saves.log, image);
-    let look = if saves.log.is_short() { look } else { None };
+    let saved = save_locked(rt, place, held, unwritten, saves, image);
     let is_held = saves.files.seen() == seen && saves.files.are_named(rt, &held.place.names);
-    saves
-        .sight
-        .renew(rt, &held.place, if is_held { look } else { None });
+    let by_bytes = is_held && saves.log.is_short();
+    saves.sight.renew(rt, &held.place, look, by_bytes);
     saved
 }
 
-// Saves under BASE.lock: in the open log if it takes another save, otherwise in a new one.
+// Saves under BASE.lock: in the open log if it takes another save, otherwise in a new one. Fails with `Changed` if the data files do not have
+// the states `found` when they are read for a new log. `found` must be `None` if the redo file may have a save that this read recovers.
 fn save_locked<'a, R: Files<File = File> + AllocGlobal>(
     rt: &'a R,
     place: RunPlace<'_>,
     held: &'a LockedFiles,
-    seen: &SeenFiles,
-    log: &mut SessionLog<'a, R>,
+    found: Option<DataStates>,
+    saves: &mut SessionSaves<'a, R>,
     image: &Image<Global>,
-) -> Result<SaveOutcome, FilesFault> {
-    if let Some(saved) = save_more(rt.alloc(), log, image, None)? {
+) -> Result<SaveOutcome, FilesFault>
+    ensures saved { OnOk result (IfSome saves.new (λ base. base ≡ image.now)) }
+{
+    if let Some(saved) = save_more(rt.alloc(), &mut saves.log, image, &Changes::Any, None)? {
         return Ok(saved);
     }
-    close_log(rt.alloc(), log.take())?;
-    let read = read_again(rt, place, held, seen)?;
-    match save_opening(rt, held, &read, Some(image), log) {
-        Err(FilesFault::WriteFile) => save_alone(rt, place, held, seen, image),
+    close_log(rt.alloc(), saves.log.take())?;
+    let seen = saves.seen;
+    let read = read_again(rt, place, held, &seen)?;
+    if let Some(found) = found {
+        must_be_unwritten(rt, &held.place.names, found)?;
+    }
+    match save_opening(rt, held, &read, Some(image), &mut saves.log) {
+        Err(FilesFault::WriteFile) => save_alone(rt, place, held, &seen, image),
         saved => saved,
     }
 }
@@ -251,7 +312,7 @@ pub fn close_session<R: Files<File = File> + AllocGlobal>(
     held: &LockedFiles,
     saves: &mut SessionSaves<'_, R>,
 ) -> Result<(), FilesFault> {
-    if let SessionLog::Closed = saves.log {
+    if !saves.log.is_open() {
         return Ok(());
     }
     held.locks.enter_files()?;
@@ -266,7 +327,7 @@ fn close_log<R: Files<File = File>>(
     match log {
         SessionLog::Closed => Ok(()),
         SessionLog::Kept(kept) => {
-            let (mut disk, keeper) = kept.into_parts();
+            let (mut disk, keeper) = kept.into_kept().into_parts();
             Ok(close_kept(alloc, &mut disk, keeper.log)?)
         }
         SessionLog::Marked(marked) => {
@@ -292,17 +353,22 @@ fn save_alone<R: Files<File = File> + AllocGlobal>(
     save_held(rt, held, &read.seen, old, image)
 }
 
-// Saves in a log that stays open. Returns `None` if the log cannot take the save: it is not open for that, or it has no room; or if `files` are
-// given, and nothing has changed, or these data files have other bytes than the known ones where the save needs them. Then, and after an error
-// before the save begins, the log is unchanged.
+// Saves in a log that stays open. Since the last save, the database must have changed only on the pages in `changes`. Returns `None` if the
+// log cannot take the save: it is not open for that, or it has no room; or if `files` are given, and nothing has changed, or these data
+// files have other bytes than the known ones where the save needs them. Then, and after an error before the save begins, log and data files
+// are unchanged.
 fn save_more<'a, R: Files<File = File>>(
     alloc: Global,
     log: &mut SessionLog<'a, R>,
     image: &Image<Global>,
+    changes: &Changes,
     files: Option<&DataFiles>,
-) -> Result<Option<SaveOutcome>, FilesFault> {
+) -> Result<Option<SaveOutcome>, FilesFault>
+    requires noted { AreNoted (saved_in log.old) changes.now image.now }
+    ensures saved { IfOk result (λ saved. saved ≢ None → IsSavedAs image.now log.new) }
+{
     match log.take() {
-        SessionLog::Kept(kept) => save_kept(alloc, kept, image, files, log),
+        SessionLog::Kept(kept) => save_kept(alloc, kept, image, changes, files, log),
         other => {
             *log = other;
             Ok(None)
@@ -313,12 +379,16 @@ fn save_more<'a, R: Files<File = File>>(
 // Saves in an open log, like `save_more`.
 fn save_kept<'a, R: Files<File = File>>(
     alloc: Global,
-    kept: KeptDisk<SessionDisk<'a, R>>,
+    kept: SavedDisk<SessionDisk<'a, R>>,
     image: &Image<Global>,
+    changes: &Changes,
     files: Option<&DataFiles>,
     log: &mut SessionLog<'a, R>,
-) -> Result<Option<SaveOutcome>, FilesFault> {
-    match plan_kept(alloc, kept.contents(), image) {
+) -> Result<Option<SaveOutcome>, FilesFault>
+    requires noted { AreNoted kept.1 changes.now image.now }
+    ensures saved { IfOk result (λ saved. saved ≢ None → IsSavedAs image.now log.new) }
+{
+    match kept.plan(alloc, image, changes) {
         Ok(Some(plan)) => {
             let size = image.page_size();
             let is_known = match files {
@@ -326,7 +396,7 @@ fn save_kept<'a, R: Files<File = File>>(
                 None => Ok(true),
             };
             match is_known {
-                Ok(true) => save_planned(alloc, kept, plan.as_slice(), log),
+                Ok(true) => save_planned(alloc, kept, plan.as_slice(), image, log),
                 other => {
                     *log = SessionLog::Kept(kept);
                     other?;
@@ -334,13 +404,16 @@ fn save_kept<'a, R: Files<File = File>>(
                 }
             }
         }
-        Ok(None) => {
-            *log = SessionLog::Kept(kept);
-            match files {
-                Some(_) => Ok(None),
-                None => Ok(Some(SaveOutcome::Unchanged)),
+        Ok(None) => match files {
+            Some(_) => {
+                *log = SessionLog::Kept(kept);
+                Ok(None)
             }
-        }
+            None => {
+                *log = SessionLog::Kept(SavedDisk::of(kept.into_kept(), image));
+                Ok(Some(SaveOutcome::Unchanged))
+            }
+        },
         Err(fault) => {
             *log = SessionLog::Kept(kept);
             Err(fault.into())
@@ -348,25 +421,28 @@ fn save_kept<'a, R: Files<File = File>>(
     }
 }
 
-// Saves a plan in an open log, which stays open. Returns `None` if the log has no room for it; the log is unchanged then.
+// Saves a plan in an open log, which stays open. Returns `None` if the log has no room for it; the data files are unchanged then.
 fn save_planned<'a, R: Files<File = File>>(
     alloc: Global,
-    kept: KeptDisk<SessionDisk<'a, R>>,
+    kept: SavedDisk<SessionDisk<'a, R>>,
     plan: &[u8],
+    image: &Image<Global>,
     log: &mut SessionLog<'a, R>,
 ) -> Result<Option<SaveOutcome>, FilesFault>
-    requires plan { IsPlan plan.now }
-    requires knows { Knows plan.now (bytes_of kept.1.files) }
+    requires saving { IsSaving image.now plan.now kept.0.1.files.pages.items kept.0.1.files.directory.items }
+    ensures saved { IfOk result (λ saved. saved ≢ None → IsSavedAs image.now log.new) }
 {
-    let (mut disk, mut keeper) = kept.into_parts();
-    match save_next(alloc, &mut disk, &mut keeper, plan)? {
-        NextSave::Full => {
-            *log = SessionLog::Kept(KeptDisk::new(disk, keeper));
+    match kept.save(alloc, plan, image)? {
+        AfterSave::Full(kept) => {
+            *log = SessionLog::Kept(SavedDisk::new(kept));
             Ok(None)
         }
-        NextSave::Pending(_) => Ok(Some(SaveOutcome::Pending)),
-        NextSave::Done => {
-            *log = SessionLog::Kept(KeptDisk::new(disk, keeper));
+        AfterSave::Pending(_) => {
+            *log = SessionLog::Closed;
+            Ok(Some(SaveOutcome::Pending))
+        }
+        AfterSave::Done(saved) => {
+            *log = SessionLog::Kept(saved);
             Ok(Some(SaveOutcome::Whole))
         }
     }
@@ -379,7 +455,10 @@ fn save_opening<'a, R: Files<File = File> + AllocGlobal>(
     read: &FileBytes,
     image: Option<&Image<Global>>,
     log: &mut SessionLog<'a, R>,
-) -> Result<SaveOutcome, FilesFault> {
+) -> Result<SaveOutcome, FilesFault>
+    ensures unknown { OnOk result (saved_in log.new ≡ None) }
+    ensures closed { saved_in log.old ≡ None → saved_in log.new ≡ None }
+{
     let names = &held.place.names;
     let old = ReadFiles {
         pages: &read.pages,
@@ -468,13 +547,17 @@ fn save_found<'a, R: Files<File = File>>(
     requires knows { Knows plan.now (found.files.pages.now.bytes, found.files.directory.now) }
     requires pages { IfSome new (λ new. new.pages.items ≡ renewed Pages plan.now found.files.pages.now.bytes) }
     requires directory { IfSome new (λ new. new.directory.items ≡ renewed Directory plan.now found.files.directory.now) }
+    ensures unknown { IfOk result (λ log. saved_in log ≡ None) }
 {
     let noted = GhostImage::of_read(found.files.pages, found.files.directory, found.redo);
     let mut disk = Recorded::<RealFiles<'a, R>, Unknown, GhostImage>::new(files, noted);
     match save_first(alloc, &mut disk, found.redo, plan, ROOM)? {
         (LogSave::Pending(_), _) => Ok(SessionLog::Closed),
         (LogSave::Done, log) => match new {
-            Some(files) => Ok(SessionLog::Kept(KeptDisk::new(disk, Keeper { log, files }))),
+            Some(files) => {
+                let kept = KeptDisk::new(disk, Keeper { log, files });
+                Ok(SessionLog::Kept(SavedDisk::new(kept)))
+            }
             None => Ok(SessionLog::Marked(LoggedDisk::new(disk, log))),
         },
     }

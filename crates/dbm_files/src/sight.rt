@@ -54,8 +54,8 @@ pub(crate) struct Sight {
     states: DataStates,
     // The last look. `None` if the next save has to look.
     look: Option<Look>,
-    // The session has saved since the last look. Only the bytes of the data files then tell whether another program has written them.
-    has_saved: bool,
+    // Only the bytes of the data files tell whether another program has written them, since the session has written them too.
+    by_bytes: bool,
 }
 
 impl Sight {
@@ -64,7 +64,7 @@ impl Sight {
         Sight {
             states,
             look: None,
-            has_saved: false,
+            by_bytes: false,
         }
     }
 
@@ -76,25 +76,31 @@ impl Sight {
         }
     }
 
-    /// Notes a save without a look. Later saves have to look if it is not `whole`.
-    pub(crate) fn note_save(&mut self, whole: bool) {
-        self.has_saved = true;
-        if !whole {
-            self.look = None;
-        }
+    /// Notes a save without a look.
+    pub(crate) fn note_save(&mut self) {
+        self.by_bytes = true;
     }
 
-    /// Looks at the data files after a save. Later saves may do without a look if there is a `look` that was begun before the names were
-    /// checked. There must be none if a data file is a link, or is not held open.
+    /// Notes that another program has written a data file whose bytes are no longer in memory. The next look then counts as one that finds
+    /// a write.
+    pub(crate) fn refuse(&mut self) {
+        self.by_bytes = true;
+        self.look = None;
+    }
+
+    /// Looks at the data files after a save. If their bytes are in memory and they are held open (`by_bytes`), the next look compares the
+    /// bytes, since another program may have written between the session's own writes and this look. Then later saves may do without a
+    /// look, if there is a `look` that was begun before the names were checked.
     pub(crate) fn renew<R: Files<File = File>>(
         &mut self,
         rt: &R,
         place: &Place,
         look: Option<Look>,
+        by_bytes: bool,
     ) {
         self.states = DataStates::look(rt, &place.names);
-        self.has_saved = false;
-        self.look = look;
+        self.by_bytes = by_bytes;
+        self.look = if by_bytes { look } else { None };
     }
 
     /// Returns `true` if another program has written a data file since the last look, given their states now. `kept` has the bytes that the
@@ -108,26 +114,36 @@ impl Sight {
         found: DataStates,
         kept: Option<Contents<'_>>,
     ) -> Result<bool, FilesFault> {
-        if !self.has_saved {
+        if !self.by_bytes {
             return Ok(found.are_written_since(self.states));
         }
         match kept {
-            Some(kept) if found.are_like(self.states) => {
-                let is_same = files.has(DiskFile::Directory, 0, kept.directory)?
-                    && files.has(DiskFile::Pages, 0, kept.pages)?;
-                Ok(!is_same)
-            }
+            Some(kept) if found.are_like(self.states) => Ok(!have_bytes(files, kept)?),
             _ => Ok(true),
         }
     }
 
-    /// Returns `true` if the inode of a data file has changed since the last look, other than by a save of the session.
+    /// Returns `true` if the owner, the group or the mode of a data file has changed since the last look. If the next look does not compare
+    /// bytes, any other change of an inode counts too.
     pub(crate) fn is_other(self, found: DataStates) -> bool {
-        if self.has_saved {
+        if self.by_bytes {
             return !found.have_rights_of(self.states);
         }
         found != self.states
     }
+}
+
+/// Returns `true` if the data files are open and have these bytes.
+///
+/// # Errors
+/// `ReadFile` if a data file cannot be read.
+pub(crate) fn have_bytes(files: &DataFiles, known: Contents<'_>) -> Result<bool, FilesFault> {
+    Ok(
+        files.is_long(DiskFile::Pages, known.pages.len())
+            && files.is_long(DiskFile::Directory, known.directory.len())
+            && files.has(DiskFile::Directory, 0, known.directory)?
+            && files.has(DiskFile::Pages, 0, known.pages)?,
+    )
 }
 
 /// Returns `true` if the data files have the known lengths, `.dir` has the known bytes, and `.pag` has the known bytes in each page that a

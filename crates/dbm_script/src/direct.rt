@@ -6,6 +6,8 @@ ghost use Rattle.dbm_script.specs.Notation.{hex_bytes, reads_hex};
 ghost use Rattle.dbm_script.specs.Pieces.{pieces_of};
 ghost use Rattle.dbm_script.specs.Script.{AddsBytes, AnswersCommand};
 ghost use Rattle.store_cmd.specs.declared.Command.TheVariants.{Fetch, Store};
+ghost use Rattle.sdbm_addr.specs.Database.{Database};
+ghost use Rattle.store_marks.specs.Noted.{Notes};
 ghost use Rattle.store_moves.specs.Rewrites.{command_of};
 ghost use Rattle.dbm_script.specs.declared.notations.Notation.{Notation};
 
@@ -20,13 +22,14 @@ use sdbm_addr::Mode;
 use sdbm_files::Image;
 use std::alloc::{AllocError, Allocator};
 use store_cmd::{check_pair, check_run};
-use store_moves::{RunInput, act_run, act_store, ran};
+use store_marks::{Changes, run_noted, store_noted};
+use store_moves::{RunInput, ran};
 
 /// The longest word, in bytes after decoding, that is read without allocation.
 const SHORT: usize = 64;
 
 /// Answers a line in hex as session 0 and appends the answer to `text`, without other allocation. The words must be short, and the line
-/// must be a fetch, a store that `act_store` executes, or a run that `act_run` executes. Otherwise returns `false` and changes nothing.
+/// must be a fetch, a store that `store_noted` executes, or a run that `run_noted` executes. Otherwise returns `false` and changes nothing.
 ///
 /// # Errors
 /// `AllocError` if allocation fails. On error, discard `text`: it may be partial. A store or a run may have taken effect.
@@ -34,12 +37,14 @@ pub(crate) fn answer_directly<A: Allocator + Copy>(
     alloc: A,
     notation: &Notation<A>,
     image: &mut Image<A>,
+    changes: &mut Changes,
     registry: &Registry<A>,
     line: &[u8],
     text: &mut Vec<u8, A>,
 ) -> Result<bool, AllocError>
     ensures done { IfOk result (λ done. IfDone A notation.now registry.now.programs (pieces_of 32 line.now) done image.old text.old.items image.new text.new.items) }
     ensures kept { OnOk result ((image.new.kind ≡ image.old.kind) × (image.new.size ≡ image.old.size)) }
+    ensures notes { (base : Database) → Notes changes.old base image.old → Notes changes.new base image.new }
 {
     if !notation.is_hex() {
         return Ok(false);
@@ -52,13 +57,13 @@ pub(crate) fn answer_directly<A: Allocator + Copy>(
         return fetch_directly(alloc, notation, image, words, text);
     }
     if name == b"replace".as_slice() {
-        return store_directly(notation, image, words, Mode::Replace, text);
+        return store_directly(notation, image, changes, words, Mode::Replace, text);
     }
     if name == b"insert".as_slice() {
-        return store_directly(notation, image, words, Mode::Insert, text);
+        return store_directly(notation, image, changes, words, Mode::Insert, text);
     }
     if name == b"run".as_slice() {
-        return run_directly(alloc, notation, image, registry, words, text);
+        return run_directly(alloc, notation, image, changes, registry, words, text);
     }
     Ok(false)
 }
@@ -125,6 +130,7 @@ fn answer_fetch<A: Allocator + Copy>(
 fn store_directly<A: Allocator + Copy>(
     notation: &Notation<A>,
     image: &mut Image<A>,
+    changes: &mut Changes,
     words: &[u8],
     mode: Mode,
     text: &mut Vec<u8, A>,
@@ -132,6 +138,7 @@ fn store_directly<A: Allocator + Copy>(
     requires { reads_hex notation.now ≡ true }
     ensures done { IfOk result (λ done. (programs : List Accepted) → IfDone A notation.now programs (store_name mode ∷ pieces_of 32 words.now) done image.old text.old.items image.new text.new.items) }
     ensures kept { OnOk result ((image.new.kind ≡ image.old.kind) × (image.new.size ≡ image.old.size)) }
+    ensures notes { (base : Database) → Notes changes.old base image.old → Notes changes.new base image.new }
 {
     let (key, rest) = first_piece(b' ', words);
     let Some(value) = rest else {
@@ -147,6 +154,7 @@ fn store_directly<A: Allocator + Copy>(
     };
     answer_store(
         image,
+        changes,
         &key_room[..key_count],
         &value_room[..value_count],
         mode,
@@ -154,9 +162,10 @@ fn store_directly<A: Allocator + Copy>(
     )
 }
 
-// Answers a store, if `act_store` can execute it.
+// Answers a store, if `store_noted` can execute it.
 fn answer_store<A: Allocator + Copy>(
     image: &mut Image<A>,
+    changes: &mut Changes,
     key: &[u8],
     value: &[u8],
     mode: Mode,
@@ -164,11 +173,12 @@ fn answer_store<A: Allocator + Copy>(
 ) -> Result<bool, AllocError>
     ensures done { IfOk result (λ done. (notation : Notation A) → IfAnswered A notation (Store key.now value.now mode) done image.old text.old.items image.new text.new.items) }
     ensures kept { OnOk result ((image.new.kind ≡ image.old.kind) × (image.new.size ≡ image.old.size)) }
+    ensures notes { (base : Database) → Notes changes.old base image.old → Notes changes.new base image.new }
 {
     if check_pair(key, value.len(), image.page_size()).is_err() {
         return Ok(false);
     }
-    if !act_store(image, key, value, mode) {
+    if !store_noted(image, changes, key, value, mode) {
         return Ok(false);
     }
     text.extend_from_slice(b"stored")?;
@@ -180,6 +190,7 @@ fn run_directly<A: Allocator + Copy>(
     alloc: A,
     notation: &Notation<A>,
     image: &mut Image<A>,
+    changes: &mut Changes,
     registry: &Registry<A>,
     words: &[u8],
     text: &mut Vec<u8, A>,
@@ -187,6 +198,7 @@ fn run_directly<A: Allocator + Copy>(
     requires { reads_hex notation.now ≡ true }
     ensures done { IfOk result (λ done. IfDone A notation.now registry.now.programs (codes "run" ∷ pieces_of 32 words.now) done image.old text.old.items image.new text.new.items) }
     ensures kept { OnOk result ((image.new.kind ≡ image.old.kind) × (image.new.size ≡ image.old.size)) }
+    ensures notes { (base : Database) → Notes changes.old base image.old → Notes changes.new base image.new }
 {
     let (key, rest) = first_piece(b' ', words);
     let Some(rest) = rest else {
@@ -207,7 +219,7 @@ fn run_directly<A: Allocator + Copy>(
     let (now, rest) = first_short_piece(b' ', rest);
     match rest {
         None => run_words(
-            alloc, notation, image, registry, key, prog, arg, blank, now, text,
+            alloc, notation, image, changes, registry, key, prog, arg, blank, now, text,
         ),
         Some(_) => Ok(false),
     }
@@ -218,6 +230,7 @@ fn run_words<A: Allocator + Copy>(
     alloc: A,
     notation: &Notation<A>,
     image: &mut Image<A>,
+    changes: &mut Changes,
     registry: &Registry<A>,
     key: &[u8],
     prog: &[u8],
@@ -229,6 +242,7 @@ fn run_words<A: Allocator + Copy>(
     requires { reads_hex notation.now ≡ true }
     ensures done { IfOk result (λ done. IfDone A notation.now registry.now.programs (codes "run" ∷ (key.now ∷ (prog.now ∷ (arg.now ∷ (blank.now ∷ (now.now ∷ [])))))) done image.old text.old.items image.new text.new.items) }
     ensures kept { OnOk result ((image.new.kind ≡ image.old.kind) × (image.new.size ≡ image.old.size)) }
+    ensures notes { (base : Database) → Notes changes.old base image.old → Notes changes.new base image.new }
 {
     let mut key_room = [0; SHORT];
     let Some(key_count) = read_short(key, &mut key_room) else {
@@ -258,25 +272,27 @@ fn run_words<A: Allocator + Copy>(
         arg: &arg_room[..arg_count],
         blank,
     };
-    answer_run_input(alloc, notation, image, &input, text)
+    answer_run_input(alloc, notation, image, changes, &input, text)
 }
 
-// Answers a run, if `act_run` can execute it.
+// Answers a run, if `run_noted` can execute it.
 fn answer_run_input<A: Allocator + Copy>(
     alloc: A,
     notation: &Notation<A>,
     image: &mut Image<A>,
+    changes: &mut Changes,
     input: &RunInput<'_, A>,
     text: &mut Vec<u8, A>,
 ) -> Result<bool, AllocError>
     requires { input.now.session ≡ 0 }
     ensures done { IfOk result (λ done. IfAnswered A notation.now (command_of input.now) done image.old text.old.items image.new text.new.items) }
     ensures kept { OnOk result ((image.new.kind ≡ image.old.kind) × (image.new.size ≡ image.old.size)) }
+    ensures notes { (base : Database) → Notes changes.old base image.old → Notes changes.new base image.new }
 {
     if check_run(input.key, input.arg, input.blank, image.page_size()).is_err() {
         return Ok(false);
     }
-    let Some(ended) = act_run(image, input) else {
+    let Some(ended) = run_noted(image, changes, input) else {
         return Ok(false);
     };
     show_reply(alloc, notation, &ran(ended), text)?;

@@ -3,6 +3,8 @@ ghost use Rattle.std.specs.Prelude.{◌≡◌, IfOk, OnOk};
 ghost use Rattle.dbm_script.specs.Images.{ImageVerdict};
 ghost use Rattle.dbm_script.specs.Incr as spec;
 ghost use Rattle.dbm_script.specs.Script.{AddsBytes, AnswersIncr, stage};
+ghost use Rattle.sdbm_addr.specs.Database.{Database};
+ghost use Rattle.store_marks.specs.Noted.{Notes};
 
 use crate::images::show_refusal;
 use crate::notations::Notation;
@@ -13,6 +15,7 @@ use sdbm_addr::Bytes;
 use sdbm_files::Image;
 use std::alloc::{AllocError, Allocator};
 use stock_names::Stock;
+use store_marks::Changes;
 
 /// The length of a number in bytes.
 pub const NUMBER_LEN: usize = 8;
@@ -52,6 +55,7 @@ pub fn answer_incr<A: Allocator + Copy>(
     alloc: A,
     notation: &Notation<A>,
     image: &mut Image<A>,
+    changes: &mut Changes,
     registry: &mut Registry<A>,
     incr: IncrAsk<A>,
     text: &mut Vec<u8, A>,
@@ -59,6 +63,7 @@ pub fn answer_incr<A: Allocator + Copy>(
     ensures answer { OnOk result (AddsBytes text.old.items text.new.items (λ added. (told : ImageVerdict) ×
         AnswersIncr A notation.now (stage image.old registry.old.programs) incr.key incr.amount told added (stage image.new registry.new.programs))) }
     ensures kept { OnOk result ((image.new.kind ≡ image.old.kind) × (image.new.size ≡ image.old.size)) }
+    ensures notes { (base : Database) → Notes changes.old base image.old → Notes changes.new base image.new }
 {
     let IncrAsk { key, amount } = incr;
     let arg = counter_argument(alloc, amount, 0, u64::MAX)?;
@@ -72,7 +77,7 @@ pub fn answer_incr<A: Allocator + Copy>(
                 blank: Some(NUMBER_LEN),
                 now: 0,
             };
-            answer_run(alloc, notation, image, registry, run, text)
+            answer_run(alloc, notation, image, changes, registry, run, text)
         }
         Err(fault) => show_refusal(alloc, fault, text),
     }

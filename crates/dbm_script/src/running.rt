@@ -1,6 +1,8 @@
 //! Lines that run programs.
 ghost use Rattle.std.specs.Prelude.{◌≡◌, IfOk, OnOk, option_map, slice_get};
 ghost use Rattle.dbm_script.specs.Script.{AddsBytes, AnswersRun, run_command};
+ghost use Rattle.sdbm_addr.specs.Database.{Database};
+ghost use Rattle.store_marks.specs.Noted.{Notes};
 
 use crate::answering::answer_one;
 use crate::notations::Notation;
@@ -10,6 +12,7 @@ use sdbm_files::Image;
 use std::alloc::{AllocError, Allocator};
 use std::sync::Arc;
 use store_cmd::{Command, Program};
+use store_marks::Changes;
 
 /// The run that a line requests. The program, given by its number, runs on the record of the key, or on a blank if the key is missing.
 #[derive(Drop)]
@@ -22,7 +25,7 @@ pub struct RunAsk<A: Allocator> {
     pub now: u64,
 }
 
-/// Runs a program of a registry on a database as session 0, and appends the answer to `text`.
+/// Runs a program of a registry on a database as session 0, and appends the answer to `text`. Notes the pages that change.
 ///
 /// # Errors
 /// `AllocError` if allocation fails. On error, discard `text`: it may be partial.
@@ -30,6 +33,7 @@ pub fn answer_run<A: Allocator + Copy>(
     alloc: A,
     notation: &Notation<A>,
     image: &mut Image<A>,
+    changes: &mut Changes,
     registry: &Registry<A>,
     run: RunAsk<A>,
     text: &mut Vec<u8, A>,
@@ -37,10 +41,11 @@ pub fn answer_run<A: Allocator + Copy>(
     ensures answer { OnOk result (AddsBytes text.old.items text.new.items (λ added.
         AnswersRun A notation.now image.old (run_command registry.now.programs run.key run.prog run.arg run.blank run.now) added image.new)) }
     ensures kept { OnOk result ((image.new.kind ≡ image.old.kind) × (image.new.size ≡ image.old.size)) }
+    ensures notes { (base : Database) → Notes changes.old base image.old → Notes changes.new base image.new }
 {
     match command_of_run(registry, run)? {
         None => text.extend_from_slice(b"refused NoProgram"),
-        Some(command) => answer_one(alloc, notation, image, command, text),
+        Some(command) => answer_one(alloc, notation, image, changes, command, text),
     }
 }
 

@@ -3,6 +3,7 @@ ghost use Rattle.std.specs.Prelude.{◌≡◌, ◌<◌, ◌≤◌, List, ℕ, Op
 ghost use Rattle.std.specs.Io.KnownBytes.{Appends, Keeps};
 ghost use Rattle.byte_text.specs.Writing.{WritesPart};
 ghost use Rattle.sdbm_addr.specs.Database.{Database};
+ghost use Rattle.store_marks.specs.Noted.{Notes};
 ghost use Rattle.dbm_script.specs.Pieces.{pieces_of};
 ghost use Rattle.dbm_script.specs.Lines.{ask_of};
 ghost use Rattle.dbm_script.specs.Shorthand.{spelled_text};
@@ -26,6 +27,7 @@ use prog_registry::Registry;
 use sdbm_files::Image;
 use std::alloc::{AllocError, Allocator};
 use std::io::{Read, Write};
+use store_marks::Changes;
 
 /// The result of running a script.
 #[derive(Drop)]
@@ -86,12 +88,21 @@ pub fn run_lines<A: Allocator + Copy>(
     ensures kept { IfOk result (λ r. (r.0.kind ≡ image.kind) × (r.0.size ≡ image.size)) }
 {
     let mut image = image;
+    let mut changes = Changes::Any;
     let mut registry = Registry::new(alloc)?;
     let mut text = Vec::new(alloc);
     let mut rest = Some(input);
     while let Some(left) = rest {
         let (line, after) = first_piece(b'\n', left);
-        answer_line(alloc, notation, &mut image, &mut registry, line, &mut text)?;
+        answer_line(
+            alloc,
+            notation,
+            &mut image,
+            &mut changes,
+            &mut registry,
+            line,
+            &mut text,
+        )?;
         if text.len() as u64 > most {
             return Err(LinesFault::OutputTooLong);
         }
@@ -119,6 +130,7 @@ pub fn run_spelled<A: Allocator + Copy>(
     ensures kept { IfOk result (λ run. (run.image.kind ≡ image.kind) × (run.image.size ≡ image.size)) }
 {
     let mut image = image;
+    let mut changes = Changes::Any;
     let mut registry = Registry::new(alloc)?;
     let mut text = Vec::new(alloc);
     let mut line = Vec::new(alloc);
@@ -132,6 +144,7 @@ pub fn run_spelled<A: Allocator + Copy>(
             alloc,
             notation,
             &mut image,
+            &mut changes,
             &mut registry,
             line.as_slice(),
             &mut text,
@@ -150,7 +163,8 @@ pub fn run_spelled<A: Allocator + Copy>(
 }
 
 /// Answers one line on a database as session 0. Appends the answer and an LF to `text`; an empty line has no answer. A program that the
-/// line submits is added to the registry. Returns `false` if the line is bad; no clause says so.
+/// line submits is added to the registry, and a page that the line changes is noted in `changes`. Returns `false` if the line is bad; no clause
+/// says so.
 ///
 /// # Errors
 /// `AllocError` if allocation fails.
@@ -158,6 +172,7 @@ pub fn answer_line<A: Allocator + Copy>(
     alloc: A,
     notation: &Notation<A>,
     image: &mut Image<A>,
+    changes: &mut Changes,
     registry: &mut Registry<A>,
     line: &[u8],
     text: &mut Vec<u8, A>,
@@ -165,11 +180,12 @@ pub fn answer_line<A: Allocator + Copy>(
     ensures answer { OnOk result (AddsBytes text.old.items text.new.items (λ added. (told : List (Option ImageVerdict)) ×
         RunsLines A notation.now (stage image.old registry.old.programs) (line.now ∷ []) told added (stage image.new registry.new.programs))) }
     ensures kept { OnOk result ((image.new.kind ≡ image.old.kind) × (image.new.size ≡ image.old.size)) }
+    ensures notes { (base : Database) → Notes changes.old base image.old → Notes changes.new base image.new }
 {
     if line.is_empty() {
         return Ok(true);
     }
-    let is_command = answer_words(alloc, notation, image, registry, line, text)?;
+    let is_command = answer_words(alloc, notation, image, changes, registry, line, text)?;
     text.push(b'\n')?;
     Ok(is_command)
 }
@@ -179,6 +195,7 @@ fn answer_words<A: Allocator + Copy>(
     alloc: A,
     notation: &Notation<A>,
     image: &mut Image<A>,
+    changes: &mut Changes,
     registry: &mut Registry<A>,
     line: &[u8],
     text: &mut Vec<u8, A>,
@@ -186,8 +203,9 @@ fn answer_words<A: Allocator + Copy>(
     ensures answer { OnOk result (AddsBytes text.old.items text.new.items (λ added. (told : Option ImageVerdict) ×
         AnswersLine A notation.now (stage image.old registry.old.programs) (ask_of notation.now (pieces_of 32 line.now)) told added (stage image.new registry.new.programs))) }
     ensures kept { OnOk result ((image.new.kind ≡ image.old.kind) × (image.new.size ≡ image.old.size)) }
+    ensures notes { (base : Database) → Notes changes.old base image.old → Notes changes.new base image.new }
 {
-    if answer_directly(alloc, notation, image, registry, line, text)? {
+    if answer_directly(alloc, notation, image, changes, registry, line, text)? {
         return Ok(true);
     }
     match read_line(alloc, notation, line)? {
@@ -196,7 +214,7 @@ fn answer_words<A: Allocator + Copy>(
             Ok(false)
         }
         Some(ask) => {
-            answer_ask(alloc, notation, image, registry, ask, text)?;
+            answer_ask(alloc, notation, image, changes, registry, ask, text)?;
             Ok(true)
         }
     }
@@ -207,6 +225,7 @@ fn answer_ask<A: Allocator + Copy>(
     alloc: A,
     notation: &Notation<A>,
     image: &mut Image<A>,
+    changes: &mut Changes,
     registry: &mut Registry<A>,
     ask: Ask<A>,
     text: &mut Vec<u8, A>,
@@ -214,11 +233,12 @@ fn answer_ask<A: Allocator + Copy>(
     ensures answer { OnOk result (AddsBytes text.old.items text.new.items (λ added. (told : Option ImageVerdict) ×
         AnswersLine A notation.now (stage image.old registry.old.programs) (Some ask) told added (stage image.new registry.new.programs))) }
     ensures kept { OnOk result ((image.new.kind ≡ image.old.kind) × (image.new.size ≡ image.old.size)) }
+    ensures notes { (base : Database) → Notes changes.old base image.old → Notes changes.new base image.new }
 {
     match ask {
-        Ask::Plain(command) => answer_one(alloc, notation, image, command, text),
+        Ask::Plain(command) => answer_one(alloc, notation, image, changes, command, text),
         Ask::Program(bytes) => answer_image(alloc, registry, bytes.as_slice(), text),
-        Ask::Run(run) => answer_run(alloc, notation, image, registry, run, text),
-        Ask::Incr(incr) => answer_incr(alloc, notation, image, registry, incr, text),
+        Ask::Run(run) => answer_run(alloc, notation, image, changes, registry, run, text),
+        Ask::Incr(incr) => answer_incr(alloc, notation, image, changes, registry, incr, text),
     }
 }

@@ -4,6 +4,7 @@ ghost use Rattle.std.specs.List.{All};
 ghost use Rattle.std.specs.Io.KnownBytes.{Appends};
 ghost use Rattle.dbm_script.specs.Pieces.{pieces_of};
 ghost use Rattle.dbm_script.specs.Script.{stage};
+ghost use Rattle.store_marks.specs.Noted.{AreNoted};
 ghost use Rattle.dbm_session.specs.HostCalls.{DidSave, Logs};
 ghost use Rattle.dbm_session.specs.Sessions.{AnsweredOwn, AnsweredTimed, Answered, SessionEnds, IsOfScript, RunsAsScript, SavesAtMostOne, SavesMaybe, SessionStops, WritesSome, ended_lines, half_after, half_line};
 
@@ -16,6 +17,7 @@ use prog_registry::Registry;
 use sdbm_files::Image;
 use std::alloc::{AllocError, Global};
 use std::io::{Read, Write};
+use store_marks::Changes;
 
 /// The result of a session: the database after its lines, which was saved.
 #[derive(Drop)]
@@ -25,10 +27,11 @@ pub struct SessionEnd {
     pub half_line: Option<u64>,
 }
 
-// The state of a session: the database, and the programs that its lines have submitted.
+// The state of a session: the database, the pages that have changed since the last save, and the programs that its lines have submitted.
 #[derive(Drop)]
 struct Session {
     image: Image<Global>,
+    changes: Changes,
     registry: Registry<Global>,
 }
 
@@ -60,13 +63,17 @@ pub fn run_session<R: Read, W: Write, H: Host>(
     ensures kept { IfOk result (λ ended. (ended.image.kind ≡ image.kind) × (ended.image.size ≡ image.size)) }
 {
     let registry = Registry::new(alloc)?;
-    let mut session = Session { image, registry };
+    let mut session = Session {
+        image,
+        changes: Changes::Any,
+        registry,
+    };
     let mut lines = LineReader::new(alloc);
     let (mut line, mut text) = (Vec::new(alloc), Vec::new(alloc));
     for count in 0..u64::MAX {
         host.ask(false);
         if !lines.next_ended(reader, &mut line, SCRIPT_LIMIT)? {
-            return end(session, host, half_after(count, &line));
+            return end(alloc, session, host, half_after(count, &line));
         }
         session = answer_next(alloc, notation, session, host, line.as_slice(), &mut text)?;
         say(writer, text.as_slice())?;
@@ -87,26 +94,43 @@ fn half_after(count: u64, line: &Vec<u8>) -> Option<u64>
 
 // Saves the final database.
 fn end<H: Host>(
+    alloc: Global,
     session: Session,
     host: &mut H,
     half_line: Option<u64>,
 ) -> Result<SessionEnd, SessionFault<H::Fault>>
+    requires noted { AreNoted (H.saved host.old) session.changes session.image }
     ensures ok { IfOk result (λ ended. (ended.image ≡ session.image) × Logs (H.log host.old) (H.log host.new) (DidSave session.image ∷ [])) }
     ensures half { IfOk result (λ ended. ended.half_line ≡ half_line) }
     ensures lost { OnErr result (SavesAtMostOne (H.log host.old) (H.log host.new)) }
 {
-    let Session { image, .. } = session;
+    let Session {
+        image,
+        mut changes,
+        ..
+    } = session;
     host.ask(true);
-    save(&image, host)?;
+    save(alloc, &image, &mut changes, host)?;
     Ok(SessionEnd { image, half_line })
 }
 
-fn save<H: Host>(image: &Image<Global>, host: &mut H) -> Result<(), SessionFault<H::Fault>>
+// Saves the database. Then no page has changed.
+fn save<H: Host>(
+    alloc: Global,
+    image: &Image<Global>,
+    changes: &mut Changes,
+    host: &mut H,
+) -> Result<(), SessionFault<H::Fault>>
+    requires noted { AreNoted (H.saved host.old) changes.old image.now }
     ensures kept { OnOk result (Logs (H.log host.old) (H.log host.new) (DidSave image.now ∷ [])) }
+    ensures noted { OnOk result (AreNoted (H.saved host.new) changes.new image.now) }
     ensures lost { OnErr result (SavesAtMostOne (H.log host.old) (H.log host.new)) }
 {
-    match host.save(image) {
-        Ok(()) => Ok(()),
+    match host.save(image, changes) {
+        Ok(()) => {
+            *changes = Changes::none(alloc);
+            Ok(())
+        }
         Err(fault) => Err(SessionFault::Save(fault)),
     }
 }
@@ -134,35 +158,59 @@ fn answer_next<H: Host>(
     line: &[u8],
     text: &mut Vec<u8>,
 ) -> Result<Session, SessionFault<H::Fault>>
+    requires noted { AreNoted (H.saved host.old) session.changes session.image }
     ensures answers { IfOk result (λ after. Answered notation.now (stage session.image session.registry.programs) line.now text.new.items (H.log host.old) (H.log host.new) (stage after.image after.registry.programs)) }
     ensures lost { OnErr result (SavesAtMostOne (H.log host.old) (H.log host.new)) }
     ensures kept { IfOk result (λ after. (after.image.kind ≡ session.image.kind) × (after.image.size ≡ session.image.size)) }
+    ensures noted { IfOk result (λ after. AreNoted (H.saved host.new) after.changes after.image) }
 {
     text.clear();
     if is_save(line) {
         text.extend_from_slice(b"saved\n")?;
-        save(&session.image, host)?;
-        return Ok(session);
+        let Session {
+            image,
+            mut changes,
+            registry,
+        } = session;
+        save(alloc, &image, &mut changes, host)?;
+        return Ok(Session {
+            image,
+            changes,
+            registry,
+        });
     }
     if is_own(line) {
         return answer_own(alloc, notation, session, host, line, text);
     }
-    let session = answer_scripted(alloc, notation, session, host, line, text)?;
-    save_if_due(&session.image, host, asks_change(line, text.as_slice()))?;
-    Ok(session)
+    let Session {
+        image,
+        mut changes,
+        registry,
+    } = answer_scripted(alloc, notation, session, host, line, text)?;
+    let asks_change = asks_change(line, text.as_slice());
+    save_if_due(alloc, &image, &mut changes, host, asks_change)?;
+    Ok(Session {
+        image,
+        changes,
+        registry,
+    })
 }
 
 // Saves the database after a line if the host requests it.
 fn save_if_due<H: Host>(
+    alloc: Global,
     image: &Image<Global>,
+    changes: &mut Changes,
     host: &mut H,
     asks_change: bool,
 ) -> Result<(), SessionFault<H::Fault>>
+    requires noted { AreNoted (H.saved host.old) changes.old image.now }
     ensures kept { OnOk result (SavesMaybe (H.log host.old) (H.log host.new) image.now) }
+    ensures noted { OnOk result (AreNoted (H.saved host.new) changes.new image.now) }
     ensures lost { OnErr result (SavesAtMostOne (H.log host.old) (H.log host.new)) }
 {
     if host.is_due(asks_change) {
-        save(image, host)?;
+        save(alloc, image, changes, host)?;
     }
     Ok(())
 }
@@ -176,9 +224,11 @@ fn answer_own<H: Host>(
     line: &[u8],
     text: &mut Vec<u8>,
 ) -> Result<Session, SessionFault<H::Fault>>
+    requires noted { AreNoted (H.saved host.old) session.changes session.image }
     ensures answers { IfOk result (λ after. AnsweredOwn notation.now (stage session.image session.registry.programs) text.new.items (H.log host.old) (H.log host.new) (stage after.image after.registry.programs)) }
     ensures lost { OnErr result (SavesAtMostOne (H.log host.old) (H.log host.new)) }
     ensures kept { IfOk result (λ after. (after.image.kind ≡ session.image.kind) × (after.image.size ≡ session.image.size)) }
+    ensures noted { IfOk result (λ after. AreNoted (H.saved host.new) after.changes after.image) }
 {
     match host.answer_own(line, &session.image, text)? {
         Own::Shown => Ok(session),
@@ -198,25 +248,33 @@ fn answer_scripted<H: Host>(
     line: &[u8],
     text: &mut Vec<u8>,
 ) -> Result<Session, AllocError>
-    requires { text.old.items ≡ [] }
+    requires empty { text.old.items ≡ [] }
+    requires noted { AreNoted (H.saved host.old) session.changes session.image }
     ensures answers { IfOk result (λ after. AnsweredTimed notation.now (stage session.image session.registry.programs) line.now text.new.items (H.log host.old) (H.log host.new) (stage after.image after.registry.programs)) }
     ensures lost { OnErr result (SavesAtMostOne (H.log host.old) (H.log host.new)) }
     ensures kept { IfOk result (λ after. (after.image.kind ≡ session.image.kind) × (after.image.size ≡ session.image.size)) }
+    ensures noted { IfOk result (λ after. AreNoted (H.saved host.new) after.changes after.image) }
 {
     let time = host.time();
     let mut spelled = Vec::new(alloc);
     spell_line(LineKind::OfScript, time, line, &mut spelled)?;
     let Session {
         mut image,
+        mut changes,
         mut registry,
     } = session;
     let _is_command = answer_line(
         alloc,
         notation,
         &mut image,
+        &mut changes,
         &mut registry,
         spelled.as_slice(),
         text,
     )?;
-    Ok(Session { image, registry })
+    Ok(Session {
+        image,
+        changes,
+        registry,
+    })
 }

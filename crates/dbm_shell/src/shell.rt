@@ -1,6 +1,7 @@
 //! The host of a session: the files of the database, the clock, and the terminal at which lines are typed.
-ghost use Rattle.std.specs.Prelude.{◌≡◌, ◌++◌, ◌∷◌, [], IfOk, IfSome, codes, nat_eq, true};
+ghost use Rattle.std.specs.Prelude.{◌≡◌, ◌++◌, ◌∷◌, [], IfOk, IfSome, OnOk, codes, nat_eq, true};
 ghost use Rattle.std.specs.List.{starts_with};
+ghost use Rattle.store_marks.specs.Noted.{AreNoted};
 ghost use Rattle.dbm_session.specs.HostCalls.{DidSave};
 
 use crate::host_log::HostLog;
@@ -19,6 +20,7 @@ use std::fs::File;
 use std::rt::Runtime;
 use std::time::{Clock, Duration, SystemTime, UNIX_EPOCH};
 use stock_names::{NAMES, ProgramWord, read_word};
+use store_marks::Changes;
 
 /// The options of a session: the notation of its lines, the rule for its automatic saves, and whether lines may use the time of day.
 #[derive(Clone, Copy)]
@@ -92,11 +94,14 @@ impl<'a, R: Runtime<File = File> + Clock + AllocGlobal> Shell<'a, R> {
     }
 
     // Saves a database in the files, and returns the log with this save appended. No other function logs a save.
-    fn save_logged(&mut self, image: &Image<Global>) -> Result<HostLog, FilesFault>
-        ensures saved { IfOk result (λ log. log.calls ≡ self.old.log.calls ++ DidSave image.now ∷ []) }
+    fn save_logged(&mut self, image: &Image<Global>, noted: &Changes) -> Result<HostLog, FilesFault>
+        requires noted { AreNoted self.old.saves noted.now image.now }
+        ensures logged { IfOk result (λ log. log.calls ≡ self.old.log.calls ++ DidSave image.now ∷ []) }
+        ensures saved { OnOk result (IfSome self.new.saves (λ base. base ≡ image.now)) }
         ensures same { self.new.log.calls ≡ self.old.log.calls }
     {
-        let saved = save_session(self.rt, self.place, self.held, &mut self.saves, image)?;
+        let (rt, place, held) = (self.rt, self.place, self.held);
+        let saved = save_session(rt, place, held, &mut self.saves, image, noted)?;
         if saved == SaveOutcome::Pending {
             note_waiting_save(self.rt, self.place.base);
         }
@@ -165,6 +170,8 @@ impl<R: Runtime<File = File> + Clock + AllocGlobal> Host for Shell<'_, R> {
 
     ghost log = { λ shell. Some shell.log.calls };
 
+    ghost saved = { λ shell. shell.saves };
+
     fn ask(&mut self, is_over: bool) {
         if !self.is_prompted {
             return;
@@ -208,11 +215,11 @@ impl<R: Runtime<File = File> + Clock + AllocGlobal> Host for Shell<'_, R> {
         Ok(Own::Shown)
     }
 
-    fn save(&mut self, image: &Image<Global>) -> Result<(), FilesFault> {
+    fn save(&mut self, image: &Image<Global>, noted: &Changes) -> Result<(), FilesFault> {
         if is_too_long(image) {
             return Err(FilesFault::FileTooLong);
         }
-        self.log = self.save_logged(image)?;
+        self.log = self.save_logged(image, noted)?;
         self.changes = 0;
         self.has_saved = true;
         self.saved_at = self.rt.monotonic().ok();

@@ -91,7 +91,7 @@ module _ (db : Database) (ok : IsDatabase db) (pag : List ℕ) (written : ArePag
   behind n le = written.counted.past n (whole_pages db.size (length pag) written.count n long_pag le)
 
   -- each page, including those past the end, reads as its own bytes
-  own_reads : (n : ℕ) → ReadsPage db.size pag n (bytes_of_page db.size (pairs_at db n))
+  pub own_reads : (n : ℕ) → ReadsPage db.size pag n (bytes_of_page db.size (pairs_at db n))
   own_reads n i below = at (nat_lt n written.count) refl
     where
       at : (b : Bool) → nat_lt n written.count ≡ b → get_or pag (n * page_bytes db.size + i) 0 ≡ get_or (bytes_of_page db.size (pairs_at db n)) i 0

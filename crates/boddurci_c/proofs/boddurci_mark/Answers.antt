@@ -1,7 +1,7 @@
 use Rattle.std.proofs.Common.{◌∙◌, Some, ap, sym, inl, inr, refl}
 use Rattle.boddurci_handles.specs.declared.status.Status.TheVariants.{NoMemory}
 use Rattle.boddurci_c.specs.Calls.{LacksMemory}
-use Rattle.boddurci_handles.proofs.Marked.{differ_more}
+use Rattle.store_marks.proofs.Marked.{differ_more}
 use Rattle.boddurci_c.proofs.Bases.{same_db}
 use Rattle.boddurci_c.proofs.CallLemmas.{closed_denies, denies}
 use Rattle.boddurci_c.proofs.boddurci_mark.Goals as goal

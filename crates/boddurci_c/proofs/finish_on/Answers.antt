@@ -1,4 +1,4 @@
-use Rattle.boddurci_c.proofs.Bases.{differ_either}
+use Rattle.store_marks.proofs.Marked.{differ_either}
 use Rattle.boddurci_c.proofs.finish_on.Goals as goal
 
 pub invariant_of-db : goal.invariant_of-db

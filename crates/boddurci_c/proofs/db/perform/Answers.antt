@@ -7,7 +7,8 @@ use Rattle.store_moves.specs.Leads.{IsPlaceOf}
 use Rattle.store_moves.specs.Works.{change_of, key_of}
 use Rattle.boddurci_handles.specs.Growth.{has_pairs, may_grow, most_in}
 use Rattle.boddurci_handles.proofs.Fitting.{may_put_worked, put_worked, fits_worked, within_worked}
-use Rattle.boddurci_c.proofs.Bases.{differ_either, same_db}
+use Rattle.store_marks.proofs.Marked.{differ_either}
+use Rattle.boddurci_c.proofs.Bases.{same_db}
 use Rattle.boddurci_c.proofs.db.perform.Goals as goal
 
 pub put_marked-requires : goal.put_marked-requires

@@ -2,7 +2,8 @@ use Rattle.std.proofs.Common.{refl}
 use Rattle.store_cmd.specs.declared.Command.TheVariants.{Store}
 use Rattle.store_cmd.specs.declared.Reply.TheVariants.{Stored}
 use Rattle.boddurci_handles.proofs.Fitting.{fits_filled, within_filled}
-use Rattle.boddurci_c.proofs.Bases.{differ_unless, same_db, does_again}
+use Rattle.store_marks.proofs.Marked.{differ_unless}
+use Rattle.boddurci_c.proofs.Bases.{same_db, does_again}
 use Rattle.boddurci_c.proofs.db.store.Goals as goal
 
 pub invariant_of-db : goal.invariant_of-db

@@ -3,7 +3,7 @@ use Rattle.std.specs.List.{Contains}
 use Rattle.sdbm_addr.specs.Layout.{bytes_of_page}
 use Rattle.sdbm_addr.specs.Database.{pairs_at}
 use Rattle.sdbm_saves.specs.Parts.{ReadsPage}
-use Rattle.boddurci_handles.proofs.Marked.{still}
+use Rattle.store_marks.proofs.Marked.{still}
 use Rattle.boddurci_c.proofs.opening.foreign_pages.Goals as goal
 use Rattle.boddurci_c.proofs.opening.foreign_pages.Goals.{then-not-is_own+in_ok-add, else-not-is_own}
 

@@ -2,8 +2,8 @@ use Rattle.std.proofs.Common.{◌≡◌, ℕ, List, true, false, get_or, inl, in
 use Rattle.std.proofs.lemmas.List.{get_or_default}
 use Rattle.std.proofs.lemmas.List.Elements.{Contains-get_or}
 use Rattle.std.specs.List.{Contains}
-use Rattle.boddurci_handles.specs.Marks.{AreAmong}
-use Rattle.boddurci_handles.proofs.Marked.{still, each_there}
+use Rattle.store_marks.specs.Marks.{AreAmong}
+use Rattle.store_marks.proofs.Marked.{still, each_there}
 use Rattle.boddurci_c.proofs.plans.are_among.Goals as goal
 use Rattle.boddurci_c.proofs.plans.are_among.Goals.{then-has+in_ok-add, else-has}
 

@@ -1,5 +1,5 @@
 use Rattle.std.proofs.Common.{inl, inr, refl}
-use Rattle.boddurci_handles.specs.Marks.{AreAmong}
+use Rattle.store_marks.specs.Marks.{AreAmong}
 use Rattle.boddurci_c.proofs.Fitting.{is_plan, no_plan}
 use Rattle.boddurci_c.proofs.Beside.{read_marked}
 use Rattle.boddurci_c.proofs.plans.plan_of.Goals as goal

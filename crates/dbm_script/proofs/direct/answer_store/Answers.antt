@@ -6,7 +6,7 @@ use Rattle.dbm_script.proofs.direct.answer_store.Goals as goal
 
 pub returns-clause-done : goal.returns-clause-done
 returns-clause-done g c = λ notation.
-    let acts = c.if-not-act_store.ensures.done refl 0 in
+    let acts = c.if-not-store_noted.ensures.done refl in
     record {
       added = codes "stored";
       is = c.in_ok-extend_from_slice.ensures.items;
@@ -15,5 +15,5 @@ returns-clause-done g c = λ notation.
 
 pub returns-clause-kept : goal.returns-clause-kept
 returns-clause-kept g c =
-    let acts = c.if-not-act_store.ensures.done refl 0 in
+    let acts = c.if-not-store_noted.ensures.done refl in
     (acts.move.kind, acts.move.size)

@@ -5,6 +5,7 @@ use Rattle.dbm_script.specs.LineInput.{GivesEnded, lines_left}
 use Rattle.dbm_script.specs.Script.{stage}
 use Rattle.dbm_session.specs.Sessions.{WritesSome}
 use Rattle.dbm_session.proofs.Turns.{all_answered, all_as_script, all_begun, all_ended, all_half, all_same, all_stopped, all_stopped_within, all_unread, any_err, saves_no_more}
+use Rattle.dbm_session.proofs.Noting.{any_noted}
 use Rattle.dbm_session.proofs.running.run_session.Goals as goal
 
 pub returns-in_err-registry-clause-part : goal.returns-in_err-registry-clause-part
@@ -13,7 +14,7 @@ returns-in_err-registry-clause-part g c = any_err c.from_residual.result _ (all_
 pub returns-in_err-next_ended-clause-part : goal.returns-in_err-next_ended-clause-part
 returns-in_err-next_ended-clause-part g c =
     any_err c.from_residual-in_err-next_ended.result _
-    (all_stopped c.args.notation.now c.args.image (g.R.Read.remaining c.args.reader.now) c.loop-count.count _ _ _ _ _ _ _ c.loop-count.invariant.known (saves_no_more _ _ c.ask.ensures))
+    (all_stopped c.args.notation.now c.args.image (g.R.Read.remaining c.args.reader.now) c.loop-count.count _ _ _ _ _ _ _ c.loop-count.invariant.known (saves_no_more _ _ c.ask.ensures.same))
 
 pub returns-then-not-branch-clause-ok : goal.returns-then-not-branch-clause-ok
 returns-then-not-branch-clause-ok g c =
@@ -23,7 +24,7 @@ returns-then-not-branch-clause-ok g c =
     IfOk-weaker c.end.result _ _
     (λ ended h. all_ended c.args.notation.now c.args.image (g.R.Read.remaining c.args.reader.now) c.loop-count.count left (g.W.Write.contents c.args.writer.now) (g.W.Write.contents c.loop-count.writer)
     (g.H.Host.log c.args.host.now) (g.H.Host.log c.ask.new.self) (g.H.Host.log c.end.new.host) c.loop-count.session.image c.loop-count.session.registry.programs c.next_ended.new.line.items left' ended.image
-    (all_same c.args.notation.now c.args.image (g.R.Read.remaining c.args.reader.now) c.loop-count.count left _ _ _ _ _ _ c.ask.ensures c.loop-count.invariant.known) gives h.0 h.1)
+    (all_same c.args.notation.now c.args.image (g.R.Read.remaining c.args.reader.now) c.loop-count.count left _ _ _ _ _ _ c.ask.ensures.same c.loop-count.invariant.known) gives h.0 h.1)
     c.end.ensures.ok
 
 pub returns-then-not-branch-clause-half : goal.returns-then-not-branch-clause-half
@@ -42,7 +43,7 @@ returns-then-not-branch-clause-part g c =
     IfErr-weaker c.end.result _ _
     (λ f h. all_stopped c.args.notation.now c.args.image (g.R.Read.remaining c.args.reader.now) c.loop-count.count left (g.W.Write.contents c.args.writer.now) (g.W.Write.contents c.loop-count.writer)
     (g.H.Host.log c.args.host.now) (g.H.Host.log c.ask.new.self) (g.H.Host.log c.end.new.host) _
-    (all_same c.args.notation.now c.args.image (g.R.Read.remaining c.args.reader.now) c.loop-count.count left _ _ _ _ _ _ c.ask.ensures c.loop-count.invariant.known) h)
+    (all_same c.args.notation.now c.args.image (g.R.Read.remaining c.args.reader.now) c.loop-count.count left _ _ _ _ _ _ c.ask.ensures.same c.loop-count.invariant.known) h)
     c.end.ensures.lost
 
 pub returns-in_err-session-clause-part : goal.returns-in_err-session-clause-part
@@ -51,7 +52,7 @@ returns-in_err-session-clause-part g c =
     any_err c.from_residual-in_err-session.result _
     (all_stopped c.args.notation.now c.args.image (g.R.Read.remaining c.args.reader.now) c.loop-count.count left (g.W.Write.contents c.args.writer.now) (g.W.Write.contents c.loop-count.writer)
     (g.H.Host.log c.args.host.now) (g.H.Host.log c.ask.new.self) (g.H.Host.log c.answer_next.new.host) _
-    (all_same c.args.notation.now c.args.image (g.R.Read.remaining c.args.reader.now) c.loop-count.count left _ _ _ _ _ _ c.ask.ensures c.loop-count.invariant.known) c.in_err-session.ensures.lost)
+    (all_same c.args.notation.now c.args.image (g.R.Read.remaining c.args.reader.now) c.loop-count.count left _ _ _ _ _ _ c.ask.ensures.same c.loop-count.invariant.known) c.in_err-session.ensures.lost)
 
 pub returns-in_err-say-clause-part : goal.returns-in_err-say-clause-part
 returns-in_err-say-clause-part g c =
@@ -65,7 +66,7 @@ returns-in_err-say-clause-part g c =
     any_err c.from_residual-in_err-say.result _
     (all_stopped_within c.args.notation.now c.args.image (g.R.Read.remaining c.args.reader.now) c.loop-count.count left (g.W.Write.contents c.args.writer.now) now now'
     (g.H.Host.log c.args.host.now) (g.H.Host.log c.ask.new.self) (g.H.Host.log c.answer_next.new.host) _ _ c.as_slice.result.now c.answer_next.new.text.items left'
-    (all_same c.args.notation.now c.args.image (g.R.Read.remaining c.args.reader.now) c.loop-count.count left _ _ _ _ _ _ c.ask.ensures c.loop-count.invariant.known) gives c.in_ok-session.ensures.answers writes)
+    (all_same c.args.notation.now c.args.image (g.R.Read.remaining c.args.reader.now) c.loop-count.count left _ _ _ _ _ _ c.ask.ensures.same c.loop-count.invariant.known) gives c.in_ok-session.ensures.answers writes)
 
 pub loop-count-preserved : goal.loop-count-preserved
 loop-count-preserved g c =
@@ -80,9 +81,10 @@ loop-count-preserved g c =
     record {
       known = all_answered c.args.notation.now c.args.image (g.R.Read.remaining c.args.reader.now) c.loop-count.count left (g.W.Write.contents c.args.writer.now) now now'
           (g.H.Host.log c.args.host.now) (g.H.Host.log c.ask.new.self) (g.H.Host.log c.answer_next.new.host) _ _ c.as_slice.result.now c.answer_next.new.text.items left'
-          (all_same c.args.notation.now c.args.image (g.R.Read.remaining c.args.reader.now) c.loop-count.count left _ _ _ _ _ _ c.ask.ensures before.known) gives c.in_ok-session.ensures.answers writes;
+          (all_same c.args.notation.now c.args.image (g.R.Read.remaining c.args.reader.now) c.loop-count.count left _ _ _ _ _ _ c.ask.ensures.same before.known) gives c.in_ok-session.ensures.answers writes;
       kind = c.in_ok-session.ensures.kept.0 ∙ before.kind;
       size = c.in_ok-session.ensures.kept.1 ∙ before.size;
+      noted = c.in_ok-session.ensures.noted;
     }
 
 pub returns-clause-part : goal.returns-clause-part
@@ -100,4 +102,5 @@ loop-count-init g c = record {
   known = all_begun c.args.notation.now c.args.image (g.R.Read.remaining c.args.reader.now) c.new-lines.result _ _ _ c.new-lines.ensures.rest c.new-lines.ensures.open (ap (λ r. stage c.args.image r.programs) c.in_ok-registry.ensures);
   kind = refl;
   size = refl;
+  noted = any_noted (g.H.Host.saved c.args.host.now) c.args.image;
 }

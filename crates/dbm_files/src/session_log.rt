@@ -140,8 +140,8 @@ impl<'a, R: Files<File = File> + AllocGlobal> SessionSaves<'a, R> {
     }
 
     // Takes over the data files that a save has created. If the files that have their names now have other bytes, or cannot be read, another
-    // program has written or replaced a new file, and the next save fails with `Changed`. Closes the log, in which a replaced file may be
-    // open; the next save opens the files by their names. If the log cannot be closed, the save is `Pending`.
+    // program has written or replaced a new file, and the next save fails with `Changed`. Closes the log, since a replaced file may be
+    // open there; the next save opens the files by their names. If the log cannot be closed, the save is `Pending`.
     fn take_made(&mut self, rt: &R, place: &Place, saved: SaveOutcome) -> SaveOutcome
         ensures { self.new ≡ None }
     {
@@ -275,8 +275,8 @@ fn save_looking<'a, R: Files<File = File> + Clock + AllocGlobal>(
     saved
 }
 
-// Saves under BASE.lock: in the open log if it takes another save, otherwise in a new one. Fails with `Changed` if the data files do not have
-// the states `found` when they are read for a new log. `found` must be `None` if the redo file may have a save that this read recovers.
+// Saves under BASE.lock: in the open log if it takes another save, otherwise in a new one. Fails with `Changed` if a data file was written
+// after `found`, and before it was read for a new log. `found` must be `None` if the redo file may have a save that this read recovers.
 fn save_locked<'a, R: Files<File = File> + AllocGlobal>(
     rt: &'a R,
     place: RunPlace<'_>,
@@ -355,7 +355,7 @@ fn save_alone<R: Files<File = File> + AllocGlobal>(
 
 // Saves in a log that stays open. Since the last save, the database must have changed only on the pages in `changes`. Returns `None` if the
 // log cannot take the save: it is not open for that, or it has no room; or if `files` are given, and nothing has changed, or these data
-// files have other bytes than the known ones where the save needs them. Then, and after an error before the save begins, log and data files
+// files do not have the known bytes that the save needs. Then, and after an error before the save begins, log and data files
 // are unchanged.
 fn save_more<'a, R: Files<File = File>>(
     alloc: Global,

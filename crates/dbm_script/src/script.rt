@@ -163,8 +163,8 @@ pub fn run_spelled<A: Allocator + Copy>(
 }
 
 /// Answers one line on a database as session 0. Appends the answer and an LF to `text`; an empty line has no answer. A program that the
-/// line submits is added to the registry, and a page that the line changes is noted in `changes`. Returns `false` if the line is bad; no clause
-/// says so.
+/// line submits is added to the registry, and a page that the line changes is noted in `changes`. Returns `false` if the line is bad; no
+/// clause says so.
 ///
 /// # Errors
 /// `AllocError` if allocation fails.

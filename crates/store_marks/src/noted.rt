@@ -61,8 +61,8 @@ pub fn act_noted<A: Allocator + Copy>(
     }
 }
 
-/// Stores a pair for session 0 like `act_store`, and notes the page. Returns `false` and changes nothing if `act_store` returns false, or if the
-/// page cannot be noted.
+/// Stores a pair for session 0 like `act_store`, and notes the page. Returns `false` and changes nothing if `act_store` returns false, or
+/// if the page cannot be noted.
 pub fn store_noted<A: Allocator + Copy>(
     image: &mut Image<A>,
     changes: &mut Changes,

@@ -10,7 +10,7 @@ use Rattle.sdbm_saves.specs.Recording.{part_pages}
 use Rattle.sdbm_saves.specs.Parts.{IsReadSo}
 use Rattle.sdbm_saves.proofs.Lists.{length-resized, read_resized}
 
-below_page : (size : PageSize) (n m i : ℕ) → n < m → i < page_bytes size → n * page_bytes size + i < m * page_bytes size
+pub below_page : (size : PageSize) (n m i : ℕ) → n < m → i < page_bytes size → n * page_bytes size + i < m * page_bytes size
 below_page Small n m i lt inside = omega (arith, lt, inside)
 below_page Wide n m i lt inside = omega (arith, lt, inside)
 

@@ -1,5 +1,5 @@
 //! Commands that note the changed pages only if these are wanted.
-ghost use Rattle.std.specs.Prelude.{◌≡◌, ◌+◌, ◌≤◌, length, IfOk, IfErr, IfSome, IfNone, OnOk, OnErr, true, false};
+ghost use Rattle.std.specs.Prelude.{◌≡◌, ◌+◌, ◌≤◌, length, IfOk, IfErr, IfSome, IfNone, OnErr, true, false};
 ghost use Rattle.sdbm_addr.specs.Database.{Database};
 ghost use Rattle.sdbm_addr.specs.Pairs.{pair_limit};
 ghost use Rattle.store_cmd.specs.Command.{IsSmall};

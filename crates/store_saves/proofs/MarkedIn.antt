@@ -1,10 +1,8 @@
 -- The files of a database from which another one differs on some pages.
 use Rattle.std.proofs.Common.{◌≡◌, ℕ, ◌+◌, ◌-◌, ◌*◌, ◌<◌, ◌≤◌, List, ◌++◌, length, take, drop, min, replicate, get_or, Option, Some, None, IfSome, inl, inr, refl, sym, ap, ◌∙◌, subst, arith, length-append, length-drop, length-take, length-take-le}
-use Rattle.std.proofs.Math.Seq.{take-length}
 use Rattle.std.proofs.lemmas.Bool.{cases_lt}
 use Rattle.std.proofs.lemmas.List.{get_or-take, get_or-drop, get_or_append_left, get_or-append_right, get_or_past, get_or-replicate, length-replicate}
 use Rattle.sdbm_addr.specs.declared.PageSize.{PageSize}
-use Rattle.sdbm_addr.specs.declared.PageSize.TheVariants.{Small, Wide}
 use Rattle.sdbm_addr.specs.Pairs.{Pair, page_bytes}
 use Rattle.sdbm_addr.specs.Layout.{bytes_of_page}
 use Rattle.sdbm_addr.specs.Database.{Database, pairs_at}
@@ -21,18 +19,6 @@ marked_in old base db pag dir files differ long reads = record {
   rest = λ n none. subst (λ (z : PageSize). ReadsPage z pag n (bytes_of_page z (pairs_at db n))) (sym differ.size)
       (subst (λ (ps : List Pair). ReadsPage base.size pag n (bytes_of_page base.size ps)) (sym (differ.rest n none)) (own_reads base files.spelled.database pag files.written.pages n));
 }
-
--- a byte of an earlier page
-pub before_page : (size : PageSize) (j index i : ℕ) → j < index → i < page_bytes size → j * page_bytes size + i < index * page_bytes size
-before_page Small j index i less below = omega (arith, less, below)
-before_page Wide j index i less below = omega (arith, less, below)
-
-pub one_more_page : (size : PageSize) (index : ℕ) → index * page_bytes size + page_bytes size ≡ (index + 1) * page_bytes size
-one_more_page Small index = omega arith
-one_more_page Wide index = omega arith
-
-pub take_rest : (k : ℕ) (pag : List ℕ) → take (length pag - k) (drop k pag) ≡ drop k pag
-take_rest k pag = ap (λ (n : ℕ). take n (drop k pag)) (sym (length-drop k pag)) ∙ take-length (drop k pag)
 
 -- a page at the end of a list, with zeros for the bytes past the end of the file
 module _ (old pag mid new : List ℕ) (at size k m whole : ℕ) (k_is : k ≡ min at (length pag)) (m_is : m ≡ min (length pag - k) size) (whole_is : whole ≡ length old + size)

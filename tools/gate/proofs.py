@@ -6,6 +6,7 @@ import shutil
 import subprocess
 import tempfile
 
+from cache import turn
 from rooms import Room
 
 # Words that the verdict of a crate must not contain. They report functions of C, values that hide a contract, calls that end the program
@@ -37,48 +38,49 @@ def of_interest(said):
 
 def prove(crate, jobs):
     """Proves a crate whose crates below are proved, and builds its library or its program. Returns an error message, or None."""
-    made = crate.name if crate.is_program else f"lib{crate.name}.a" if "staticlib" in crate.words else "rlib/stamp"
-    if crate.has_passed("proof", crate.sum):
-        date(crate, made)
-        return None
-    with Room(crate, "proof", takes_out=True) as room:
-        status, said = room.rt("run" if crate.is_program else "lib", "--jobs", str(jobs))
-        if not (f"rt: running out/{crate.name};" in said if crate.is_program else status == 0):
-            return of_interest(said)
-        line = last_line(said) or last_line(room.rt("check", "--jobs", str(jobs))[1])
-    date(crate, made)
-    why = "it has no verdict" if line is None else beyond(crate, line)
-    return why or (None if crate.note_passed("proof", crate.sum, [made]) else CHANGED)
+    with turn(crate, "proof") as has_passed:
+        if has_passed:
+            date(crate)
+            return None
+        with Room(crate, "proof", takes_out=True) as room:
+            status, said = room.rt("run" if crate.is_program else "lib", "--jobs", str(jobs))
+            if not (f"rt: running out/{crate.name};" in said if crate.is_program else status == 0):
+                return of_interest(said)
+            line = last_line(said) or last_line(room.rt("check", "--jobs", str(jobs))[1])
+        date(crate)
+        why = "it has no verdict" if line is None else beyond(crate, line)
+        return why or (None if crate.note_passed("proof") else CHANGED)
 
 
-def date(crate, made):
+def date(crate):
     """Sets the time of a crate's result so that it is newer than the sources, except for sources that were changed in the meantime."""
-    os.utime(crate.out / made, (crate.tree.began, crate.tree.began))
+    os.utime(crate.out / crate.made("proof"), (crate.tree.began, crate.tree.began))
 
 
 def test(crate, jobs):
     """Proves the tests of a crate, and runs them as both compilers build them. Returns an error message, or None."""
-    if crate.has_passed("tests", crate.sum):
-        return None
-    with Room(crate, "tests") as room:
-        for compiler in ("llvm", "rattle"):
-            status, said = room.rt("test", "--jobs", str(jobs), "--backend", compiler)
-            if status:
-                return f"built by {compiler}:\n{of_interest(said)}"
-    return None if crate.note_passed("tests", crate.sum) else CHANGED
+    with turn(crate, "tests") as has_passed:
+        if has_passed:
+            return None
+        with Room(crate, "tests") as room:
+            for compiler in ("llvm", "rattle"):
+                status, said = room.rt("test", "--jobs", str(jobs), "--backend", compiler)
+                if status:
+                    return f"built by {compiler}:\n{of_interest(said)}"
+        return None if crate.note_passed("tests") else CHANGED
 
 
 def build_otherwise(crate, jobs):
     """Builds a proved program by Rattle's own compiler, in addition to LLVM. Returns an error message, or None."""
-    made = f"{crate.name}.by-rattle"
-    if crate.has_passed("program", crate.sum):
-        return None
-    with Room(crate, "program") as room:
-        said = room.rt("run", "--jobs", str(jobs), "--backend", "rattle")[1]
-        if f"rt: running out/{crate.name};" not in said:
-            return of_interest(said)
-        shutil.copy2(room.folder / "out" / crate.name, crate.out / made)
-    return None if crate.note_passed("program", crate.sum, [made]) else CHANGED
+    with turn(crate, "program") as has_passed:
+        if has_passed:
+            return None
+        with Room(crate, "program") as room:
+            said = room.rt("run", "--jobs", str(jobs), "--backend", "rattle")[1]
+            if f"rt: running out/{crate.name};" not in said:
+                return of_interest(said)
+            shutil.copy2(room.folder / "out" / crate.name, crate.out / crate.made("program"))
+        return None if crate.note_passed("program") else CHANGED
 
 
 def run(crate, program):

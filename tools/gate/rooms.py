@@ -119,12 +119,17 @@ def lock(tree):
     """Waits until running commands of rt have ended, and locks the crates against others. Returns the descriptors that hold the locks."""
     held = [os.open(it.folder, os.O_RDONLY) for it in tree.crates.values()]
     for crate, it in zip(tree.crates.values(), held):
-        try:
-            fcntl.flock(it, fcntl.LOCK_EX | fcntl.LOCK_NB)
-        except BlockingIOError:
-            print(f"waiting for another rt to end in crates/{crate.name}", flush=True)
-            fcntl.flock(it, fcntl.LOCK_EX)
+        wait_for(it, f"another rt to end in crates/{crate.name}")
     return held
+
+
+def wait_for(held, what):
+    """Locks an open file, and prints what it waits for."""
+    try:
+        fcntl.flock(held, fcntl.LOCK_EX | fcntl.LOCK_NB)
+    except BlockingIOError:
+        print(f"waiting for {what}", flush=True)
+        fcntl.flock(held, fcntl.LOCK_EX)
 
 
 def clear(tree):

@@ -13,6 +13,8 @@ import time
 # The folders of a crate that a proof reads, and the files that the build of a program reads in addition.
 SOURCES = ("src", "specs", "proofs", "c")
 NOTED = ("args", "status")
+# The files of this tool that decide what has passed. (gate/lanes.py only orders tasks.)
+JUDGES = ("prove_crates", "gate/cache.py", "gate/edits.py", "gate/proofs.py", "gate/rooms.py", "gate/tree.py")
 TEST = re.compile(r"^\s*#\[test\]", re.M)
 
 
@@ -30,6 +32,8 @@ class Crate:
         self.tree, self.line, self.names = tree, line, names.split()
         self.folder = tree.top / "crates" / self.name
         self.out = self.folder / "out"
+        # By task: whether it was `unchanged`, `taken` from the cache, or `proved`.
+        self.came = {}
         self.is_program = (self.folder / "src/main.rt").exists()
         self.edits = sorted((self.folder / "must-fail").glob("*.edit"))
         self.has_tests = any(TEST.search(path.read_text(encoding="utf-8")) for path in self.folder.glob("src/**/*.rt"))
@@ -80,12 +84,22 @@ class Crate:
 
     @functools.cached_property
     def sum(self):
-        """The checksum of all inputs of the crate's proof: the kit, the handles, its files and those of the crates below."""
-        return summed(self.tree.kit, self.tree.handles_line, self.began, *[it.sum for it in self.uses])
+        """The checksum of all inputs of the crate's proof: the kit, this tool, the handles, its files and those of the crates below."""
+        return summed(self.tree.kit, self.tree.tool, self.tree.handles_line, self.began, *[it.sum for it in self.uses])
 
     @functools.cached_property
     def sum_with_edits(self):
         return summed(self.sum, *[f"{it.name}\n{it.read_text(encoding='utf-8')}" for it in self.edits])
+
+    def inputs(self, what):
+        """Returns the checksum of all inputs of a task."""
+        return self.sum_with_edits if what == "edits" else self.sum
+
+    def made(self, what):
+        """Returns the file in out/ by which a task has passed, if it makes files."""
+        if what == "proof":
+            return self.name if self.is_program else f"lib{self.name}.a" if "staticlib" in self.words else "rlib/stamp"
+        return f"{self.name}.by-rattle" if what == "program" else None
 
     def passed(self):
         """Returns the tasks of the crate that have passed, by name, each with the checksums of its inputs and of its results."""
@@ -94,22 +108,29 @@ class Crate:
         except (OSError, ValueError):
             return {}
 
-    def has_passed(self, what, standing_on):
+    def has_passed(self, what):
         """Returns whether a task has passed with these inputs, and its results are unchanged."""
         kept = self.passed().get(what, {})
         made = kept.get("made", {})
-        return kept.get("sum") == standing_on and all(file_sum(self.out / name) == it for name, it in made.items())
+        return kept.get("sum") == self.inputs(what) and all(file_sum(self.out / name) == it for name, it in made.items())
 
-    def note_passed(self, what, standing_on, made=()):
-        """Records that a task has passed, unless its inputs were changed in the meantime. Returns whether it recorded that."""
+    def note_passed(self, what):
+        """Records and keeps in the cache that a task has passed, unless its inputs were changed in the meantime. Returns whether it did."""
         if any(it.own_sum() != it.began for it in [self, *self.below]):
             return False
+        self.record(what)
+        self.tree.cache.keep(self, what)
+        return True
+
+    def record(self, what):
+        """Records that a task has passed."""
+        made = {name: file_sum(self.out / name) for name in [self.made(what)] if name}
         with self.tree.noting:
-            kept = {**self.passed(), what: {"sum": standing_on, "made": {name: file_sum(self.out / name) for name in made}}}
+            self.out.mkdir(exist_ok=True)
+            kept = {**self.passed(), what: {"sum": self.inputs(what), "made": made}}
             new = self.out / "passed.json.new"
             new.write_text(json.dumps(kept, indent=1))
             os.replace(new, self.out / "passed.json")
-        return True
 
 
 def summed(*texts):
@@ -121,15 +142,17 @@ def file_sum(path):
 
 
 class Tree:
-    """The repository at a folder, with its crates, each after those below it."""
+    """The repository at a folder, with its crates, each after those below it, and the cache."""
 
-    def __init__(self, top, noting):
+    def __init__(self, top, noting, cache):
         self.top, self.noting, self.crates, self.began = pathlib.Path(top).resolve(), noting, {}, time.time()
+        self.cache = cache
         for line in (self.top / "crates.txt").read_text(encoding="utf-8").splitlines():
             if line.strip() and not line.startswith("#"):
                 crate = Crate(self, line)
                 self.crates[crate.name] = crate
         self.kit = subprocess.run([rt(), "version"], stdout=subprocess.PIPE, universal_newlines=True).stdout
+        self.tool = summed(*[(self.top / "tools" / name).read_text(encoding="utf-8") for name in JUDGES])
         handles = self.top / "HANDLES"
         self.handles_line = handles.read_text(encoding="utf-8") if handles.exists() else ""
         self.handles = set(re.findall(r"Threads|Wait|Net|Processes", self.handles_line))

@@ -138,7 +138,8 @@ def summed(*texts):
 
 
 def file_sum(path):
-    return hashlib.sha256(path.read_bytes()).hexdigest() if path.is_file() else None
+    """Returns the checksum of a file, or None if it is missing. BLAKE2 takes half the time of SHA-256."""
+    return hashlib.blake2b(path.read_bytes(), digest_size=32).hexdigest() if path.is_file() else None
 
 
 class Tree:

@@ -71,6 +71,22 @@ def files_of(crate, what):
     return {str(it.relative_to(crate.out)) for it in found if it.is_file()}
 
 
+def used(entry):
+    """Returns the time of the last use of an entry, or 0 if another run has removed it."""
+    try:
+        return os.path.getmtime(entry)
+    except OSError:
+        return 0
+
+
+def bytes_of(entry):
+    """Returns the size of an entry, or 0 if its list is damaged."""
+    try:
+        return int(json.loads((entry / LIST).read_text())["bytes"])
+    except (OSError, ValueError, KeyError, TypeError):
+        return 0
+
+
 def put(one, other, path):
     """Links a file if rt replaces such files and never writes into them. Otherwise copies it."""
     other.parent.mkdir(parents=True, exist_ok=True)
@@ -118,15 +134,15 @@ class Cache:
             return False
         is_taken = self.unpack(self.entry(crate, what), crate)
         if what == "proof" and not self.unpack(self.entry(crate, "work"), crate) and not (crate.out / "incremental").exists():
-            latest = sorted(self.at.glob(f"{crate.name}.work.*"), key=os.path.getmtime, reverse=True)
-            any(self.unpack(it, crate) for it in latest)
+            any(self.unpack(it, crate) for it in sorted(self.at.glob(f"{crate.name}.work.*"), key=used, reverse=True))
         if is_taken:
             crate.record(what)
         return is_taken
 
     def unpack(self, entry, crate):
         """Puts the files of an entry into out/ if all are whole, and only this user may write them. Returns whether it did."""
-        room = crate.out / entry.name
+        room = crate.out / f"taken.{entry.name.split('.')[1]}"
+        shutil.rmtree(room, ignore_errors=True)
         try:
             os.utime(own(entry))
             for path, told in json.loads(own(entry / LIST).read_text())["files"].items():
@@ -172,15 +188,15 @@ class Cache:
         Removes nothing that was used in the last hour."""
         if self.why_not:
             return
-        size, crates, now = 0, set(), time.time()
-        for used, it in sorted(((os.path.getmtime(it), it) for it in self.at.glob("*.*.*")), reverse=True):
-            crate, what, _ = it.name.split(".")
-            with contextlib.suppress(OSError, ValueError, KeyError):
-                size += json.loads((it / LIST).read_text())["bytes"]
-            if used < now - GRACE and (size > self.most or (crate, what) in crates):
+        size, works, now = 0, set(), time.time()
+        for it in sorted(self.at.glob("*.*.*"), key=used, reverse=True):
+            crate, what = it.name.split(".")[:2]
+            more, is_older = bytes_of(it), what == "work" and crate in works
+            if used(it) < now - GRACE and (size + more > self.most or is_older):
                 self.remove(it)
-            crates |= {(crate, what)} if what == "work" else set()
+            else:
+                size += more
+            works |= {crate} if what == "work" else set()
         for it in [*self.at.glob("new-*"), *self.at.glob("locks/*")]:
-            with contextlib.suppress(OSError):
-                if os.path.getmtime(it) < now - 24 * GRACE:
-                    shutil.rmtree(it) if it.is_dir() else it.unlink()
+            if used(it) < now - 24 * GRACE:
+                shutil.rmtree(it, ignore_errors=True) if it.is_dir() else it.unlink(missing_ok=True)

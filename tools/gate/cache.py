@@ -64,7 +64,7 @@ def files_of(crate, what):
     """Returns the paths in out/ of the files of an entry."""
     found = [crate.out / name for name in [crate.made(what)] if name]
     if what == "work":
-        # A proof that begins without `records`, a third of the bytes, takes no longer.
+        # A proof that begins without `records`, a quarter of the bytes, takes no longer.
         found = [it for it in (crate.out / "incremental").rglob("*") if it.parent.name != "records"]
     elif what == "proof" and not crate.is_program:
         found += (crate.out / "rlib").rglob("*")

@@ -12,5 +12,4 @@ pub mod Saves
 pub mod Places
 pub mod Stepping
 pub mod Weights
-pub mod Words
 pub mod Results

@@ -1,7 +1,6 @@
 pub mod Doing
 pub mod Log
 pub mod LogRuns
-pub mod Notes
 pub mod Places
 pub mod Protocol
 pub mod Saving

@@ -3,7 +3,6 @@
 //! the caller makes the calls, for example with `make_steps` on a disk. Nothing here opens, locks or names files.
 #![tactic(auto)]
 
-mod header_notes;
 mod knowing;
 mod log;
 mod making;
@@ -16,9 +15,6 @@ mod steps;
 #[cfg(test)]
 mod tests;
 
-pub use header_notes::{
-    AppliedHint, BootId, FileState, NOTES_LEN, NOTES_START, Notes, says_applied,
-};
 pub use log::{HEADER, Log};
 pub use making::make_steps;
 pub use opening::{OpenSteps, close_steps, open_steps, recover_steps};

@@ -3,8 +3,8 @@
 use crate::making::part;
 use crate::records::push_record;
 use crate::{
-    AppliedHint, BootId, FileState, Log, LogFault, LogFiles, NOTES_LEN, Notes, ReadSteps, Step,
-    close_steps, is_log, open_steps, plan_of, read_steps, records_end, save_steps, says_applied,
+    Log, LogFault, LogFiles, ReadSteps, Step, close_steps, is_log, open_steps, plan_of, read_steps,
+    records_end, save_steps,
 };
 use sdbm_saves::{DiskFile, Found, is_plan, lay_over, spelled};
 use std::alloc::{AllocError, Global};
@@ -199,79 +199,6 @@ fn a_byte_that_two_saves_change_may_be_that_of_each(rt: HostRuntime) -> Result<(
     assert!(rt; reads(rt.alloc(), &[0, 9, 0, 0], both.as_slice(), &[0, 9, 0, 0])?);
     let fault = fault_of(rt.alloc(), &[0, 5, 0, 0], both.as_slice())?;
     assert_eq!(rt; fault, Some(LogFault::Foreign));
-    Ok(())
-}
-
-fn applied(end: u64, changed: u64) -> AppliedHint {
-    AppliedHint {
-        end,
-        boot: BootId {
-            first: 3,
-            second: 4,
-        },
-        pages: FileState {
-            device: 5,
-            inode: 6,
-            len: 4096,
-            changed,
-        },
-        directory: FileState {
-            device: 9,
-            inode: 10,
-            len: 0,
-            changed: 11,
-        },
-    }
-}
-
-#[test]
-fn notes_are_read_back(rt: HostRuntime) -> Result<(), Fail> {
-    let none = Notes {
-        saves: 258,
-        applied: None,
-    };
-    let some = Notes {
-        saves: 18446744073709551615,
-        applied: Some(applied(2, 8)),
-    };
-    assert!(rt; Notes::from_bytes(&none.bytes()) == Some(none));
-    assert!(rt; Notes::from_bytes(&some.bytes()) == Some(some));
-    assert!(rt; none.bytes()[..17] == b"sdbmnot1\x02\x01\0\0\0\0\0\0\0"[..]);
-    assert!(rt; some.bytes()[8..17] == [255, 255, 255, 255, 255, 255, 255, 255, 1][..]);
-    Ok(())
-}
-
-#[test]
-fn other_bytes_are_no_notes(rt: HostRuntime) -> Result<(), Fail> {
-    let notes = Notes {
-        saves: 1,
-        applied: Some(applied(2, 8)),
-    };
-    let bytes = notes.bytes();
-    for index in 0..bytes.len() {
-        let mut torn = bytes;
-        torn[index] = torn[index].wrapping_add(1);
-        assert!(rt; Notes::from_bytes(&torn) == None);
-    }
-    assert!(rt; Notes::from_bytes(&[0; NOTES_LEN]) == None);
-    assert!(rt; Notes::from_bytes(&bytes[1..]) == None);
-    Ok(())
-}
-
-#[test]
-fn a_hint_is_for_one_end_and_one_state_of_the_files(rt: HostRuntime) -> Result<(), Fail> {
-    let notes = Notes {
-        saves: 1,
-        applied: Some(applied(2, 8)),
-    };
-    let none = Notes {
-        saves: 1,
-        applied: None,
-    };
-    assert!(rt; says_applied(&notes, &applied(2, 8)));
-    assert!(rt; !says_applied(&notes, &applied(3, 8)));
-    assert!(rt; !says_applied(&notes, &applied(2, 9)));
-    assert!(rt; !says_applied(&none, &applied(2, 8)));
     Ok(())
 }
 

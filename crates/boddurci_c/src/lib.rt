@@ -3,6 +3,9 @@
 #![tactic(auto)]
 
 ghost use Rattle.std.specs.Prelude.{◌≡◌, ◌≢◌, ◌⊎◌, Option, Some, None, IfOk, IfErr, OnOk, OnErr};
+ghost use Rattle.sdbm_addr.specs.Directory.{page_of, Splits};
+ghost use Rattle.sdbm_addr.specs.DirectoryFile.{SpellsDirectory};
+ghost use Rattle.sdbm_addr.specs.Hash.{hash_of};
 ghost use Rattle.store_cmd.specs.declared.Command.TheVariants.{Store, Delete};
 ghost use Rattle.boddurci_c.specs.Calls.{CallDenies, Never, CallSays, Fetches, CountsPairs, RunsProgram, DeniesRun, SetsLimit, NumbersProgram, Rejects, WritesFiles, LacksMemory, ListsChanged, Remarks, IsDbOpened, OpensOr, open_word, mode_for, blank_for, kind_for, size_for, empty_registry, status_of_fault, status_of_open};
 ghost use Rattle.boddurci_handles.specs.Pieces.{bytes_read};
@@ -542,15 +545,17 @@ fn form_of(unsigned_keys: u32, wide: u32) -> (KeyBytes, PageSize)
     }
 }
 
-/// Returns the number of the page of a key, computed from the bytes of `.dir`. These may be invalid: `boddurci_open_page` checks the
-/// result.
+/// Returns the number of the page of a key, computed from the bytes of `.dir`. These may be invalid: then no clause says which page it is, and
+/// `boddurci_open_page` refuses the page.
 #[unsafe(no_mangle)]
 pub extern "C" fn boddurci_page_of(
     _alloc: Global,
     key: &[u8],
     dir: &[u8],
     unsigned_keys: u32,
-) -> u32 {
+) -> u32
+    ensures { (splits : Splits) → SpellsDirectory dir.now splits → result ≡ page_of splits (hash_of (kind_for unsigned_keys) key.now) }
+{
     let (kind, _) = form_of(unsigned_keys, 0);
     page_of(dir, kind, key)
 }

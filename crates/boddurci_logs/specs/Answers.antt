@@ -1,10 +1,10 @@
 -- The answers of the C calls about a log.
-use Rattle.std.specs.Prelude.{◌≡◌, ◌≢◌, ◌⊎◌, ◌<◌, ◌≤◌, ℕ, ◌+◌, ◌^◌, List, ◌++◌, length, take, drop, get_or, true}
+use Rattle.std.specs.Prelude.{◌≡◌, ◌≢◌, ◌⊎◌, ◌<◌, ◌≤◌, ℕ, ◌+◌, ◌^◌, List, [], ◌∷◌, ◌++◌, length, take, drop, get_or, true}
 use Rattle.sdbm_saves.specs.Acts.{seen_after}
 use Rattle.sdbm_saves.specs.Disk.{Image, resized}
 use Rattle.sdbm_saves.specs.declared.disk.DiskFile.{DiskFile}
 use Rattle.sdbm_saves.specs.Redo.{count_of, files, new_length, renewed, IsPlan}
-use Rattle.sdbm_tail.specs.Tail.{share_acts, append_acts, IsPartFrom}
+use Rattle.sdbm_tail.specs.Tail.{share_acts, append_acts, CanJoin, IsPartFrom}
 use Rattle.sdbm_log.specs.Doing.{CanDo}
 use Rattle.sdbm_log.specs.Log.{files_of, record_of, is_whole, size_at, first_plan, next_plan, CanFollow, CanRecover}
 use Rattle.sdbm_log.specs.Protocol.{apply_acts, close_acts}
@@ -16,6 +16,11 @@ use Rattle.boddurci_handles.specs.declared.status.Status.{Status}
 use Rattle.boddurci_handles.specs.declared.status.Status.TheVariants.{Done, ShortRoom, BadFiles, Stale, NoMemory, TooLong}
 use Rattle.boddurci_logs.specs.declared.place.LogPlace.{LogPlace}
 use Rattle.boddurci_logs.specs.Words.{words_of}
+
+-- the status is one of these
+abbrev pub IsOneOf : List Status → Status → Type 0
+IsOneOf [] status = ⊥
+IsOneOf (one ∷ others) status = (status ≡ one) ⊎ IsOneOf others status
 
 -- the items are at the front of the buffer, and the rest of it is unchanged
 abbrev pub IsFilled : {X : Type 0} → List X → List X → List X → Type 0
@@ -73,6 +78,7 @@ pub record OpenAnswer (found : Image) (room : ℕ) (log_old log_new : LogPlace) 
   pub short : status ≡ ShortRoom → (length bytes_old < bytes_len) ⊎ (length words_old < words_len)
   pub refused : (status ≡ BadFiles) ⊎ (status ≡ Stale) → CanRecover found → ⊥
   pub too_long : status ≡ TooLong → 2 ^ 30 < room
+  pub only : IsOneOf (Done ∷ ShortRoom ∷ BadFiles ∷ Stale ∷ TooLong ∷ NoMemory ∷ []) status
 
 -- The answer of a call for the steps of a reader.
 pub record ReadAnswer (found : Image) (bytes_old bytes_new : List ℕ) (bytes_len : ℕ) (words_old words_new : List ℕ) (words_len : ℕ) (status : Status) : Type 0 where
@@ -81,6 +87,7 @@ pub record ReadAnswer (found : Image) (bytes_old bytes_new : List ℕ) (bytes_le
   pub untouched : status ≢ Done → (bytes_new ≡ bytes_old) × (words_new ≡ words_old)
   pub short : status ≡ ShortRoom → (length bytes_old < bytes_len) ⊎ (length words_old < words_len)
   pub refused : (status ≡ BadFiles) ⊎ (status ≡ Stale) → CanRecover found → ⊥
+  pub only : IsOneOf (Done ∷ ShortRoom ∷ BadFiles ∷ Stale ∷ NoMemory ∷ []) status
 
 -- The answer of a call for the steps of a save. The plan follows the first 18 bytes, and the steps write bytes of the buffer.
 pub record SaveAnswer (log_old log_new : LogPlace) (bytes_old bytes_new words_old words_new : List ℕ) (words_len committed : ℕ) (status : Status) : Type 0 where
@@ -91,12 +98,14 @@ pub record SaveAnswer (log_old log_new : LogPlace) (bytes_old bytes_new words_ol
   pub short : status ≡ ShortRoom → length words_old < words_len
   pub refused : status ≡ BadFiles → (length bytes_old < 18) ⊎ (IsPlan (drop 18 bytes_old) → ⊥)
   pub too_long : status ≡ TooLong → (3000000018 ≤ length bytes_old) ⊎ (3000000000 < log_old.end)
+  pub only : IsOneOf (Done ∷ ShortRoom ∷ BadFiles ∷ TooLong ∷ NoMemory ∷ []) status
 
 -- The answer of a call for the steps that close a log.
 pub record CloseAnswer (words_old words_new : List ℕ) (words_len : ℕ) (status : Status) : Type 0 where
   pub done : status ≡ Done → (steps : List Step) × (IsFilled (words_of steps) words_old words_new × ((words_len ≡ length (words_of steps)) × ((buffer : List ℕ) → acts_of buffer steps ≡ close_acts)))
   pub untouched : status ≢ Done → words_new ≡ words_old
   pub short : status ≡ ShortRoom → length words_old < words_len
+  pub only : IsOneOf (Done ∷ ShortRoom ∷ NoMemory ∷ []) status
 
 -- The steps append the record of a plan to a log with records, without a sync, and `new` is the log after them.
 pub record AreAppendSteps (plan : List ℕ) (old new : LogPlace) (buffer : List ℕ) (steps : List Step) : Type 0 where
@@ -115,12 +124,15 @@ pub record AppendAnswer (log_old log_new : LogPlace) (bytes_old bytes_new words_
   pub short : status ≡ ShortRoom → length words_old < words_len
   pub refused : status ≡ BadFiles → (length bytes_old < 18) ⊎ (IsPlan (drop 18 bytes_old) → ⊥)
   pub full : status ≡ Stale → (log_old.end ≡ 0) ⊎ (CanTake (log_at log_old) (drop 18 bytes_old) → ⊥)
+  pub too_long : status ≡ TooLong → (3000000018 ≤ length bytes_old) ⊎ (3000000000 < log_old.end)
+  pub only : IsOneOf (Done ∷ ShortRoom ∷ BadFiles ∷ Stale ∷ TooLong ∷ NoMemory ∷ []) status
 
 -- The answer of a call for the steps that make a log shared. They write bytes of a buffer of steps.
 pub record ShareAnswer (words_old words_new : List ℕ) (words_len : ℕ) (status : Status) : Type 0 where
   pub done : status ≡ Done → (steps : List Step) × (IsFilled (words_of steps) words_old words_new × ((words_len ≡ length (words_of steps)) × ((rest : List ℕ) → acts_of (with_head rest) steps ≡ share_acts)))
   pub untouched : status ≢ Done → words_new ≡ words_old
   pub short : status ≡ ShortRoom → length words_old < words_len
+  pub only : IsOneOf (Done ∷ ShortRoom ∷ NoMemory ∷ []) status
 
 -- The answer of a call for the steps that apply a plan. The plan follows the first 18 bytes, and the steps write bytes of the plan.
 pub record ApplyAnswer (bytes words_old words_new : List ℕ) (words_len : ℕ) (status : Status) : Type 0 where
@@ -128,14 +140,19 @@ pub record ApplyAnswer (bytes words_old words_new : List ℕ) (words_len : ℕ) 
   pub untouched : status ≢ Done → words_new ≡ words_old
   pub short : status ≡ ShortRoom → length words_old < words_len
   pub refused : status ≡ BadFiles → (length bytes < 18) ⊎ (IsPlan (drop 18 bytes) → ⊥)
+  pub too_long : status ≡ TooLong → 3000000018 ≤ length bytes
+  pub only : IsOneOf (Done ∷ ShortRoom ∷ BadFiles ∷ TooLong ∷ NoMemory ∷ []) status
 
 -- The answer of a call that joins the plan of the first record to the plan in the first `old_len` bytes of a buffer. If `old_len` is 0, the
--- result is the plan of the record.
+-- result is the plan of the record. A record that can be joined is refused only if the result does not fit.
 pub record JoinAnswer (records room_old room_new : List ℕ) (old_len new_len used : ℕ) (status : Status) : Type 0 where
   pub record_is : status ≡ Done → (is_whole records ≡ true) × (IsPlan (first_plan records) × (used ≡ 8 + size_at records))
   pub follows : status ≡ Done → CanFollow old_len (take old_len room_old) (first_plan records)
   pub joined : status ≡ Done → (new_len ≤ length room_new) × (take new_len room_new ≡ next_plan old_len (take old_len room_old) (first_plan records))
   pub untouched : status ≢ Done → (room_new ≡ room_old) × (new_len ≡ old_len)
+  pub short : status ≡ ShortRoom → CanJoin old_len (take old_len room_old) records × (length room_old < length (next_plan old_len (take old_len room_old) (first_plan records)))
+  pub refused : status ≡ BadFiles → (length room_old < old_len) ⊎ (CanJoin old_len (take old_len room_old) records → ⊥)
+  pub only : IsOneOf (Done ∷ ShortRoom ∷ BadFiles ∷ []) status
 
 -- The answer of a call that lays a plan over a part of a file.
 pub record LayAnswer (plan : List ℕ) (file : DiskFile) (from : ℕ) (part_old part_new : List ℕ) (touched : ℕ) (status : Status) : Type 0 where
@@ -145,3 +162,4 @@ pub record LayAnswer (plan : List ℕ) (file : DiskFile) (from : ℕ) (part_old 
   pub untouched : status ≢ Done → part_new ≡ part_old
   pub refused : status ≡ BadFiles → IsPlan plan → ⊥
   pub too_long : status ≡ TooLong → new_length file plan < from + length part_old
+  pub only : IsOneOf (Done ∷ BadFiles ∷ TooLong ∷ []) status

@@ -1,6 +1,7 @@
 //! Steps as words of 64 bits, five words a step.
 ghost use Rattle.std.specs.Prelude.{◌≡◌, ◌∷◌, ◌⊎◌, [], IfOk};
 ghost use Rattle.boddurci_handles.specs.declared.status.Status.TheVariants as status;
+ghost use Rattle.boddurci_logs.specs.Answers.{IsOneOf};
 ghost use Rattle.boddurci_logs.specs.Words.{number_of_file, words_of_step, words_of};
 ghost use Rattle.sdbm_log.specs.declared.records.LogFault.TheVariants as fault;
 
@@ -53,6 +54,7 @@ pub fn status_of(why: LogFault) -> Status
     ensures memory { why ≡ fault.NoMemory → result ≡ status.NoMemory }
     ensures foreign { why ≡ fault.Foreign → result ≡ status.BadFiles }
     ensures damaged { why ≡ fault.Damaged → result ≡ status.Stale }
+    ensures only { IsOneOf (status.BadFiles ∷ status.Stale ∷ status.NoMemory ∷ []) result }
 {
     match why {
         LogFault::NoMemory => Status::NoMemory,

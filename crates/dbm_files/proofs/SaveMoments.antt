@@ -1,4 +1,4 @@
--- Crashes during a save of a database.
+-- Crashes during a save of a database, and the evidence of a save.
 use Rattle.std.proofs.Common.{◌≡◌, ◌⊎◌, inl, inr, ⊎_elim, ℕ, List, sym, ◌∙◌, ap, subst}
 use Rattle.sdbm_addr.specs.Database.{Database}
 use Rattle.sdbm_saves.specs.declared.disk.DiskFile.TheVariants.{Pages, Directory}
@@ -7,7 +7,19 @@ use Rattle.sdbm_saves.specs.Redo.{files, renewed, renewed_files}
 use Rattle.sdbm_saves.specs.Saves.{AreFilesFor, IsSaving}
 use Rattle.sdbm_log.specs.Log.{Holds}
 use Rattle.sdbm_saves.proofs.Moments.{at_first, weaker}
-use Rattle.dbm_files.specs.Saving.{HoldsDatabase, IsOldOrSaved, LeavesFiles}
+use Rattle.sdbm_saves.specs.declared.disk.DiskError.{DiskError}
+use Rattle.store_saves.specs.declared.saved.AfterSave.{AfterSave}
+use Rattle.store_saves.specs.declared.saved.AfterSave.TheVariants.{Pending}
+use Rattle.store_saves.specs.Saved.{HoldsDatabase, LeavesDatabase, LeavesSaved}
+use Rattle.store_saves.proofs.Leaves.{holds_files}
+use Rattle.dbm_files.specs.Saving.{IsOldOrSaved, LeavesFiles}
+
+-- after a save that is pending, the disk holds the database
+pub pending_holds : {D : Type 0} (may_leave : D → Image → Type 0) (db : Database) (both : List ℕ × List ℕ) (after : AfterSave D) (disk : D) (fault : DiskError) → after ≡ Pending disk fault
+    → AreFilesFor db both.0 both.1 → LeavesSaved may_leave both after → LeavesDatabase may_leave db disk
+pending_holds may_leave db both after disk fault is files leaves = λ o left.
+    let pending : LeavesSaved may_leave both (Pending disk fault) = subst (λ a. LeavesSaved may_leave both a) is leaves in
+    holds_files db both o files (pending o left)
 
 module _ {D : Type 0} (moment : D → ℕ) (left_since : D → ℕ → Image → Type 0) (may_leave : D → Image → Type 0) (before : List ℕ × List ℕ) (db : Database) (old : D) where
   -- the images that a crash may leave at any time
@@ -22,7 +34,7 @@ module _ {D : Type 0} (moment : D → ℕ) (left_since : D → ℕ → Image →
     renewed_same = ap (λ (p : List ℕ × List ℕ). (renewed Pages plan p.0, renewed Directory plan p.1)) same
 
     holds : (c : Image) → Holds (renewed_files plan seen) c → HoldsDatabase db c
-    holds c is = (subst (λ (p : List ℕ × List ℕ). AreFilesFor db p.0 p.1) (sym (is.0 ∙ renewed_same)) saving.files, is.1)
+    holds c is = holds_files db (renewed_files plan seen) c (subst (λ (p : List ℕ × List ℕ). AreFilesFor db p.0 p.1) (sym renewed_same) saving.files) is
 
     pub saves : (new : D) → LeavesFiles (renewed_files plan seen) may_leave new → (c : Image) → may_leave new c → HoldsDatabase db c
     saves new leaves c left = holds c (leaves c left)

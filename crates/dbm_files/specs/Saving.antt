@@ -3,15 +3,12 @@ use Rattle.std.specs.Prelude.{◌≡◌, ◌⊎◌, ℕ, List}
 use Rattle.sdbm_addr.specs.Database.{Database}
 use Rattle.sdbm_saves.specs.Disk.{Image}
 use Rattle.sdbm_saves.specs.Saves.{AreFilesFor}
-use Rattle.sdbm_log.specs.Log.{files_of, CanRecover, Holds}
+use Rattle.sdbm_log.specs.Log.{Holds}
+use Rattle.store_saves.specs.Saved.{HoldsDatabase}
 
 -- each image that a crash may leave represents these files and can be recovered
 abbrev pub LeavesFiles : {D : Type 0} → List ℕ × List ℕ → (D → Image → Type 0) → D → Type 0
 LeavesFiles both may_leave disk = (c : Image) → may_leave disk c → Holds both c
-
--- an image represents the files of a database and can be recovered
-abbrev pub HoldsDatabase : Database → Image → Type 0
-HoldsDatabase db image = AreFilesFor db (files_of image).0 (files_of image).1 × CanRecover image
 
 -- an image represents the old files, or the files of a database, and can be recovered
 abbrev pub IsOldOrSaved : List ℕ × List ℕ → Database → Image → Type 0

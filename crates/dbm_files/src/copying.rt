@@ -95,7 +95,7 @@ fn save_early<R: Files<File = File> + Clock + AllocGlobal>(
         pages: &bytes.pages,
         directory: bytes.directory.as_slice(),
     };
-    match save_held(rt, &held, &held.seen, old, image)? {
+    match save_held(rt, &held, &held.seen, old, image)?.outcome {
         SaveOutcome::Whole => Ok(()),
         SaveOutcome::Unchanged => synced(sync_both(rt, early)),
         SaveOutcome::Pending => Err(FilesFault::WriteFile),

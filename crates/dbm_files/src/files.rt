@@ -1,8 +1,11 @@
 //! Opens, reads and recovers the files of a run.
-ghost use Rattle.std.specs.Prelude.{◌≡◌, ◌≤◌, ◌%◌, length, true, IfOk, IfSome, OnOk};
+ghost use Rattle.std.specs.Prelude.{◌≡◌, ◌≤◌, ◌%◌, length, true, IfOk, IfSome, IsNone, OnOk};
 ghost use Rattle.sdbm_files.specs.Reading.{with_piece};
 ghost use Rattle.sdbm_addr.specs.Pairs.{page_bytes};
+ghost use Rattle.sdbm_saves.specs.Recording.{image_of};
 ghost use Rattle.sdbm_saves.specs.Redo.{IsPlan};
+ghost use Rattle.sdbm_log.specs.Log.{files_of};
+ghost use Rattle.sdbm_log.specs.Saving.{HasNoPlan, IsRedoPlan};
 
 use crate::host::RealFiles;
 use crate::peeking::{Guard, UnreadPages};
@@ -14,12 +17,12 @@ use dbm_places::{
 };
 use sdbm_addr::PageSize;
 use sdbm_files::ReadPages;
-use sdbm_log::{LogFault, LogFiles, make_steps, plan_of, recover_steps};
-use sdbm_saves::{CallLog, Disk, DiskFile, Found, Recorded, Unknown, number, plan_in};
+use sdbm_log::{LogFault, LogFiles, plan_of};
+use sdbm_logged::{OpenFault, lay_both, recover_log};
+use sdbm_saves::{CallLog, Found, GhostImage, Recorded, Unknown, number, plan_in};
 use std::alloc::Global;
 use std::fs::{File, OpenFile};
 use std::io::{self, ErrorKind, Read};
-use std::marker::Brand;
 use std::rt::Files;
 use std::time::{Clock, Duration};
 use std::{fs, thread};
@@ -374,13 +377,14 @@ fn read_database<R: Files<File = File> + AllocGlobal>(
     }
     if place.writes {
         drop(plan);
-        recover_files(rt, &files.names, seen, found)?;
+        recover_files(rt, &files.names, seen, &found)?;
+        drop(found);
         return read_files(rt, place, false);
     }
     if keep_plan(rt, &files.names).is_err() {
         return Err(FilesFault::ReadFile);
     }
-    let over = lay_over(rt.alloc(), place, found, plan)?;
+    let over = lay_found(rt.alloc(), place, found, plan)?;
     Ok(FileBytes {
         program: read.program,
         seen,
@@ -431,46 +435,29 @@ fn keep_plan<R: Files<File = File>>(rt: &R, names: &Names) -> io::Result<()> {
     Ok(())
 }
 
-// Applies the plan, if there is one, to the bytes of the data files.
-fn lay_over(
+// Returns the data files that the three files represent, for a reader. `plan` is the plan of `plan_of`.
+fn lay_found(
     alloc: Global,
     place: RunPlace<'_>,
     found: Found,
     plan: Option<Vec<u8>>,
 ) -> Result<FileBytes, FilesFault>
-    requires { IfSome plan (λ plan. IsPlan plan.items) }
+    requires some { IfSome plan (λ plan. IsRedoPlan (image_of found) plan.items) }
+    requires plan { IfSome plan (λ plan. IsPlan plan.items) }
+    requires none { IsNone plan → HasNoPlan (image_of found) }
+    ensures { IfOk result (λ read. (read.pages.bytes, read.directory.items) ≡ files_of (image_of found)) }
 {
-    let Found {
-        pages: old_pages,
-        directory: old_directory,
-        redo,
-    } = found;
-    drop(redo);
+    let both = lay_both(alloc, found, plan)?;
     let mut pages = ReadPages::new(alloc, place.page_size);
-    let Some(plan) = plan else {
-        pages.push(old_pages.as_slice())?;
-        return Ok(read_over(alloc, pages, old_directory));
-    };
-    let new_pages = sdbm_saves::lay_over(
-        alloc,
-        plan.as_slice(),
-        DiskFile::Pages,
-        old_pages.as_slice(),
-    )?;
-    drop(old_pages);
-    pages.push(new_pages.as_slice())?;
-    drop(new_pages);
-    let directory = sdbm_saves::lay_over(
-        alloc,
-        plan.as_slice(),
-        DiskFile::Directory,
-        old_directory.as_slice(),
-    )?;
-    Ok(read_over(alloc, pages, directory))
+    pages.push(both.pages.as_slice())?;
+    Ok(read_over(alloc, pages, both.directory))
 }
 
 // Returns the data files as a `FileBytes` without a program.
-fn read_over(alloc: Global, pages: ReadPages<Global>, directory: Vec<u8>) -> FileBytes {
+fn read_over(alloc: Global, pages: ReadPages<Global>, directory: Vec<u8>) -> FileBytes
+    ensures pages { result.pages ≡ pages }
+    ensures directory { result.directory ≡ directory }
+{
     FileBytes {
         directory,
         pages,
@@ -479,23 +466,21 @@ fn read_over(alloc: Global, pages: ReadPages<Global>, directory: Vec<u8>) -> Fil
     }
 }
 
-// Recovers the files after a kill or a power failure. Applies the redo file to both data files, clears the commit byte, and removes the
-// redo file.
+// Recovers the files after a kill or a power failure, and removes the redo file.
 fn recover_files<R: Files<File = File> + AllocGlobal>(
     rt: &R,
     names: &Names,
     seen: SeenFiles,
-    found: Found,
+    found: &Found,
 ) -> Result<(), FilesFault> {
-    let made = match recover_steps::<Brand>(rt.alloc(), log_files(&found)) {
-        Ok(made) => made,
-        Err(fault) => return Err(fault_of(fault)),
-    };
     let files = RealFiles::new(rt, names, seen, false, CallLog::new(rt.alloc())?);
-    let mut disk = Recorded::<RealFiles<'_, R>, Unknown, Found>::new(files, found);
-    let bytes = made.bytes.as_slice();
-    make_steps(rt.alloc(), &mut disk, bytes, made.steps.as_slice())?;
-    Ok(disk.clear()?)
+    let read = GhostImage::of(found);
+    let mut disk = Recorded::<RealFiles<'_, R>, Unknown, GhostImage>::new(files, read);
+    match recover_log(rt.alloc(), &mut disk, log_files(found)) {
+        Ok(()) => Ok(()),
+        Err(OpenFault::Files(fault)) => Err(fault_of(fault)),
+        Err(OpenFault::Disk(fault)) => Err(fault.into()),
+    }
 }
 
 // Returns the bytes of a committed redo file, or no bytes if the run does not need them. A reading run that holds BASE.lock does not need

@@ -1,5 +1,5 @@
 //! The saves of a session, whose log stays open from one save to the next.
-ghost use Rattle.std.specs.Prelude.{◌≡◌, ◌≢◌, ◌<◌, [], length, get_or, IfOk, IfSome, None, OnOk, Some};
+ghost use Rattle.std.specs.Prelude.{◌≡◌, ◌≢◌, ◌⊎◌, ◌<◌, [], length, get_or, IfOk, IfSome, None, OnOk, Some};
 ghost use Rattle.sdbm_saves.specs.CallLog.{acts};
 ghost use Rattle.sdbm_saves.specs.Redo.{renewed, IsPlan, Knows};
 ghost use Rattle.sdbm_saves.specs.declared.disk.DiskFile.TheVariants.{Pages, Directory};
@@ -9,6 +9,7 @@ ghost use Rattle.dbm_files.specs.Sessions.{IsSavedAs, saved_in};
 
 use crate::files::{LockedFiles, read_again};
 use crate::host::{RealFiles, forget_redo};
+use crate::receipt::{Receipt, Saved};
 use crate::saving::SaveOutcome;
 use crate::sight::{Look, Sight, have_bytes, knows};
 use crate::states::DataStates;
@@ -142,8 +143,9 @@ impl<'a, R: Files<File = File> + AllocGlobal> SessionSaves<'a, R> {
     // Takes over the data files that a save has created. If the files that have their names now have other bytes, or cannot be read, another
     // program has written or replaced a new file, and the next save fails with `Changed`. Closes the log, since a replaced file may be
     // open there; the next save opens the files by their names. If the log cannot be closed, the save is `Pending`.
-    fn take_made(&mut self, rt: &R, place: &Place, saved: SaveOutcome) -> SaveOutcome
-        ensures { self.new ≡ None }
+    fn take_made(&mut self, rt: &R, place: &Place, saved: Saved) -> Saved
+        ensures unknown { self.new ≡ None }
+        ensures receipt { result.receipt ≡ saved.receipt }
     {
         let mut files = DataFiles::none();
         files.open_more(rt, &place.names);
@@ -154,8 +156,22 @@ impl<'a, R: Files<File = File> + AllocGlobal> SessionSaves<'a, R> {
         self.files = files;
         match close_log(rt.alloc(), self.log.take()) {
             Ok(()) => saved,
-            Err(_) => SaveOutcome::Pending,
+            Err(_) => Saved {
+                outcome: SaveOutcome::Pending,
+                receipt: saved.receipt,
+            },
         }
+    }
+
+    // Takes over the data files that a save has created, if it has created one.
+    fn take_any(&mut self, rt: &R, place: &Place, saved: Saved) -> Saved
+        ensures saves { self.new ≡ None ⊎ self.new ≡ self.old }
+        ensures receipt { result.receipt ≡ saved.receipt }
+    {
+        if saved.outcome == SaveOutcome::Unchanged || !self.seen.lacks_file() {
+            return saved;
+        }
+        self.take_made(rt, place, saved)
     }
 }
 
@@ -171,7 +187,28 @@ fn mark_log<'a, R: Files<File = File> + AllocGlobal>(
     }
     let read = read_again(rt, place, held, &held.seen)?;
     must_be_unwritten(rt, &held.place.names, held.states)?;
-    save_opening(rt, held, &read, None, log)
+    let plan = plan_nothing(rt.alloc(), read_of(&read))?;
+    save_opening(rt, held, &read, plan.as_slice(), None, log)?;
+    Ok(outcome_in(log))
+}
+
+// Returns the data files of a read.
+fn read_of(read: &FileBytes) -> ReadFiles<'_, Global>
+    ensures pages { result.pages.now ≡ read.now.pages }
+    ensures directory { result.directory.now ≡ read.now.directory.items }
+{
+    ReadFiles {
+        pages: &read.pages,
+        directory: read.directory.as_slice(),
+    }
+}
+
+// Returns the outcome of the save that has opened a log: the log is closed if a call failed after the commit.
+fn outcome_in<R: Files<File = File>>(log: &SessionLog<'_, R>) -> SaveOutcome {
+    match log {
+        SessionLog::Closed => SaveOutcome::Pending,
+        SessionLog::Kept(_) | SessionLog::Marked(_) => SaveOutcome::Whole,
+    }
 }
 
 /// Saves a database in a session: takes BASE.lock, and releases it once the save is committed. The first save opens a log. A later save
@@ -194,28 +231,38 @@ pub fn save_session<'a, R: Files<File = File> + Clock + AllocGlobal>(
     saves: &mut SessionSaves<'a, R>,
     image: &Image<Global>,
     changes: &Changes,
-) -> Result<SaveOutcome, FilesFault>
+) -> Result<Saved, FilesFault>
     requires noted { AreNoted saves.old changes.now image.now }
     ensures saved { OnOk result (IfSome saves.new (λ base. base ≡ image.now)) }
+    ensures receipt { IfOk result (λ saved. saved.receipt ≡ image.now) }
 {
     held.locks.enter_files()?;
-    let saved = match save_soon(rt, held, saves, image, changes) {
-        Ok(Some(saved)) => Ok(saved),
-        Ok(None) => save_looking(rt, place, held, saves, image),
-        Err(fault) => Err(fault),
-    };
-    let saved = match saved {
-        Ok(made) if made != SaveOutcome::Unchanged && saves.seen.lacks_file() => {
-            Ok(saves.take_made(rt, &held.place, made))
-        }
-        saved => saved,
-    };
-    match saved {
-        Ok(SaveOutcome::Whole | SaveOutcome::Unchanged) => held.locks.leave_files(),
-        Ok(SaveOutcome::Pending) => held.locks.leave_unfinished(),
-        Err(_) => (),
+    let saved = save_entered(rt, place, held, saves, image, changes)?;
+    let saved = saves.take_any(rt, &held.place, saved);
+    match saved.outcome {
+        SaveOutcome::Whole | SaveOutcome::Unchanged => held.locks.leave_files(),
+        SaveOutcome::Pending => held.locks.leave_unfinished(),
     }
-    saved
+    Ok(saved)
+}
+
+// Saves under BASE.lock, without a look at the files if that is enough.
+fn save_entered<'a, R: Files<File = File> + Clock + AllocGlobal>(
+    rt: &'a R,
+    place: RunPlace<'_>,
+    held: &'a LockedFiles,
+    saves: &mut SessionSaves<'a, R>,
+    image: &Image<Global>,
+    changes: &Changes,
+) -> Result<Saved, FilesFault>
+    requires noted { AreNoted saves.old changes.now image.now }
+    ensures saved { OnOk result (IfSome saves.new (λ base. base ≡ image.now)) }
+    ensures receipt { IfOk result (λ saved. saved.receipt ≡ image.now) }
+{
+    match save_soon(rt, held, saves, image, changes)? {
+        Some(saved) => Ok(saved),
+        None => save_looking(rt, place, held, saves, image),
+    }
 }
 
 // Saves in the open log without a look at the files, under BASE.lock. Returns `None`, and leaves the log open, if the save has to look.
@@ -225,21 +272,23 @@ fn save_soon<'a, R: Files<File = File> + Clock + AllocGlobal>(
     saves: &mut SessionSaves<'a, R>,
     image: &Image<Global>,
     changes: &Changes,
-) -> Result<Option<SaveOutcome>, FilesFault>
+) -> Result<Option<Saved>, FilesFault>
     requires noted { AreNoted saves.old changes.now image.now }
-    ensures saved { IfOk result (λ saved. saved ≢ None → IfSome saves.new (λ base. base ≡ image.now)) }
+    ensures saved { IfOk result (λ saved. IfSome saved (λ _. IfSome saves.new (λ base. base ≡ image.now))) }
+    ensures receipt { IfOk result (λ saved. IfSome saved (λ saved. saved.receipt ≡ image.now)) }
 {
     if !saves.sight.is_recent(rt, &held.place) {
         return Ok(None);
     }
     let files = Some(&saves.files);
-    let saved = save_more(rt.alloc(), &mut saves.log, image, changes, files)?;
-    match saved {
-        Some(SaveOutcome::Whole) => saves.sight.note_save(),
-        Some(_) => saves.sight.renew(rt, &held.place, None, false),
-        None => (),
+    let Some(saved) = save_more(rt.alloc(), &mut saves.log, image, changes, files)? else {
+        return Ok(None);
+    };
+    match saved.outcome {
+        SaveOutcome::Whole => saves.sight.note_save(),
+        _ => saves.sight.renew(rt, &held.place, None, false),
     }
-    Ok(saved)
+    Ok(Some(saved))
 }
 
 // Looks at the files, and saves, under BASE.lock.
@@ -249,8 +298,9 @@ fn save_looking<'a, R: Files<File = File> + Clock + AllocGlobal>(
     held: &'a LockedFiles,
     saves: &mut SessionSaves<'a, R>,
     image: &Image<Global>,
-) -> Result<SaveOutcome, FilesFault>
+) -> Result<Saved, FilesFault>
     ensures saved { OnOk result (IfSome saves.new (λ base. base ≡ image.now)) }
+    ensures receipt { IfOk result (λ saved. saved.receipt ≡ image.now) }
 {
     let look = Look::begin(rt, &held.place);
     let seen = saves.seen;
@@ -284,8 +334,9 @@ fn save_locked<'a, R: Files<File = File> + AllocGlobal>(
     found: Option<DataStates>,
     saves: &mut SessionSaves<'a, R>,
     image: &Image<Global>,
-) -> Result<SaveOutcome, FilesFault>
+) -> Result<Saved, FilesFault>
     ensures saved { OnOk result (IfSome saves.new (λ base. base ≡ image.now)) }
+    ensures receipt { IfOk result (λ saved. saved.receipt ≡ image.now) }
 {
     if let Some(saved) = save_more(rt.alloc(), &mut saves.log, image, &Changes::Any, None)? {
         return Ok(saved);
@@ -296,10 +347,34 @@ fn save_locked<'a, R: Files<File = File> + AllocGlobal>(
     if let Some(found) = found {
         must_be_unwritten(rt, &held.place.names, found)?;
     }
-    match save_opening(rt, held, &read, Some(image), &mut saves.log) {
+    // A save without a change creates no file.
+    if seen.lacks_file() && plan_read(rt.alloc(), read_of(&read), image)?.is_none() {
+        return save_alone(rt, place, held, &seen, image);
+    }
+    match save_new(rt, held, &read, image, &mut saves.log) {
         Err(FilesFault::WriteFile) => save_alone(rt, place, held, &seen, image),
         saved => saved,
     }
+}
+
+// Saves a database in a new log, which stays open.
+fn save_new<'a, R: Files<File = File> + AllocGlobal>(
+    rt: &'a R,
+    held: &'a LockedFiles,
+    read: &FileBytes,
+    image: &Image<Global>,
+    log: &mut SessionLog<'a, R>,
+) -> Result<Saved, FilesFault>
+    ensures unknown { OnOk result (saved_in log.new ≡ None) }
+    ensures closed { saved_in log.old ≡ None → saved_in log.new ≡ None }
+    ensures receipt { IfOk result (λ saved. saved.receipt ≡ image.now) }
+{
+    let plan = plan_opening(rt.alloc(), read_of(read), image)?;
+    let Some(receipt) = save_opening(rt, held, read, plan.as_slice(), Some(image), log)? else {
+        unreachable!()
+    };
+    let outcome = outcome_in(log);
+    Ok(Saved { outcome, receipt })
 }
 
 /// Closes the log of a session, if it is open, under BASE.lock. Afterwards both data files are complete and durable.
@@ -344,13 +419,11 @@ fn save_alone<R: Files<File = File> + AllocGlobal>(
     held: &LockedFiles,
     seen: &SeenFiles,
     image: &Image<Global>,
-) -> Result<SaveOutcome, FilesFault> {
+) -> Result<Saved, FilesFault>
+    ensures receipt { IfOk result (λ saved. saved.receipt ≡ image.now) }
+{
     let read = read_again(rt, place, held, seen)?;
-    let old = ReadFiles {
-        pages: &read.pages,
-        directory: read.directory.as_slice(),
-    };
-    save_held(rt, held, &read.seen, old, image)
+    save_held(rt, held, &read.seen, read_of(&read), image)
 }
 
 // Saves in a log that stays open. Since the last save, the database must have changed only on the pages in `changes`. Returns `None` if the
@@ -363,9 +436,10 @@ fn save_more<'a, R: Files<File = File>>(
     image: &Image<Global>,
     changes: &Changes,
     files: Option<&DataFiles>,
-) -> Result<Option<SaveOutcome>, FilesFault>
+) -> Result<Option<Saved>, FilesFault>
     requires noted { AreNoted (saved_in log.old) changes.now image.now }
-    ensures saved { IfOk result (λ saved. saved ≢ None → IsSavedAs image.now log.new) }
+    ensures saved { IfOk result (λ saved. IfSome saved (λ _. IsSavedAs image.now log.new)) }
+    ensures receipt { IfOk result (λ saved. IfSome saved (λ saved. saved.receipt ≡ image.now)) }
 {
     match log.take() {
         SessionLog::Kept(kept) => save_kept(alloc, kept, image, changes, files, log),
@@ -384,9 +458,10 @@ fn save_kept<'a, R: Files<File = File>>(
     changes: &Changes,
     files: Option<&DataFiles>,
     log: &mut SessionLog<'a, R>,
-) -> Result<Option<SaveOutcome>, FilesFault>
+) -> Result<Option<Saved>, FilesFault>
     requires noted { AreNoted kept.1 changes.now image.now }
-    ensures saved { IfOk result (λ saved. saved ≢ None → IsSavedAs image.now log.new) }
+    ensures saved { IfOk result (λ saved. IfSome saved (λ _. IsSavedAs image.now log.new)) }
+    ensures receipt { IfOk result (λ saved. IfSome saved (λ saved. saved.receipt ≡ image.now)) }
 {
     match kept.plan(alloc, image, changes) {
         Ok(Some(plan)) => {
@@ -410,8 +485,8 @@ fn save_kept<'a, R: Files<File = File>>(
                 Ok(None)
             }
             None => {
-                *log = SessionLog::Kept(SavedDisk::of(kept.into_kept(), image));
-                Ok(Some(SaveOutcome::Unchanged))
+                let saved = SavedDisk::of(kept.into_kept(), image);
+                Ok(Some(keep(saved, image, SaveOutcome::Unchanged, log)))
             }
         },
         Err(fault) => {
@@ -428,47 +503,70 @@ fn save_planned<'a, R: Files<File = File>>(
     plan: &[u8],
     image: &Image<Global>,
     log: &mut SessionLog<'a, R>,
-) -> Result<Option<SaveOutcome>, FilesFault>
+) -> Result<Option<Saved>, FilesFault>
     requires saving { IsSaving image.now plan.now kept.0.1.files.pages.items kept.0.1.files.directory.items }
-    ensures saved { IfOk result (λ saved. saved ≢ None → IsSavedAs image.now log.new) }
+    ensures saved { IfOk result (λ saved. IfSome saved (λ _. IsSavedAs image.now log.new)) }
+    ensures receipt { IfOk result (λ saved. IfSome saved (λ saved. saved.receipt ≡ image.now)) }
 {
-    match kept.save(alloc, plan, image)? {
+    let after = match kept.save(alloc, plan, image) {
+        Ok(after) => after,
+        Err((fault, _)) => return Err(fault.into()),
+    };
+    match after {
         AfterSave::Full(kept) => {
             *log = SessionLog::Kept(SavedDisk::new(kept));
             Ok(None)
         }
-        AfterSave::Pending(_) => {
+        AfterSave::Pending(disk, _) => {
             *log = SessionLog::Closed;
-            Ok(Some(SaveOutcome::Pending))
+            Ok(Some(Saved {
+                outcome: SaveOutcome::Pending,
+                receipt: Receipt::of(&disk, image),
+            }))
         }
-        AfterSave::Done(saved) => {
-            *log = SessionLog::Kept(saved);
-            Ok(Some(SaveOutcome::Whole))
-        }
+        AfterSave::Done(saved) => Ok(Some(keep(saved, image, SaveOutcome::Whole, log))),
     }
 }
 
-// Saves in a new log, which stays open. Without an `image`, only gives the log its mark. If nothing was committed, removes the redo file.
+// Keeps a log open whose files have this database.
+fn keep<'a, R: Files<File = File>>(
+    saved: SavedDisk<SessionDisk<'a, R>>,
+    image: &Image<Global>,
+    outcome: SaveOutcome,
+    log: &mut SessionLog<'a, R>,
+) -> Saved
+    requires { saved.1 ≡ Some image.now }
+    ensures log { saved_in log.new ≡ Some image.now }
+    ensures receipt { result.receipt ≡ image.now }
+{
+    let receipt = Receipt::of(saved.disk(), image);
+    *log = SessionLog::Kept(saved);
+    Saved { outcome, receipt }
+}
+
+// Saves a plan in a new log, which stays open. If nothing was committed, removes the redo file. Returns the receipt of the database, if the
+// plan is that of a database.
 fn save_opening<'a, R: Files<File = File> + AllocGlobal>(
     rt: &'a R,
     held: &'a LockedFiles,
     read: &FileBytes,
+    plan: &[u8],
     image: Option<&Image<Global>>,
     log: &mut SessionLog<'a, R>,
-) -> Result<SaveOutcome, FilesFault>
+) -> Result<Option<Receipt>, FilesFault>
+    requires plan { IsPlan plan.now }
+    requires knows { Knows plan.now (read.now.pages.bytes, read.now.directory.items) }
+    requires saves { IfSome image (λ image. AreFilesFor image.now (renewed Pages plan.now read.now.pages.bytes) (renewed Directory plan.now read.now.directory.items)) }
     ensures unknown { OnOk result (saved_in log.new ≡ None) }
     ensures closed { saved_in log.old ≡ None → saved_in log.new ≡ None }
+    ensures receipt { IfOk result (λ receipt. IfSome image.entry (λ image. receipt ≡ Some image.now)) }
 {
     let names = &held.place.names;
-    let old = ReadFiles {
-        pages: &read.pages,
-        directory: read.directory.as_slice(),
-    };
-    let plan = plan_opening(rt.alloc(), old, image)?;
+    let old = read_of(read);
     if plan.len() >= PLAN_LIMIT {
         return Err(FilesFault::FileTooLong);
     }
-    let new = kept_bytes(rt.alloc(), old, plan.as_slice())?;
+    let new = kept_bytes(rt.alloc(), old, plan)?;
     let redo = find_redo(rt, names)?;
     let files = RealFiles::new(
         rt,
@@ -481,32 +579,29 @@ fn save_opening<'a, R: Files<File = File> + AllocGlobal>(
         files: old,
         redo: redo.bytes.as_slice(),
     };
-    let saved = save_found(rt.alloc(), files, found, plan.as_slice(), new);
-    if saved.is_err() {
-        forget_redo(rt, names);
-    }
-    *log = saved?;
-    match log {
-        SessionLog::Closed => Ok(SaveOutcome::Pending),
-        _ => Ok(SaveOutcome::Whole),
-    }
+    let opened = match save_found(rt.alloc(), files, found, plan, new, image) {
+        Ok(opened) => opened,
+        Err(fault) => {
+            forget_redo(rt, names);
+            return Err(fault);
+        }
+    };
+    *log = opened.log;
+    Ok(opened.receipt)
 }
 
-// Returns the plan of the first save in a log.
+// Returns the plan of the first save in a log. The plan changes nothing if the files are already those of the database.
 fn plan_opening(
     alloc: Global,
     old: ReadFiles<'_, Global>,
-    image: Option<&Image<Global>>,
+    image: &Image<Global>,
 ) -> Result<Vec<u8>, FilesFault>
-    ensures plan { IfOk result (λ plan. IsPlan plan.items) }
-    ensures knows { IfOk result (λ plan. Knows plan.items (old.entry.pages.now.bytes, old.entry.directory.now)) }
+    ensures { IfOk result (λ plan. IsSaving image.now plan.items old.entry.pages.now.bytes old.entry.directory.now) }
 {
-    if let Some(image) = image
-        && let Some(plan) = plan_read(alloc, old, image)?
-    {
-        return Ok(plan);
+    match plan_read(alloc, old, image)? {
+        Some(plan) => Ok(plan),
+        None => Ok(plan_nothing(alloc, old)?),
     }
-    Ok(plan_nothing(alloc, old)?)
 }
 
 // Returns the bytes of both data files after a plan. Returns `None` if `.pag` is too long to keep in memory.
@@ -531,15 +626,23 @@ fn kept_bytes(
     Ok(Some(bytes.renewed(alloc, plan)?))
 }
 
+// A log that was opened by a save, and the receipt of the database, if the plan of the save is that of a database.
+#[derive(Drop)]
+struct OpenedLog<'a, R: Files<File = File>> {
+    log: SessionLog<'a, R>,
+    receipt: Option<Receipt>,
+}
+
 // Saves a plan in a new log, which stays open. If `new` has the bytes of the data files after the plan, the log takes the next save.
-// Returns `Closed` if a call failed after the commit.
+// The log is `Closed` if a call failed after the commit.
 fn save_found<'a, R: Files<File = File>>(
     alloc: Global,
     files: RealFiles<'a, R>,
     found: FoundRead<'_>,
     plan: &[u8],
     new: Option<DataBytes>,
-) -> Result<SessionLog<'a, R>, FilesFault>
+    image: Option<&Image<Global>>,
+) -> Result<OpenedLog<'a, R>, FilesFault>
     requires fresh { acts files.log ≡ [] }
     requires unmarked { get_or found.redo.now 0 0 ≢ 1 }
     requires short { length plan.now < 3000000000 }
@@ -547,18 +650,21 @@ fn save_found<'a, R: Files<File = File>>(
     requires knows { Knows plan.now (found.files.pages.now.bytes, found.files.directory.now) }
     requires pages { IfSome new (λ new. new.pages.items ≡ renewed Pages plan.now found.files.pages.now.bytes) }
     requires directory { IfSome new (λ new. new.directory.items ≡ renewed Directory plan.now found.files.directory.now) }
-    ensures unknown { IfOk result (λ log. saved_in log ≡ None) }
+    requires saves { IfSome image (λ image. AreFilesFor image.now (renewed Pages plan.now found.files.pages.now.bytes) (renewed Directory plan.now found.files.directory.now)) }
+    ensures unknown { IfOk result (λ opened. saved_in opened.log ≡ None) }
+    ensures receipt { IfOk result (λ opened. IfSome image.entry (λ image. opened.receipt ≡ Some image.now)) }
 {
     let noted = GhostImage::of_read(found.files.pages, found.files.directory, found.redo);
     let mut disk = Recorded::<RealFiles<'a, R>, Unknown, GhostImage>::new(files, noted);
-    match save_first(alloc, &mut disk, found.redo, plan, ROOM)? {
-        (LogSave::Pending(_), _) => Ok(SessionLog::Closed),
-        (LogSave::Done, log) => match new {
-            Some(files) => {
-                let kept = KeptDisk::new(disk, Keeper { log, files });
-                Ok(SessionLog::Kept(SavedDisk::new(kept)))
-            }
-            None => Ok(SessionLog::Marked(LoggedDisk::new(disk, log))),
-        },
-    }
+    let (saved, log) = save_first(alloc, &mut disk, found.redo, plan, ROOM)?;
+    let receipt = Receipt::of_some(&disk, image);
+    let log = match (saved, new) {
+        (LogSave::Pending(_), _) => SessionLog::Closed,
+        (LogSave::Done, Some(files)) => {
+            let kept = KeptDisk::new(disk, Keeper { log, files });
+            SessionLog::Kept(SavedDisk::new(kept))
+        }
+        (LogSave::Done, None) => SessionLog::Marked(LoggedDisk::new(disk, log)),
+    };
+    Ok(OpenedLog { log, receipt })
 }

@@ -5,6 +5,7 @@ ghost use Rattle.sdbm_saves.specs.Recording.{part_pages};
 
 use crate::files::{LockedFiles, read_up_to};
 use crate::host::{RealFiles, forget_redo};
+use crate::receipt::{Receipt, Saved};
 use crate::saving::{Change, Planned, SaveOutcome, save_change, save_plan};
 use crate::states::DataStates;
 use dbm_places::{
@@ -67,7 +68,8 @@ pub fn save_files<R: Files<File = File> + AllocGlobal, W: Write>(
     saved
 }
 
-/// Like `save_files`, but keeps the locks and prints nothing. `seen` must have the IDs of the data files of the last read.
+/// Like `save_files`, but keeps the locks and prints nothing, and returns the receipt of the database. `seen` must have the IDs of the data
+/// files of the last read.
 ///
 /// # Errors
 /// The errors of `save_files`, except `Changed` and `Write`.
@@ -77,7 +79,9 @@ pub fn save_held<R: Files<File = File> + AllocGlobal>(
     seen: &SeenFiles,
     old: ReadFiles<'_, Global>,
     new: &Image<Global>,
-) -> Result<SaveOutcome, FilesFault> {
+) -> Result<Saved, FilesFault>
+    ensures receipt { IfOk result (λ saved. saved.receipt ≡ new.now) }
+{
     let LockedFiles { place, locks, .. } = held;
     place.must_be_held(rt, locks, seen)?;
     let redo = find_redo(rt, &place.names)?;
@@ -96,7 +100,9 @@ pub fn save_held<R: Files<File = File> + AllocGlobal>(
         &mut kept,
     );
     forget_failed(rt, &place.names, &saved);
-    saved
+    let outcome = saved?;
+    let receipt = Receipt::after(&disk, old, new);
+    Ok(Saved { outcome, receipt })
 }
 
 /// A page of a database that a run has read, and the plan of its save.
@@ -168,6 +174,7 @@ fn change_of<'a>(
 ) -> Change<'a>
     ensures before { result.before ≡ old.entry }
     ensures redo { result.redo.now ≡ redo.now.bytes.items }
+    ensures after { result.after ≡ new.entry }
 {
     Change {
         before: old,

@@ -5,9 +5,8 @@ ghost use base.Fml.{ftrue};
 ghost use Rattle.dbm_session.specs.HostCalls.{DidSave, GaveTime, HostCall};
 ghost use Rattle.dbm_shell.specs.CallCodes.{coded_call};
 
+use dbm_files::Receipt;
 use dbm_script::TimeOfDay;
-use sdbm_files::Image;
-use std::alloc::Global;
 use std::marker::Model;
 
 /// The saves of a host and the times that it returned, in order. This is a ghost value: it has no bytes at run time and owns nothing.
@@ -35,11 +34,11 @@ impl HostLog {
         HostLog {}
     }
 
-    /// Returns the log with this committed save appended.
-    pub(crate) fn with_save(&self, image: &Image<Global>) -> HostLog
-        ensures { result.calls ≡ self.now.calls ++ DidSave image.now ∷ [] }
+    /// Returns the log with the save of a receipt appended.
+    pub(crate) fn with_save(&self, receipt: &Receipt) -> HostLog
+        ensures { result.calls ≡ self.now.calls ++ DidSave receipt.now ∷ [] }
     {
-        let _ = image;
+        let _ = receipt;
         HostLog {}
     }
 }

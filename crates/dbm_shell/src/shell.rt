@@ -102,10 +102,10 @@ impl<'a, R: Runtime<File = File> + Clock + AllocGlobal> Shell<'a, R> {
     {
         let (rt, place, held) = (self.rt, self.place, self.held);
         let saved = save_session(rt, place, held, &mut self.saves, image, noted)?;
-        if saved == SaveOutcome::Pending {
+        if saved.outcome == SaveOutcome::Pending {
             note_waiting_save(self.rt, self.place.base);
         }
-        Ok(self.log.with_save(image))
+        Ok(self.log.with_save(&saved.receipt))
     }
 
     /// Closes the log of the session, so that both data files are complete. If this fails and the session has saved, notes that the next

@@ -1,2 +1,3 @@
 pub mod Fewer
 pub mod Rest
+pub mod Recovers

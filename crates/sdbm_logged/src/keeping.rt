@@ -261,6 +261,14 @@ impl<D: Disk> KeptDisk<D> {
         self.keeper.files.contents()
     }
 
+    /// Borrows the disk. Each image that a crash may leave represents the bytes of the data files.
+    pub fn disk(&self) -> &D
+        ensures is { result.now ≡ self.now.0 }
+        ensures holds { (c : Image) → D.may_leave result.now c → Holds (bytes_of self.now.1.files) c }
+    {
+        &self.disk
+    }
+
     /// Returns the disk and the keeper.
     pub fn into_parts(self) -> (D, Keeper)
         ensures kept { IsKept result.1 (D.seen result.0) (D.may_leave result.0) }

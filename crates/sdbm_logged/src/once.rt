@@ -1,5 +1,5 @@
 // Saves with a log that is open for one save only.
-ghost use Rattle.std.specs.Prelude.{◌≡◌, ◌≢◌, ◌⊎◌, ◌<◌, ◌≤◌, length, get_or, OnOk, IfOk};
+ghost use Rattle.std.specs.Prelude.{◌≡◌, ◌≢◌, ◌⊎◌, ◌<◌, ◌≤◌, [], length, get_or, OnOk, IfOk};
 ghost use Rattle.sdbm_saves.specs.Disk.{Image, Through, LeavesOnly, HasCause};
 ghost use Rattle.sdbm_saves.specs.Redo.{files, renewed_files, IsPlan, Knows, StaysUnmarked};
 ghost use Rattle.sdbm_saves.specs.declared.disk.DiskError.TheVariants.{Failed};
@@ -190,9 +190,11 @@ fn clear_records<D: Disk>(
     write_zeros(disk, room, zeros.as_slice())
 }
 
-fn remove<D: Disk>(disk: &mut D) -> Result<(), DiskError>
+// Removes the redo file of files at rest.
+pub(crate) fn remove<D: Disk>(disk: &mut D) -> Result<(), DiskError>
     requires rest { IsAtRest (D.seen disk.old) (D.may_leave disk.old) }
 
+    ensures removed { OnOk result ((D.seen disk.new).redo ≡ []) }
     ensures rest { OnOk result (IsAtRest (D.seen disk.new) (D.may_leave disk.new)) }
     ensures same { OnOk result (files (D.seen disk.new) ≡ files (D.seen disk.old)) }
     ensures any_moment { LeavesOnly D.moment D.left_since disk.old disk.new (λ c. Holds (files (D.seen disk.old)) c) }

@@ -2,3 +2,4 @@ pub mod Cuts
 pub mod InRooms
 pub mod Parts
 pub mod Tails
+pub mod Joinable

@@ -5,8 +5,8 @@ use Rattle.std.specs.Prelude.{◌≡◌, ◌⊎◌, ◌<◌, ◌≤◌, ◌^◌,
 use Rattle.sdbm_saves.specs.declared.disk.DiskFile.TheVariants.{Pages, Directory, Redo}
 use Rattle.sdbm_saves.specs.Disk.{Image}
 use Rattle.sdbm_saves.specs.Acts.{Act, write, sync}
-use Rattle.sdbm_saves.specs.Redo.{data_file, count_of, new_length, old_length, renewed, EndsWith}
-use Rattle.sdbm_log.specs.Log.{nonzero, is_log, is_shared, records_of, log_plan, plan_of, with_plan, AreRecords, KnownBy, MayGrow, Stands, Holds}
+use Rattle.sdbm_saves.specs.Redo.{data_file, count_of, new_length, old_length, renewed, EndsWith, IsPlan}
+use Rattle.sdbm_log.specs.Log.{nonzero, is_log, is_shared, is_whole, size_at, first_plan, records_of, log_plan, plan_of, with_plan, AreRecords, CanFollow, KnownBy, MayGrow, Stands, Holds}
 
 -- Makes an empty log shared.
 abbrev pub share_acts : List Act
@@ -74,6 +74,14 @@ pub record GrowsTo (first next : List ℕ) : Type 0 where
   pub new_pages : new_length Pages first ≤ new_length Pages next
   pub new_directory : new_length Directory first ≤ new_length Directory next
   pub few : count_of first + count_of next < 2 ^ 32
+
+-- The bytes begin with a complete record of a plan, which may follow the plan `first` of `len` bytes. If `len` is 0, it follows no plan.
+pub record CanJoin (len : ℕ) (first records : List ℕ) : Type 0 where
+  pub whole : is_whole records ≡ true
+  pub inside : 8 + size_at records ≤ length records
+  pub plan : IsPlan (first_plan records)
+  pub head : (len ≡ 0) ⊎ (28 ≤ len)
+  pub follows : CanFollow len first (first_plan records)
 
 -- `part` is the bytes of a file from offset `from` on
 abbrev pub IsPartFrom : ℕ → List ℕ → List ℕ → Type 0

@@ -2,7 +2,8 @@
 ghost use Rattle.std.specs.Prelude.{◌≡◌, ◌≤◌, ◌<◌, ◌+◌, ◌-◌, ◌↔◌, length, take, true, IfOk, IfErr, IsTrue};
 ghost use Rattle.sdbm_saves.specs.Redo.{IsPlan};
 ghost use Rattle.sdbm_log.specs.Log.{is_whole, size_at, first_plan, joined, next_plan, CanFollow};
-ghost use Rattle.sdbm_tail.specs.Tail.{GrowsTo};
+ghost use Rattle.sdbm_tail.specs.Tail.{CanJoin, GrowsTo};
+ghost use Rattle.sdbm_tail.specs.declared.joining.JoinFault.TheVariants.{ShortRoom, BadRecord};
 
 use sdbm_log::{first_plan, has_plan, is_whole, join_heads};
 use sdbm_saves::{number, write_in};
@@ -18,7 +19,8 @@ const CHANGE_LIMIT: usize = 1 << 32;
 pub enum JoinFault {
     /// The joined plan does not fit.
     ShortRoom,
-    /// The bytes do not begin with a complete record of a plan, or its plan cannot follow: it shortens a file, or there are too many changes.
+    /// The bytes do not begin with a complete record of a plan, or its plan cannot follow: one of both plans shortens a file, or together they
+    /// have too many changes.
     BadRecord,
 }
 
@@ -47,6 +49,10 @@ pub fn join_next(room: &mut [u8], len: usize, records: &[u8]) -> Result<Joined, 
     ensures inside { IfOk result (λ joined. joined.len ≤ length room.new) }
     ensures same_length { length room.new ≡ length room.old }
     ensures untouched { IfErr result (λ fault. room.new ≡ room.old) }
+
+    // Each fault has its cause: a record that can be joined is refused only if the result is too long.
+    ensures bad { IfErr result (λ fault. fault ≡ BadRecord → CanJoin len (take len room.old) records.now → ⊥) }
+    ensures short { IfErr result (λ fault. fault ≡ ShortRoom → CanJoin len (take len room.old) records.now × (length room.old < length (next_plan len (take len room.old) (first_plan records.now)))) }
 {
     if !is_whole(records) || !has_plan(records) {
         return Err(JoinFault::BadRecord);
@@ -63,7 +69,10 @@ pub fn join_next(room: &mut [u8], len: usize, records: &[u8]) -> Result<Joined, 
             used,
         });
     }
-    if len < HEAD || !can_follow(&room[..len], next) {
+    if len < HEAD {
+        return Err(JoinFault::BadRecord);
+    }
+    if !can_follow(&room[..len], next) {
         return Err(JoinFault::BadRecord);
     }
     let more = next.len() - HEAD;

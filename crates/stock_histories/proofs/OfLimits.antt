@@ -8,8 +8,8 @@ use Rattle.stock_programs.specs.Numbers.{with_number}
 use Rattle.stock_programs.specs.RateLimit.{rate_limit, began, admitted, window, most, Limits, Lasts, IsOver}
 use Rattle.stock_programs.proofs.Limiting.{limits}
 use Rattle.stock_programs.proofs.NumberFacts.{fits, read_written, read_before, read_zeros, length_written}
-use Rattle.stock_histories.specs.Turns.{Turn, NeverFalls}
-use Rattle.stock_histories.specs.LimitLaw.{Names, HasBegun, BeginsWindow, admitted_in, AdmitsAtMost}
+use Rattle.stock_histories.specs.Turns.{Turn, accepted_in, NeverFalls}
+use Rattle.stock_histories.specs.LimitLaw.{Names, HasBegun, BeginsWindow, AdmitsAtMost}
 use Rattle.stock_histories.proofs.KeyHistory.{IsGiven, RunsTo, KeyHistory, halves, times_after, kept, saved, is_one, unchanged, unchanged_if_short, given_is}
 use Rattle.stock_histories.proofs.Projected.{cut_at}
 
@@ -148,7 +148,7 @@ passes r r' t start count length number s names after before below w =
     ]
 
 during_window : (r r' : Option (List ℕ)) (ts : List Turn) (from start count length number : ℕ) → KeyHistory rate_limit r ts r' → AllByRecursion (Names length number) ts
-    → start ≤ from → NeverFalls from ts → AllByRecursion (λ (t : Turn). t.now < start + length) ts → count ≤ number → Window r start count → count + admitted_in ts ≤ number
+    → start ≤ from → NeverFalls from ts → AllByRecursion (λ (t : Turn). t.now < start + length) ts → count ≤ number → Window r start count → count + accepted_in ts ≤ number
 during_window r r' [] from start count length number h names after times before below w = omega arith
 during_window r r' (t ∷ ts) from start count length number h names after times before below w =
     let now : from ≤ t.now = times.0 in

@@ -1,5 +1,5 @@
 -- The law on rate limits: a window admits at most the named number of runs.
-use Rattle.std.specs.Prelude.{ℕ, ◌≡◌, ◌+◌, ◌<◌, ◌≤◌, ◌==◌, cond, List, [], ◌∷◌, ◌++◌, Option, Some}
+use Rattle.std.specs.Prelude.{ℕ, ◌≡◌, ◌+◌, ◌<◌, ◌≤◌, List, ◌∷◌, ◌++◌, Option, Some}
 use Rattle.std.specs.List.{AllByRecursion}
 use Rattle.std.specs.FinMap as map
 use Rattle.sdbm_addr.specs.declared.KeyBytes.{KeyBytes}
@@ -7,16 +7,11 @@ use Rattle.sdbm_addr.specs.declared.PageSize.{PageSize}
 use Rattle.sdbm_addr.specs.Pairs.{Map}
 use Rattle.store_cmd.specs.declared.Entry.{Entry}
 use Rattle.stock_programs.specs.RateLimit.{rate_limit, admitted, window, most}
-use Rattle.stock_histories.specs.Turns.{Turn, turns_of, IsAlone, NeverFalls}
+use Rattle.stock_histories.specs.Turns.{Turn, turns_of, accepted_in, IsAlone, NeverFalls}
 
 -- The run names this window length and this number of runs.
 abbrev pub Names : ℕ → ℕ → Turn → Type 0
 Names length number t = (window t.argument ≡ length) × (most t.argument ≡ number)
-
--- The number of turns that are admitted.
-abbrev pub admitted_in : List Turn → ℕ
-admitted_in [] = 0
-admitted_in (t ∷ ts) = cond (t.code == 1) 1 0 + admitted_in ts
 
 -- The turn is the first that its window admits: its word, the number of runs left, is one less than the number.
 abbrev pub BeginsWindow : ℕ → Turn → Type 0
@@ -36,4 +31,4 @@ AdmitsAtMost A =
     → AllByRecursion (Names length number) (turns_of key es)
     → (before during after : List Turn) (first : Turn) → turns_of key es ≡ before ++ (first ∷ (during ++ after))
     → BeginsWindow number first → length ≤ first.now → AllByRecursion (λ (t : Turn). t.now < first.now + length) during
-    → 1 + admitted_in during ≤ number
+    → 1 + accepted_in during ≤ number

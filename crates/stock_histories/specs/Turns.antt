@@ -1,5 +1,5 @@
 -- The runs on one key in a history, and the premises of the laws on them.
-use Rattle.std.specs.Prelude.{ℕ, ◌≡◌, ◌≢◌, ◌^◌, ◌<◌, ◌≤◌, cond, List, [], ◌∷◌, ◌++◌, length, Option, Some, None}
+use Rattle.std.specs.Prelude.{ℕ, ◌≡◌, ◌≢◌, ◌+◌, ◌^◌, ◌<◌, ◌≤◌, ◌==◌, cond, List, [], ◌∷◌, ◌++◌, length, Option, Some, None}
 use Rattle.std.specs.Option.{option_to_list}
 use Rattle.std.specs.FinMap as map
 use Rattle.sdbm_addr.specs.declared.KeyBytes.{KeyBytes}
@@ -34,6 +34,11 @@ turn_in key session command reply = None
 abbrev pub turns_of : {A : Type 0} → List ℕ → List (Entry A) → List Turn
 turns_of key [] = []
 turns_of key (e ∷ es) = option_to_list (turn_in key e.session e.command e.reply) ++ turns_of key es
+
+-- The number of turns that were answered with code 1.
+abbrev pub accepted_in : List Turn → ℕ
+accepted_in [] = 0
+accepted_in (t ∷ ts) = cond (t.code == 1) 1 0 + accepted_in ts
 
 -- The times of the turns never fall, and none is before `from`.
 abbrev pub NeverFalls : ℕ → List Turn → Type 0

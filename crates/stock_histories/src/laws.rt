@@ -10,7 +10,8 @@ ghost use Rattle.stock_histories.specs.SequenceLaw.{TakesOnce};
 
 use std::alloc::Allocator;
 
-/// A counter loses no run: the number at the end is the number at the start plus the number of runs, modulo 2^64.
+/// A counter loses no run: the number at the end is the number at the start plus the number of runs with code 1, modulo 2^64. A missing record
+/// counts as 0.
 pub fn counters_lose_no_run<A: Allocator>()
     ensures { LosesNoRun A }
 {}

@@ -1,3 +1,4 @@
 pub mod Pages
 pub mod PartOf
 pub mod Saved
+pub mod Places

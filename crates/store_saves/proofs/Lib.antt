@@ -1,1 +1,2 @@
 pub mod MarkedIn
+pub mod Leaves

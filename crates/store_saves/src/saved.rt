@@ -1,8 +1,11 @@
 //! A disk whose log stays open, and the database that its files have.
-ghost use Rattle.std.specs.Prelude.{◌≡◌, IfOk, IfSome, IsNone, None, Some};
+ghost use Rattle.std.specs.Prelude.{◌≡◌, ◌⊎◌, IfOk, IfSome, IsNone, None, Some};
+ghost use Rattle.sdbm_saves.specs.Disk.{LeavesOnly};
 ghost use Rattle.sdbm_saves.specs.Saves.{AreFilesFor, IsSaving};
+ghost use Rattle.sdbm_log.specs.Log.{Holds};
+ghost use Rattle.sdbm_logged.specs.Keeping.{bytes_of};
 ghost use Rattle.store_marks.specs.Noted.{AreNoted};
-ghost use Rattle.store_saves.specs.Saved.{IsKnown, IsStill};
+ghost use Rattle.store_saves.specs.Saved.{disk_after, renewed_in, IsKnown, IsStill, LeavesDatabase, LeavesSaved};
 
 use crate::noted::plan_noted;
 use sdbm_files::Image;
@@ -26,7 +29,7 @@ pub enum AfterSave<D: Disk> {
     /// The log cannot take the plan (`NextSave::Full`). Nothing was done.
     Full(KeptDisk<D>),
     /// The save is durable, but a data file or the log could not be written: open the files again.
-    Pending(DiskError),
+    Pending(D, DiskError),
     /// The save is durable, and the log is ready for the next one.
     Done(SavedDisk<D>),
 }
@@ -73,6 +76,15 @@ impl<D: Disk> SavedDisk<D> {
         self.kept.contents()
     }
 
+    /// Borrows the disk. If the database of its files is known, each image that a crash may leave represents the files of the database.
+    pub fn disk(&self) -> &D
+        ensures is { result.now ≡ self.now.0.0 }
+        ensures holds { IfSome self.now.1 (λ db. LeavesDatabase D.may_leave db result.now) }
+    {
+        let _ = &self.base;
+        self.kept.disk()
+    }
+
     /// Plans a save for a database that has changed since the known one only on the pages in `changes`. Compares only these pages and the
     /// directory, or all pages if the database of the files is not known, or any page may have changed. Returns `None` if the files are
     /// already those of the database.
@@ -113,21 +125,32 @@ impl<D: Disk + Drop> SavedDisk<D> {
     /// Saves a plan of `plan` for this database in the open log, with one sync.
     ///
     /// # Errors
-    /// Those of `save_next`. The save may be committed or not: open the files again.
+    /// Those of `save_next`, and the disk. The save may be committed or not: open the files again.
     pub fn save(
         self,
         alloc: Global,
         plan: &[u8],
         image: &Image<Global>,
-    ) -> Result<AfterSave<D>, DiskError>
+    ) -> Result<AfterSave<D>, (DiskError, D)>
         requires saving { IsSaving image.now plan.now self.0.1.files.pages.items self.0.1.files.directory.items }
         ensures full { IfOk result (IsStill self.0) }
         ensures done { IfOk result (IsKnown image.now) }
+
+        // After `Done` or `Pending`, a crash leaves the files with the plan applied.
+        ensures durable { IfOk result (LeavesSaved D.may_leave (renewed_in plan.now self.0.1)) }
+
+        // A crash during the call leaves the files with or without the plan applied.
+        ensures any_moment { LeavesOnly D.moment D.left_since self.0.0 (disk_after result)
+            (λ c. Holds (bytes_of self.0.1.files) c ⊎ Holds (renewed_in plan.now self.0.1) c) }
     {
         let (mut disk, mut keeper) = self.into_kept().into_parts();
-        match save_next(alloc, &mut disk, &mut keeper, plan)? {
+        let how = match save_next(alloc, &mut disk, &mut keeper, plan) {
+            Ok(how) => how,
+            Err(fault) => return Err((fault, disk)),
+        };
+        match how {
             NextSave::Full => Ok(AfterSave::Full(KeptDisk::new(disk, keeper))),
-            NextSave::Pending(fault) => Ok(AfterSave::Pending(fault)),
+            NextSave::Pending(fault) => Ok(AfterSave::Pending(disk, fault)),
             NextSave::Done => {
                 let kept = KeptDisk::new(disk, keeper);
                 Ok(AfterSave::Done(SavedDisk::of(kept, image)))

@@ -1,4 +1,4 @@
-use Rattle.std.proofs.Common.{◌≡◌, ⊎_elim, ◌∙◌, ap, subst, sym, refl, ◌≤◌, ℕ, List, length}
+use Rattle.std.proofs.Common.{◌≡◌, ⊎_elim, ◌∙◌, ap, subst, sym, refl, ◌≤◌, ℕ, List, length, inl}
 use Rattle.boddurci_handles.specs.declared.status.Status.TheVariants.{Done, BadFiles, ShortRoom, Stale, NoMemory, TooLong}
 use Rattle.sdbm_log.specs.Saving.{AreOpenCalls}
 use Rattle.sdbm_log.specs.Steps.{acts_of}
@@ -37,6 +37,7 @@ returns-in-Done c =
         ),
       );
       untouched = λ isnt. absurd (isnt refl);
+      only = inl refl;
       refused = λ which. ⊎_elim (λ is. absurd (let wrong : Done ≡ BadFiles = is in cc)) (λ is. absurd (let wrong : Done ≡ Stale = is in cc)) which;
       short = λ is. absurd (let wrong : Done ≡ ShortRoom = is in cc);
       too_long = λ is. absurd (let wrong : Done ≡ TooLong = is in cc);

@@ -1,4 +1,4 @@
-use Rattle.std.proofs.Common.{◌≡◌, ◌++◌, ◌-◌, ◌∙◌, ap, subst, sym, refl, arith, ℕ, List, length, take, drop, length-drop}
+use Rattle.std.proofs.Common.{◌≡◌, ◌++◌, ◌-◌, ◌∙◌, ap, subst, sym, refl, arith, ℕ, List, length, take, drop, length-drop, inl}
 use Rattle.std.proofs.lemmas.List.{take_all}
 use Rattle.boddurci_handles.specs.declared.status.Status.TheVariants.{Done, BadFiles, ShortRoom, TooLong}
 use Rattle.sdbm_log.specs.Saving.{AreSaveCalls}
@@ -42,4 +42,5 @@ returns-in-Done c =
       short = λ is. absurd (let wrong : Done ≡ ShortRoom = is in cc);
       refused = λ is. absurd (let wrong : Done ≡ BadFiles = is in cc);
       too_long = λ is. absurd (let wrong : Done ≡ TooLong = is in cc);
+      only = inl refl;
     }

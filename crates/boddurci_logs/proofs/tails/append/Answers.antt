@@ -1,6 +1,6 @@
-use Rattle.std.proofs.Common.{◌≡◌, ◌≤◌, ◌+◌, Option, IfSome, ◌-◌, ◌∙◌, ap, subst, refl, arith, ℕ, List, length, take, drop, length-drop}
+use Rattle.std.proofs.Common.{◌≡◌, ◌≤◌, ◌+◌, Option, IfSome, ◌-◌, ◌∙◌, ap, subst, refl, arith, ℕ, List, length, take, drop, length-drop, inl}
 use Rattle.std.proofs.lemmas.List.{take_all}
-use Rattle.boddurci_handles.specs.declared.status.Status.TheVariants.{Done, BadFiles, ShortRoom, Stale}
+use Rattle.boddurci_handles.specs.declared.status.Status.TheVariants.{Done, BadFiles, ShortRoom, Stale, TooLong}
 use Rattle.sdbm_saves.specs.Redo.{count_of}
 use Rattle.sdbm_log.specs.Log.{record_of}
 use Rattle.sdbm_log.specs.Saving.{CanTake}
@@ -51,4 +51,6 @@ returns-in-Done c =
       short = λ is. absurd (let wrong : Done ≡ ShortRoom = is in cc);
       refused = λ is. absurd (let wrong : Done ≡ BadFiles = is in cc);
       full = λ is. absurd (let wrong : Done ≡ Stale = is in cc);
+      too_long = λ is. absurd (let wrong : Done ≡ TooLong = is in cc);
+      only = inl refl;
     }

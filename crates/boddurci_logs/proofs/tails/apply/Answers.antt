@@ -1,6 +1,6 @@
-use Rattle.std.proofs.Common.{◌≡◌, ⊎_elim, ◌-◌, ◌∙◌, ap, subst, sym, refl, ℕ, List, length, take, drop, arith, length-drop}
+use Rattle.std.proofs.Common.{◌≡◌, ⊎_elim, ◌-◌, ◌∙◌, ap, subst, sym, refl, ℕ, List, length, take, drop, arith, length-drop, inl, inr}
 use Rattle.std.proofs.lemmas.List.{take_all}
-use Rattle.boddurci_handles.specs.declared.status.Status.TheVariants.{Done, BadFiles, ShortRoom}
+use Rattle.boddurci_handles.specs.declared.status.Status.TheVariants.{Done, BadFiles, ShortRoom, TooLong}
 use Rattle.sdbm_saves.specs.Redo.{IsPlan}
 use Rattle.sdbm_log.specs.Protocol.{apply_acts}
 use Rattle.boddurci_logs.specs.Answers.{IsFilled}
@@ -30,4 +30,9 @@ returns c =
           (λ done. absurd (let wrong : Done ≡ BadFiles = sym done ∙ is in cc))
           (λ short. absurd (let wrong : ShortRoom ≡ BadFiles = sym short ∙ is in cc))
           c.copy_out.ensures.only;
+      too_long = λ is. ⊎_elim
+          (λ done. absurd (let wrong : Done ≡ TooLong = sym done ∙ is in cc))
+          (λ short. absurd (let wrong : ShortRoom ≡ TooLong = sym short ∙ is in cc))
+          c.copy_out.ensures.only;
+      only = ⊎_elim (λ done. inl done) (λ short. inr (inl short)) c.copy_out.ensures.only;
     }

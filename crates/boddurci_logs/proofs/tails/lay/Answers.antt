@@ -1,4 +1,4 @@
-use Rattle.std.proofs.Common.{◌≡◌, List, ℕ, refl, sym, subst, arith}
+use Rattle.std.proofs.Common.{◌≡◌, List, ℕ, refl, sym, subst, arith, inl}
 use Rattle.boddurci_handles.specs.declared.status.Status.TheVariants.{Done, BadFiles, TooLong}
 use Rattle.sdbm_saves.specs.Disk.{resized}
 use Rattle.sdbm_saves.specs.Redo.{new_length, renewed}
@@ -20,6 +20,7 @@ returns-then-lay_part c =
       untouched = λ isnt. absurd (isnt refl);
       refused = λ is. absurd (let wrong : Done ≡ BadFiles = is in cc);
       too_long = λ is. absurd (let wrong : Done ≡ TooLong = is in cc);
+      only = inl refl;
     }
 
 pub returns-else-lay_part : goal.returns-else-lay_part
@@ -37,4 +38,5 @@ returns-else-lay_part c =
       untouched = λ isnt. absurd (isnt refl);
       refused = λ is. absurd (let wrong : Done ≡ BadFiles = is in cc);
       too_long = λ is. absurd (let wrong : Done ≡ TooLong = is in cc);
+      only = inl refl;
     }

@@ -1,4 +1,4 @@
-use Rattle.std.proofs.Common.{◌≡◌, ◌∙◌, ap, subst, ℕ, List, length, arith}
+use Rattle.std.proofs.Common.{◌≡◌, ◌∙◌, ap, subst, ℕ, List, length, arith, inl, inr, ⊎_elim}
 use Rattle.boddurci_logs.specs.Answers.{IsFilled}
 use Rattle.boddurci_logs.specs.Words.{words_of}
 use Rattle.boddurci_logs.proofs.tails.share.Goals as goal
@@ -10,4 +10,5 @@ returns c =
       done = λ is. (c.in-Ok.steps.items, (subst (λ (l : List ℕ). IsFilled l c.args.words.now c.copy_out.new.room) words (c.copy_out.ensures.done is), (c.copy_out.ensures.len ∙ ap (λ (l : List ℕ). length l) words, c.in-Ok.ensures)));
       untouched = c.copy_out.ensures.untouched;
       short = λ is. omega (arith, c.copy_out.ensures.short is, c.copy_out.ensures.len);
+      only = ⊎_elim (λ done. inl done) (λ short. inr (inl short)) c.copy_out.ensures.only;
     }

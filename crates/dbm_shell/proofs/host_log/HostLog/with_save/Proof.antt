@@ -18,9 +18,7 @@ use mir.Syntax.{named}
 use denote.Triple.Entry.{Res, alive}
 use denote.Triple.Walked.{says, Stays, stay_dropped, walk_of, Goes-dropped, ends_at}
 use Rattle.std.proofs.raw_atomic.Walks.{proved}
-use Rattle.std.specs.contracts.alloc.Global as heap
-use Rattle.std.specs.contracts.impls.GlobalAllocator.TheImpl.{ghosts}
-use Rattle.sdbm_files.specs.contracts.Image as image
+use Rattle.dbm_files.specs.contracts.receipt.Receipt as receipt
 use Rattle.dbm_session.specs.HostCalls.{DidSave}
 use Rattle.dbm_shell.specs.contracts.host_log.HostLog.{the_row}
 use Rattle.dbm_shell.specs.contracts.host_log.HostLog.with_save as f
@@ -34,9 +32,9 @@ pub with_save_spec : {M : Type 1} → statement M
 with_save_spec 𝓤 𝓛 𝓜 𝓡 wired =
     let c = f.clauses 𝓛 𝓜.mem 𝓡.returns in let W = walk_of 𝓛 f.ended stayed c in
     proved 𝓛 f.ended stayed c 𝓜 𝓡
-    (Goes-dropped 𝓛 2 (RefOf (0 ∷ []) tt (plain (λ _. the_row)) (λ _. tt)) yes (λ κs x w. refl), (Goes-dropped 𝓛 2 (RefOf (1 ∷ []) tt (plain (λ _. image.the_row heap.the_row ghosts)) (λ _. tt)) yes (λ κs x w. refl), tt))
+    (Goes-dropped 𝓛 2 (RefOf (0 ∷ []) tt (plain (λ _. the_row)) (λ _. tt)) yes (λ κs x w. refl), (Goes-dropped 𝓛 2 (RefOf (1 ∷ []) tt (plain (λ _. receipt.the_row)) (λ _. tt)) yes (λ κs x w. refl), tt))
     f.Key.name code.function (code.unfolded 𝓤 𝓛.H 𝓜 𝓡 wired)
-    (λ κs. (shr_vals, (shr_vals, tt))) (λ κs. (shr_Tells (named 0) κs.0 the_row, (shr_Tells (named 1) κs.1.0 (image.the_row heap.the_row ghosts), tt))) (λ κs qs bounds a _ are.
+    (λ κs. (shr_vals, (shr_vals, tt))) (λ κs. (shr_Tells (named 0) κs.0 the_row, (shr_Tells (named 1) κs.1.0 receipt.the_row, tt))) (λ κs qs bounds a _ are.
     let y : W.Ghost = ((κs, qs, bounds, a, (shr_vals a.0, (shr_vals a.1.0, tt))), tt) in
     let v : Val = vstruct vnil in let r : Res f.signature κs = record { calls = a.0.now.calls ++ DidSave a.1.0.now ∷ [] } in
     let O : Fml = (type_at f.signature.result κs).own_val r (v ∷ []) in

@@ -8,7 +8,7 @@ use Rattle.sdbm_addr.specs.Pairs.{Pair}
 use Rattle.dbm_script.specs.LineInput.{GivesNextLine, Unread, lines_left}
 use Rattle.dbm_script.proofs.LinesGiven.{is_over}
 use Rattle.dbm_dump.specs.declared.stage.Stage.{Stage}
-use Rattle.dbm_dump.specs.declared.stage.Stage.TheVariants.{First, Title, Keys, Pages, Count, Gap, Pairs, Between, Within, Over}
+use Rattle.dbm_dump.specs.declared.stage.Stage.TheVariants.{First, Title, Keys, Pages, Count, Gap, Pairs, Between, Within, Ended, Over}
 use Rattle.dbm_dump.specs.declared.stage.Next.{Next}
 use Rattle.dbm_dump.specs.Loading.{GivesLine, IsEmptyEnd}
 use Rattle.dbm_dump.specs.Reading.{Read, before_read, dump_lines, kept_lines, pair_list, read, read_on, whole, without_empty_end}
@@ -44,6 +44,7 @@ whole_empty (Gap left) = refl
 whole_empty (Pairs left) = refl
 whole_empty (Between seen role) = refl
 whole_empty (Within seen role len text) = refl
+whole_empty Ended = refl
 whole_empty Over = refl
 
 whole_kept : (s : Stage) (line : List ℕ) (lines : List (List ℕ)) → ((t : Stage) → whole (read t (without_empty_end lines)) ≡ whole (read t lines))

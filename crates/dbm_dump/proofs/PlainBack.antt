@@ -24,7 +24,7 @@ use Rattle.dbm_dump.specs.Steps.{closes, counted, goes, listed, pairs_step, line
 use Rattle.dbm_dump.specs.Reading.{AreBytePair, Read, before_read, pairs_in_dump, read, read_on, read_so, whole}
 use Rattle.dbm_dump.specs.declared.stage.Next.{Next}
 use Rattle.dbm_dump.specs.declared.stage.Stage.{Stage}
-use Rattle.dbm_dump.specs.declared.stage.Stage.TheVariants.{First, Keys, Pages, Count, Gap, Pairs, Over}
+use Rattle.dbm_dump.specs.declared.stage.Stage.TheVariants.{First, Keys, Pages, Count, Gap, Pairs, Ended}
 use Rattle.dbm_script.proofs.CutTexts.{piece_first}
 use Rattle.dbm_dump.proofs.Ends.{whole_lines}
 use Rattle.dbm_dump.proofs.Free.{IsFree, free, free-append, free-cons, free-decimal, free-shown}
@@ -104,8 +104,8 @@ line_reads stage next line rest whole steps r reads =
 
 -- ---- all pairs, and the last line
 
-pub body_reads : (pairs : List Pair) → All AreBytePair pairs → read (Pairs (length pairs)) (pieces_of 10 (flat_map dump_pair_line pairs ++ (plain_end ⏎ []))) ≡ Some (read_so pairs Over)
-body_reads [] h = line_reads (Pairs 0) Over plain_end [] (free 10 plain_end refl) refl (read_so [] Over) refl
+pub body_reads : (pairs : List Pair) → All AreBytePair pairs → read (Pairs (length pairs)) (pieces_of 10 (flat_map dump_pair_line pairs ++ (plain_end ⏎ []))) ≡ Some (read_so pairs Ended)
+body_reads [] h = line_reads (Pairs 0) Ended plain_end [] (free 10 plain_end refl) refl (read_so [] Ended) refl
 body_reads (e ∷ es) h =
     let here : AreBytePair e = All-head AreBytePair e es h in
     let rest : List ℕ = flat_map dump_pair_line es ++ (plain_end ⏎ []) in
@@ -145,7 +145,7 @@ pub plain_reads : (kind : KeyBytes) (size : PageSize) (pairs : List Pair) → le
 plain_reads kind size pairs short h =
     let body = flat_map dump_pair_line pairs ++ (plain_end ⏎ []) in
     let n = length pairs in
-    let r : Read = read_so pairs Over in
+    let r : Read = read_so pairs Ended in
     let five : read (Gap n) (pieces_of 10 ([] ⏎ body)) ≡ Some r = line_reads (Gap n) (Pairs n) [] body (free 10 [] refl) refl r (body_reads pairs h) in
     let four : read Count (pieces_of 10 ((codes "count " ++ decimal n) ⏎ [] ⏎ body)) ≡ Some r
     = line_reads Count (Gap n) (codes "count " ++ decimal n) ([] ⏎ body) (free-append 10 (codes "count ") (decimal n) (free 10 (codes "count ") refl) (free-decimal 10 n (omega arith) short)) (count_reads n short) r five in

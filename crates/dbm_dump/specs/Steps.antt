@@ -13,7 +13,7 @@ use Rattle.dbm_dump.specs.declared.marks.Mark.TheVariants as mark
 use Rattle.dbm_dump.specs.declared.stage.Role.{Role}
 use Rattle.dbm_dump.specs.declared.stage.Role.TheVariants.{Key, Value}
 use Rattle.dbm_dump.specs.declared.stage.Stage.{Stage}
-use Rattle.dbm_dump.specs.declared.stage.Stage.TheVariants.{First, Title, Keys, Pages, Count, Gap, Pairs, Between, Within, Over}
+use Rattle.dbm_dump.specs.declared.stage.Stage.TheVariants.{First, Title, Keys, Pages, Count, Gap, Pairs, Between, Within, Ended, Over}
 use Rattle.dbm_dump.specs.declared.stage.Next.{Next}
 
 -- the next stage, without a pair
@@ -50,7 +50,12 @@ listed left (Some e) = cond (left == 0) None (Some (record { stage = Pairs (left
 
 -- the last line, if no pairs are left
 abbrev pub closes : ℕ → Option Next
-closes left = goes_if (left == 0) Over
+closes left = goes_if (left == 0) Ended
+
+-- a line after the last line: an empty line, or a comment
+abbrev pub ended_step : List ℕ → Option Next
+ended_step [] = Some (goes Ended)
+ended_step (c ∷ cs) = goes_if (c == 35) Ended
 
 abbrev pub pairs_step : ℕ → List ℕ → Option Next
 pairs_step left [] = Some (goes (Pairs left))
@@ -105,7 +110,7 @@ within_step seen role len text line mark.Note = Some (goes (Within seen role len
 within_step seen role len text line mark.Text = cond (may_follow len text line) (grown seen role len (text ++ line)) None
 within_step seen role len text line mark.Bad = None
 
--- a line after the end
+-- a line after the number of pairs
 abbrev pub over_step : Mark → Option Next
 over_step (mark.Len n) = None
 over_step (mark.Count n) = None
@@ -131,9 +136,11 @@ line_step (Gap left) line = gap_step left line
 line_step (Pairs left) line = pairs_step left line
 line_step (Between seen role) line = between_step seen role (line_mark line)
 line_step (Within seen role len text) line = within_step seen role len text line (line_mark line)
+line_step Ended line = ended_step line
 line_step Over line = over_step (line_mark line)
 
 -- the dump may end at this stage
 abbrev pub is_end : Stage → Bool
+is_end Ended = true
 is_end Over = true
 is_end _ = false

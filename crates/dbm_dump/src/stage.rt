@@ -70,7 +70,9 @@ pub enum Stage {
         len: u64,
         text: Part,
     },
-    /// After the end, in either format.
+    /// After the last line of our own format.
+    Ended,
+    /// After the number of pairs, the end of gdbm's format.
     Over,
 }
 
@@ -86,7 +88,7 @@ impl Stage {
     pub fn is_end(&self) -> bool
         ensures { result ≡ spec.is_end self.now }
     {
-        matches!(self, Stage::Over)
+        matches!(self, Stage::Ended | Stage::Over)
     }
 
     /// Returns the length of the unfinished datum, or 0 if there is no unfinished datum.
@@ -135,6 +137,7 @@ pub fn step(alloc: Global, stage: Stage, line: &[u8]) -> Result<Option<Next>, Al
             len,
             text,
         } => within_step(alloc, seen, role, len, text, line),
+        Stage::Ended => Ok(ended_step(line)),
         Stage::Over => Ok(over_step(mark_of(line))),
     }
 }
@@ -229,7 +232,20 @@ fn closes(left: u64) -> Option<Next>
     ensures { result ≡ spec.closes left }
 {
     if left == 0 {
-        return goes(Stage::Over);
+        return goes(Stage::Ended);
+    }
+    None
+}
+
+// Reads a line after the last line of our own format. Only comments and empty lines are valid.
+fn ended_step(line: &[u8]) -> Option<Next>
+    ensures { result ≡ spec.ended_step line.now }
+{
+    if line.is_empty() {
+        return goes(Stage::Ended);
+    }
+    if line[0] == b'#' {
+        return goes(Stage::Ended);
     }
     None
 }
@@ -401,7 +417,7 @@ fn closed(seen: u64, role: Role, bytes: Bytes<Global>) -> Option<Next>
     }
 }
 
-// Reads a line after the end.
+// Reads a line after the end of gdbm's format.
 fn over_step(mark: Mark) -> Option<Next>
     ensures { result ≡ spec.over_step mark }
 {

@@ -1,6 +1,6 @@
 //! The two locks of a database: a run holds BASE.lock while it uses the files, and BASE.writer as long as it may change the database.
 use crate::fault::{FilesFault, MovedFile};
-use crate::holder::locker_of;
+use crate::holder::may_be_locked;
 use crate::names::Names;
 use crate::place::is_named;
 use crate::side::{Side, SideFault, make_lock, open_beside, side_fault};
@@ -10,7 +10,7 @@ use std::rt::Files;
 use std::thread;
 use std::time::{Clock, Duration, Instant};
 
-/// Longest pause between two attempts to take a lock, in milliseconds.
+/// Longest pause between two attempts to take a lock, in milliseconds. The system can make it longer.
 const LONGEST_REST: u64 = 5;
 
 /// Maximum number of attempts to take a lock whose name refers to a different file after each attempt.
@@ -70,11 +70,66 @@ fn share(writer: &File) -> Result<(), FilesFault> {
     }
 }
 
-/// The mode of a lock, and the longest wait for it.
+/// A wait for the locks of a database.
 #[derive(Clone, Copy)]
-struct Take {
+struct Wait {
+    /// Whether the locks are shared.
     shared: bool,
-    patience: Option<Duration>,
+    /// The fault of a lock that cannot be taken.
+    fault: FilesFault,
+    /// The begin of the wait and its longest duration. `None` if the wait has no limit.
+    limit: Option<(Instant, Duration)>,
+}
+
+impl Wait {
+    fn begin<C: Clock>(
+        clock: &C,
+        shared: bool,
+        patience: Option<Duration>,
+    ) -> Result<Wait, FilesFault> {
+        let fault = if shared {
+            FilesFault::ReadFile
+        } else {
+            FilesFault::WriteFile
+        };
+        let limit = match patience {
+            Some(patience) => Some((now(clock, fault)?, patience)),
+            None => None,
+        };
+        Ok(Wait {
+            shared,
+            fault,
+            limit,
+        })
+    }
+
+    // Returns the remaining patience, or `None` if the wait has no limit. Asks the clock, because a pause can take longer than requested.
+    fn left<C: Clock>(&self, clock: &C) -> Result<Option<Duration>, FilesFault> {
+        let Some((begin, patience)) = self.limit else {
+            return Ok(None);
+        };
+        let waited = now(clock, self.fault)?.duration_since(begin);
+        Ok(Some(patience.saturating_sub(waited)))
+    }
+
+    // Pauses, at most for the remaining patience. Fails with `Locked` if none is left.
+    fn rest<C: Clock>(&self, clock: &C, longest: Duration) -> Result<(), FilesFault> {
+        let rest = match self.left(clock)? {
+            Some(left) if left.is_zero() => return Err(FilesFault::Locked),
+            Some(left) => longest.min(left),
+            None => longest,
+        };
+        thread::sleep(clock, rest);
+        Ok(())
+    }
+}
+
+// Returns the time of the clock, which does not follow the time of day.
+fn now<C: Clock>(clock: &C, fault: FilesFault) -> Result<Instant, FilesFault> {
+    match Instant::now(clock) {
+        Ok(now) => Ok(now),
+        Err(_) => Err(fault),
+    }
 }
 
 /// Waits for both locks of a writing run, at most `patience` if it is given, and takes them. Creates missing lock files, so that all users
@@ -90,42 +145,24 @@ pub fn lock_to_write<R: Files<File = File> + Clock>(
     names: &Names,
     patience: Option<Duration>,
 ) -> Result<WriteLocks, FilesFault> {
-    let mut patience = patience;
+    let wait = Wait::begin(rt, false, patience)?;
     for _ in 0..u64::MAX {
-        // While another run has the database open, this run tries no lock, so that it does not disturb readers. With a patience of 0, it
+        // While another run has the database open, this run tries no lock, so that it does not disturb readers. With no patience left, it
         // tries the locks once without this check.
-        if patience != Some(Duration::ZERO) && has_writer(rt, names) {
-            patience = rest_within(rt, patience)?;
+        if wait.left(rt)? != Some(Duration::ZERO) && has_writer(rt, names) {
+            wait.rest(rt, Duration::from_millis(LONGEST_REST))?;
             continue;
         }
-        let (files, left) = lock_files(rt, names, patience)?;
+        let files = lock_files(rt, names, wait)?;
         let writer = open_to_lock(rt, names, names.writer.as_str())?;
         if is_locked_now(rt, names, &writer)? {
             share(&writer)?;
             return Ok(WriteLocks { writer, files });
         }
         drop(files);
-        patience = rest_within(rt, left)?;
+        wait.rest(rt, Duration::from_millis(LONGEST_REST))?;
     }
     Err(FilesFault::Locked)
-}
-
-// Pauses, and returns the remaining patience.
-fn rest_within<C: Clock>(
-    clock: &C,
-    patience: Option<Duration>,
-) -> Result<Option<Duration>, FilesFault> {
-    let longest = Duration::from_millis(LONGEST_REST);
-    let Some(left) = patience else {
-        thread::sleep(clock, longest);
-        return Ok(None);
-    };
-    if left.is_zero() {
-        return Err(FilesFault::Locked);
-    }
-    let rest = longest.min(left);
-    thread::sleep(clock, rest);
-    Ok(Some(left.saturating_sub(rest)))
 }
 
 // Takes BASE.writer if no other run holds it. Returns `true` if it was taken and its name still refers to this file.
@@ -141,22 +178,17 @@ fn is_locked_now<R: Files<File = File>>(
     }
 }
 
-// Waits for BASE.lock and takes it exclusively. Also returns the remaining patience.
+// Waits for BASE.lock and takes it exclusively.
 fn lock_files<R: Files<File = File> + Clock>(
     rt: &R,
     names: &Names,
-    patience: Option<Duration>,
-) -> Result<(File, Option<Duration>), FilesFault> {
-    let mut patience = patience;
+    wait: Wait,
+) -> Result<File, FilesFault> {
     for _ in 0..MOST_LOCKS {
         let file = open_to_lock(rt, names, names.lock.as_str())?;
-        let take = Take {
-            shared: false,
-            patience,
-        };
-        patience = take_named(rt, &file, take, FilesFault::WriteFile)?;
+        take_lock(rt, &file, wait)?;
         if is_named(rt, names.lock.as_str(), &file) {
-            return Ok((file, patience));
+            return Ok(file);
         }
     }
     Err(FilesFault::Moved(MovedFile::Lock))
@@ -186,21 +218,18 @@ pub fn lock_to_read<R: Files<File = File> + Clock + AllocGlobal>(
     names: &Names,
     patience: Option<Duration>,
 ) -> Result<Option<File>, FilesFault> {
-    let mut patience = patience;
+    let wait = Wait::begin(rt, true, patience)?;
     for _ in 0..MOST_YIELDS {
-        let Some((file, left)) = share_files(rt, names, patience)? else {
+        let Some(file) = share_files(rt, names, wait)? else {
             return Ok(None);
         };
-        if is_short(left) || !is_waited_for(rt, names) {
+        if is_short(wait.left(rt)?) || !is_waited_for(rt, names) {
             return Ok(Some(file));
         }
         drop(file);
-        patience = rest_within(rt, left)?;
+        wait.rest(rt, Duration::from_millis(LONGEST_REST))?;
     }
-    match share_files(rt, names, patience)? {
-        Some((file, _)) => Ok(Some(file)),
-        None => Ok(None),
-    }
+    share_files(rt, names, wait)
 }
 
 // Returns `true` if too little patience is left to release the lock and take it again.
@@ -211,36 +240,32 @@ fn is_short(left: Option<Duration>) -> bool {
     }
 }
 
-// Waits for BASE.lock and takes it shared. Also returns the remaining patience.
+// Waits for BASE.lock and takes it shared.
 fn share_files<R: Files<File = File> + Clock>(
     rt: &R,
     names: &Names,
-    patience: Option<Duration>,
-) -> Result<Option<(File, Option<Duration>)>, FilesFault> {
+    wait: Wait,
+) -> Result<Option<File>, FilesFault> {
     let (name, pages) = (names.lock.as_str(), names.pages.as_str());
-    let mut patience = patience;
     for _ in 0..MOST_LOCKS {
         let file = match open_beside(rt, Side::Lock, name, pages, false) {
             Ok(file) => file,
             Err(SideFault::Absent) => return Ok(None),
             Err(fault) => return Err(side_fault(&fault, FilesFault::ReadFile)),
         };
-        let take = Take {
-            shared: true,
-            patience,
-        };
-        patience = take_named(rt, &file, take, FilesFault::ReadFile)?;
+        take_lock(rt, &file, wait)?;
         if is_named(rt, name, &file) {
-            return Ok(Some((file, patience)));
+            return Ok(Some(file));
         }
     }
     Err(FilesFault::Moved(MovedFile::Lock))
 }
 
 // Returns `true` if a save waits for BASE.lock, which this run shares. A save waits if a process holds BASE.writer, but not exclusively. A
-// reader that checks BASE.writer holds it shared for a moment, and then counts as a save.
+// reader that checks BASE.writer holds it shared for a moment, and then counts as a save. If the system does not report the save's lock, this
+// run does not yield.
 fn is_waited_for<R: Files<File = File> + AllocGlobal>(rt: &R, names: &Names) -> bool {
-    !has_writer(rt, names) && locker_of(rt, names.writer.as_str()).is_some()
+    !has_writer(rt, names) && may_be_locked(rt, names.writer.as_str())
 }
 
 /// Returns `true` if another run holds BASE.writer exclusively: it has the database open for changes, but does not use the files now. If
@@ -257,71 +282,41 @@ pub fn has_writer<R: Files<File = File>>(rt: &R, names: &Names) -> bool {
     }
 }
 
-// Takes a lock and returns the remaining patience. Fails with `Locked` if another run holds the lock for the whole wait, and with `fault`
-// if the lock cannot be taken for another reason.
-fn take_named<C: Clock>(
-    clock: &C,
-    file: &File,
-    take: Take,
-    fault: FilesFault,
-) -> Result<Option<Duration>, FilesFault> {
-    match take_lock(clock, file, take) {
-        Ok(left) => Ok(left),
-        Err(TryLockError::WouldBlock) => Err(FilesFault::Locked),
-        Err(TryLockError::Error(_)) => Err(fault),
+// Takes a lock. Fails with `Locked` if another run holds it until the wait ends.
+fn take_lock<C: Clock>(clock: &C, file: &File, wait: Wait) -> Result<(), FilesFault> {
+    if wait.limit.is_some() {
+        return take_within(clock, file, wait);
+    }
+    let taken = if wait.shared {
+        file.lock_shared()
+    } else {
+        file.lock()
+    };
+    match taken {
+        Ok(()) => Ok(()),
+        Err(_) => Err(wait.fault),
     }
 }
 
-// Takes a lock and returns the remaining patience.
-fn take_lock<C: Clock>(
-    clock: &C,
-    file: &File,
-    take: Take,
-) -> Result<Option<Duration>, TryLockError> {
-    let Some(patience) = take.patience else {
-        let taken = if take.shared {
-            file.lock_shared()
-        } else {
-            file.lock()
-        };
-        taken.map_err(TryLockError::Error)?;
-        return Ok(None);
-    };
-    let left = take_within(clock, file, take.shared, patience)?;
-    Ok(Some(left))
-}
-
-// Tries to take the lock, with growing pauses, until `patience` is over. Returns the remaining time.
-fn take_within<C: Clock>(
-    clock: &C,
-    file: &File,
-    shared: bool,
-    patience: Duration,
-) -> Result<Duration, TryLockError> {
-    let started = Instant::now(clock).map_err(TryLockError::Error)?;
+// Tries to take the lock, with growing pauses, until the wait ends.
+fn take_within<C: Clock>(clock: &C, file: &File, wait: Wait) -> Result<(), FilesFault> {
     let mut rest = Duration::from_millis(1);
     for _ in 0..u64::MAX {
-        let tried = if shared {
+        let tried = if wait.shared {
             file.try_lock_shared()
         } else {
             file.try_lock()
         };
-        let waited = started.elapsed(clock).map_err(TryLockError::Error)?;
-        let left = patience.saturating_sub(waited);
         match tried {
-            Err(TryLockError::WouldBlock) => (),
-            Err(error) => return Err(error),
-            Ok(()) => return Ok(left),
+            Ok(()) => return Ok(()),
+            Err(TryLockError::WouldBlock) => wait.rest(clock, rest)?,
+            Err(TryLockError::Error(_)) => return Err(wait.fault),
         }
-        if left.is_zero() {
-            break;
-        }
-        thread::sleep(clock, rest.min(left));
         rest = rest
             .saturating_mul(2)
             .min(Duration::from_millis(LONGEST_REST));
     }
-    Err(TryLockError::WouldBlock)
+    Err(FilesFault::Locked)
 }
 
 // Opens a lock file, or creates it if it is missing. If another run creates the file first, opens that file. If the file cannot be opened

@@ -146,7 +146,7 @@ fn table_of(stock: Stock) -> &'static str {
             code 1    taken\n\
             code 0    there is too little\n\
             code 4    the record or the argument is too short\n\
-            word      code 1: how much is left; code 0: how long to wait, 2^64 - 1 if for ever\n\
+            word      code 1: how much is left; code 0: how long to wait, 2^64 - 1 if cost > capacity\n\
             example   dbm run db ada @token_bucket u64:5,u64:60 8 now --text\n"
         }
     }

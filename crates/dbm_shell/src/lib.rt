@@ -6,4 +6,4 @@ mod serving;
 mod shell;
 mod terminal_lines;
 
-pub use serving::serve_session;
+pub use serving::{read_options, serve_session};

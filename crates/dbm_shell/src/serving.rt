@@ -7,7 +7,7 @@ use dbm_messages::ServeFault;
 use dbm_places::{FileBytes, FilesFault, RunPlace};
 use dbm_reports::{Given, ReportFault, notation_by, open};
 use dbm_script::Notation;
-use dbm_session::{Session, SessionEnd, SessionFault, read_every, run_session};
+use dbm_session::{Every, Session, SessionEnd, SessionFault, read_every, run_session};
 use dbm_stderr::is_terminal;
 use sdbm_files::Image;
 use std::alloc::Global;
@@ -33,10 +33,7 @@ pub fn serve_session<R: Runtime<File = File> + Clock + AllocGlobal, I: Read>(
     taken: RunFiles,
     reader: &mut I,
 ) -> Result<(), ServeFault> {
-    let notation = notation_by(rt.alloc(), session.notation)?;
-    let Some(every) = read_every(session.save_every) else {
-        return Err(ServeFault::Report(ReportFault::BadNumber));
-    };
+    let (notation, every) = read_options(rt.alloc(), &session)?;
     let RunFiles { bytes, held, .. } = taken;
     let Some(held) = held else {
         return Err(ServeFault::WriteFile);
@@ -50,6 +47,22 @@ pub fn serve_session<R: Runtime<File = File> + Clock + AllocGlobal, I: Read>(
     };
     let mut shell = Shell::new(rt, place, &held, saves, options);
     answer_lines(rt, &notation, image, reader, &mut shell)
+}
+
+/// Reads the options of a session: the notation of its lines, and the rule for its saves.
+///
+/// # Errors
+/// `Report` with `BadLayout` if the layout of values is invalid, and with `BadNumber` if `--save-every` is invalid; `NoMemory` if
+/// allocation fails.
+pub fn read_options(
+    alloc: Global,
+    session: &Session<'_>,
+) -> Result<(Notation<Global>, Every), ServeFault> {
+    let notation = notation_by(alloc, session.notation)?;
+    match read_every(session.save_every) {
+        Some(every) => Ok((notation, every)),
+        None => Err(ServeFault::Report(ReportFault::BadNumber)),
+    }
 }
 
 // Opens the database in the files, and drops the bytes of the files.

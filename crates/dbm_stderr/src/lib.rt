@@ -22,4 +22,4 @@ pub use telling::{
     note_that, note_unsaved, note_waiting_save,
 };
 pub use terminal::is_terminal;
-pub use waiting::take_and_tell;
+pub use waiting::{note_holder, take_and_tell};

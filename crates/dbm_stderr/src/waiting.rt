@@ -13,8 +13,7 @@ use std::time::{Clock, Duration};
 const SILENT_WAIT: u64 = 500;
 
 /// Like `take_files`, with reports. If the run is verbose or standard error is a terminal, reports the holder of the lock after a wait of
-/// half a second. Otherwise reports the holder only if a longer wait has failed. At a terminal, also reports the steps of a command that is
-/// slow on large files.
+/// half a second. At a terminal, also reports the steps of a command that is slow on large files.
 ///
 /// # Errors
 /// The errors of `take_files`.
@@ -40,20 +39,15 @@ fn take_patiently<R: Runtime<File = File> + Clock + AllocGlobal>(
     patience: Option<Duration>,
     verbose: bool,
 ) -> Result<RunFiles, FilesFault> {
-    let silent = Duration::from_millis(SILENT_WAIT);
-    let rest = match patience {
-        Some(patience) if patience <= silent => return take_files(rt, place, peeks, Some(patience)),
-        Some(patience) => Some(patience.saturating_sub(silent)),
-        None => None,
-    };
     if !verbose && !is_at_terminal(rt) {
-        let taken = take_files(rt, place, peeks, patience);
-        if let Err(FilesFault::Locked) = &taken {
-            tell_holder(rt, place);
-        }
-        return taken;
+        return take_files(rt, place, peeks, patience);
     }
-    match take_files(rt, place, peeks, Some(silent)) {
+    let silent = Duration::from_millis(SILENT_WAIT);
+    let (first, rest) = match patience {
+        Some(patience) => (patience.min(silent), Some(patience.saturating_sub(silent))),
+        None => (silent, None),
+    };
+    match take_files(rt, place, peeks, Some(first)) {
         Err(FilesFault::Locked) => {
             tell_wait(rt, place);
             take_files(rt, place, peeks, rest)
@@ -79,8 +73,15 @@ fn tell_wait<R: Runtime<File = File> + AllocGlobal>(rt: &R, place: RunPlace<'_>)
     let _ = eprintln!(rt; "dbm: note: {note}");
 }
 
-// Reports the holder of the lock after a wait that failed.
-fn tell_holder<R: Runtime<File = File> + AllocGlobal>(rt: &R, place: RunPlace<'_>) {
+/// Notes the holder of the lock after the fault `Locked`, unless `take_and_tell` reports the wait to such a run.
+pub fn note_holder<R: Runtime<File = File> + AllocGlobal>(
+    rt: &R,
+    place: RunPlace<'_>,
+    verbose: bool,
+) {
+    if verbose || is_at_terminal(rt) {
+        return;
+    }
     let Some(base) = place.base else {
         return;
     };

@@ -20,21 +20,24 @@ use backup::{refuse_copy, serve_backup};
 use clock::{read_clock, read_time};
 use dbm_args::Access;
 use dbm_command_line::{Ask, Request, ToolFault, Wish, read_words};
+use dbm_dump::DumpFault;
 use dbm_files::{LockedFiles, RunFiles, SaveOutcome, save_files, take_rest};
 use dbm_messages::ServeFault;
 use dbm_places::{RunPlace, has_no_files};
-use dbm_reports::{Given, NOT_RUN, ReportFault};
+use dbm_reports::{Given, NOT_RUN, Outcome, ReportFault};
 use dbm_script::{LineKind, SCRIPT_LIMIT, TimeOfDay, read_number};
-use dbm_shell::serve_session;
+use dbm_shell::{read_options, serve_session};
 use dbm_stderr::{
     DiagnosticContext, PipeWriter, ProgressReader, RecordingReader, advise, is_terminal,
-    note_absent, note_bad_lines, note_hex_word, note_object, note_of_half_line, note_of_line_end,
-    note_pending, note_that, take_and_tell, tell_saving,
+    note_absent, note_bad_lines, note_hex_word, note_holder, note_object, note_of_half_line,
+    note_of_line_end, note_pending, note_that, take_and_tell, tell_saving,
 };
 use ending::{Ending, Served, exit_status};
 use printing::{note_program, print_change, print_lines};
 use quick::{PageServed, may_be_quick, serve_quick};
 use request::{context_of, doubtful_hex, given_of, place_asked, reads_whole, work_asked, work_of};
+use sdbm_addr::PageSize;
+use sdbm_files::ReadPages;
 use sdbm_saves::ReadFiles;
 use serve::serve;
 use sizes::{must_be_wide, refuse_small};
@@ -140,6 +143,7 @@ fn serve_and_tell<R: Runtime<File = File> + AllocGlobal + Threads + Wait + Sync>
     let records = !matches!(request.ask, Ask::Wish(Wish::Load(_)) | Ask::Session(_));
     let input = ProgressReader::new(rt, rt.reader(), work_asked(&request.ask));
     let mut reader = RecordingReader::new(rt.alloc(), input, records);
+    let verbose = request.access.verbose;
     let outcome = serve_request(rt, request, &mut reader);
     if let Ok(Some(served)) = &outcome {
         note(rt, &context, served, reader.text());
@@ -149,10 +153,13 @@ fn serve_and_tell<R: Runtime<File = File> + AllocGlobal + Threads + Wait + Sync>
             note_hex_word(rt, word);
         }
     }
-    let is_bad_line = matches!(outcome, Err(ServeFault::BadLine(_)));
+    let fault = outcome.as_ref().err().copied();
+    // The name of the fault is the first line, so the notes follow.
     let ending = tell(rt, Some(&context), Ending::of(outcome));
-    if is_bad_line {
-        note_line_end(rt, LineKind::OfBatch, reader.text());
+    match fault {
+        Some(ServeFault::BadLine(_)) => note_line_end(rt, LineKind::OfBatch, reader.text()),
+        Some(ServeFault::Locked) => note_holder(rt, context.place, verbose),
+        _ => (),
     }
     ending
 }
@@ -311,7 +318,7 @@ fn check_access<R: Runtime<File = File> + AllocGlobal>(
 
 // Takes the files of a request. Leaves `.pag` unread if one page may be enough. For a stock program, makes its bytes instead of reading a
 // file.
-fn take_asked<R: Runtime<File = File> + AllocGlobal>(
+fn take_asked<R: Runtime<File = File> + AllocGlobal + Threads + Wait + Sync>(
     rt: &R,
     request: &Request<'_>,
     taking: Taking<'_>,
@@ -322,7 +329,10 @@ fn take_asked<R: Runtime<File = File> + AllocGlobal>(
     let work = work_asked(ask);
     let mut taken = take_and_tell(rt, place, peeks, patience, access.verbose, work)?;
     if must_be_wide(request) {
-        taken = refuse_small(rt, place, taken, patience)?;
+        taken = match refuse_small(rt, place, taken, patience) {
+            Err(ServeFault::OtherSize) => return Err(fault_of_small(rt, ask)),
+            other => other?,
+        };
     }
     if let Ask::Wish(wish) = ask
         && let Some(program) = stock_file(rt.alloc(), wish)?
@@ -435,6 +445,54 @@ fn with_words<'a>(wish: Wish<'a>, added: &'a AddedWords) -> Wish<'a> {
         Some(workers) => wish.with_workers(workers.as_str()),
         None => wish,
     }
+}
+
+// Returns the fault of a request whose files look small: the first fault of its words, or else `OtherSize`. To find a fault of the words,
+// serves the request on an empty database and an empty input, where it changes and prints nothing.
+fn fault_of_small<R: Runtime<File = File> + AllocGlobal + Threads + Wait + Sync>(
+    rt: &R,
+    ask: &Ask<'_>,
+) -> ServeFault {
+    let fault = match ask {
+        Ask::Wish(wish) => serve_nothing(rt, wish).err(),
+        Ask::Session(session) => read_options(rt.alloc(), session).err(),
+        Ask::Backup(_) | Ask::Programs(_) => None,
+    };
+    match fault {
+        Some(fault) if is_of_words(fault) => fault,
+        _ => ServeFault::OtherSize,
+    }
+}
+
+// Serves a request on an empty database, with an empty input and an empty program, and prints nothing.
+fn serve_nothing<R: Runtime<File = File> + AllocGlobal + Threads + Wait + Sync>(
+    rt: &R,
+    wish: &Wish<'_>,
+) -> Result<Outcome, ServeFault> {
+    let alloc = rt.alloc();
+    let added = added_words(rt, wish)?;
+    let none = Given {
+        dir: Vec::new(alloc),
+        pag: ReadPages::new(alloc, PageSize::Wide),
+        file: Vec::new(alloc),
+    };
+    let wish = with_words(*wish, &added);
+    serve(rt, alloc, wish, &none, &mut io::empty(), &mut io::sink())
+}
+
+// Returns `true` for a fault of the words, which comes before a fault of the files as a database.
+fn is_of_words(fault: ServeFault) -> bool {
+    matches!(
+        fault,
+        ServeFault::ReadClock
+            | ServeFault::Dump(DumpFault::BadFormat)
+            | ServeFault::Report(
+                ReportFault::BadLayout
+                    | ReportFault::BadHex
+                    | ReportFault::BadText
+                    | ReportFault::BadNumber
+            )
+    )
 }
 
 // Returns the number of cores that this process may use, in decimal; 1 if the system does not report it.

@@ -7,7 +7,8 @@
 ;
 ; Code 1: taken. The reply word is the amount that is left.
 ; Code 0: there is too little, and the reply word is the time to wait until there is enough. It is
-; 2^64 - 1 if there never is: the cost is above the capacity, or the time would be past 2^64 - 1.
+; 2^64 - 1 if the cost is above the capacity. If the bucket would be full only at 2^64 or later,
+; nothing is taken either, now or after the wait.
 ; Code 4: the record or the argument is too short.
 ;
 ; A time ahead of the clock is accepted: if a clock was wrong, delete the key.

@@ -46,15 +46,23 @@
  * lock may also belong to a user who may write BASE.pag as a member of its group, or because all users may. After UNSAFE, find out who made
  * the file, and remove the file if you do not trust that user. If a redo file belongs to a user you trust, let that user's next command
  * recover it, or give it to the owner of BASE.pag: the data files may contain half of its saves. Closing a base removes a redo file that
- * could not get the owner, the group and the permissions of BASE.pag, so only a killed process leaves one behind.
+ * could not get the owner, the group and the permissions of BASE.pag, so only a killed process leaves one behind. The next user who saves
+ * replaces such a file, if this user owns it or is root. The library changes the owner and the permissions only of files that it has just
+ * made.
  *
  * Forks. A base belongs to the process that opened it. In a forked child, boddurci_save returns FORKED, boddurci_take returns NULL,
- * boddurci_give does nothing, and boddurci_close_files only frees memory: the parent keeps the locks.
+ * boddurci_give does nothing, and boddurci_close_files only frees memory: the parent keeps the locks. The fork closes the lock files of the
+ * child, so the locks end with the parent. A child that was not made by fork of the C library keeps them too, until it ends.
+ *
+ * Threads. If a thread is cancelled during a call of this header, the cancellation takes effect after the call. So no thread that is cancelled
+ * leaves a lock behind, but a wait without a limit cannot be cancelled.
+ *
+ * Descriptors. No file of a base keeps the descriptor of a standard stream that is closed.
  *
  * NULL. Pass NULL as the fault if you do not need it. If the base is NULL, a save returns IS_CLOSED, boddurci_take returns NULL, and
  * boddurci_give and boddurci_close_files do nothing. If the name is NULL, an opening fails with BAD_NAME.
  *
- * None of this is proved; tests/c_library, tests/c_crashes and tests/hostile_library test it. */
+ * None of this is proved; tests/c_library, tests/c_crashes, tests/hostile_library and tests/processes test it. */
 #ifndef BODDURCI_FILES_H
 #define BODDURCI_FILES_H
 #include "boddurci.h"
@@ -176,9 +184,9 @@ void boddurci_give(boddurci_base *base);
  * waits for readers that hold BASE.lock. One call saves for all calls that wait when this save takes its calls; calls that come later wait
  * until it has ended. Once the save is durable, the other calls return DONE, and the saving call writes the data files. If the save fails
  * before, all of them return its status and its fault, and each caller may save again. No thread is served twice while another one waits. A
- * single thread never waits for other threads. If a thread is cancelled during the call, the cancellation takes effect after the call.
- * While saves take less than half a millisecond, and 20 microseconds more for each call, a waiting thread polls and yields the processor for
- * twice as long as the last save took, and then sleeps. Under SCHED_FIFO a thread yields only to threads of the same priority.
+ * single thread never waits for other threads. While saves take less than half a millisecond, and 20 microseconds more for each call, a
+ * waiting thread polls and yields the processor for twice as long as the last save took, and then sleeps. Under SCHED_FIFO a thread yields
+ * only to threads of the same priority.
  *
  * Full disks. Before a save is committed, both files get the blocks that they need, if the file system can allocate them. So a save on a
  * full disk returns FILE_FAILED, and nothing has changed. A save also returns FILE_FAILED if it would make one of the three files longer
@@ -239,7 +247,9 @@ void boddurci_close_files(boddurci_base *base);
  *   since this user cannot give it to the owner of .pag, and other users would not accept it.
  *
  * Other calls take less than 1 MiB and the memory of the handle's programs. A change after a command of dbm, a service or Perl begins a new
- * log, which takes some syncs.
+ * log, which takes some syncs. The first call while no process has the base open compares the data files with the log, since the file system
+ * may have lost bytes that were not synced. For each MiB of records that takes some 6 milliseconds and 2 MiB of memory. If there are more than
+ * 16 KiB of records, the next change begins a new log.
  *
  * Threads may share a handle. The handle has a mutex, which a call holds until it returns, even during its sync. A call waits for the mutex
  * at most as long as for a lock. If threads make many durable changes, open a handle for each thread: then one sync serves several threads.
@@ -249,9 +259,10 @@ void boddurci_close_files(boddurci_base *base);
  *
  * Other programs. A program that does not know the locks, such as Perl's SDBM_File, may write between two calls, and the next call reads
  * the written data. It must not write during a call: the call would not notice the write before its commit. A write that keeps the lengths,
- * within the same tick of the clock as the last call, may remain unnoticed too. (A tick has some milliseconds.) Such a program sees the
- * last changes with NO_FLUSH, and those of processes that wait for each other, only after a flush while no other call is in progress. It
- * must not write before that flush: the next call might return BAD_REDO.
+ * within the same tick of the clock as the last call, may remain unnoticed too. (A tick has some milliseconds.) If no process has the base
+ * open after such a write, the next call may recover the log, and overwrite the written data or return BAD_REDO. Such a program sees the last
+ * changes with NO_FLUSH, and those of processes that wait for each other, only after a flush while no other call is in progress. It must not
+ * write before that flush: the next call might return BAD_REDO.
  *
  * Time. The caller of boddurci_shared_run sets `now` before the call waits for the locks, so `now` may be in the past when the program runs,
  * and earlier than the time of a run before. boddurci_shared_run_now reads the clock once the call has the locks. */

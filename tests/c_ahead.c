@@ -311,10 +311,12 @@ static void serve(void)
     boddurci_close_files(files);
 }
 
-/* Writes the page of "n" in place, as a program that does not know the log. The value of "n" was "old". */
+/* Writes the page of "n" in place, as a program that does not know the log. The value of "n" was "old". Waits before for the next tick of the
+ * clock: the first call after all handles are closed may recover the log over a write in the tick of the last change. */
 static void write_in_place(void)
 {
     char name[300];
+    nanosleep(&(struct timespec){0, 30000000}, NULL);
     uint8_t page[1024];
     off_t at = (off_t)page_of("n") * 1024;
     snprintf(name, sizeof name, "%s.pag", base);

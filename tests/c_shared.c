@@ -160,6 +160,7 @@ static int calls(const char *folder)
     test_names();
     test_boots();
     test_lost_pages();
+    test_notes();
     test_readers();
     test_group();
     test_limit();

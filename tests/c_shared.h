@@ -80,6 +80,9 @@ void test_limit(void);
 void test_long(void);
 void test_memory(void);
 
+/* In c_shared_notes.c */
+void test_notes(void);
+
 /* In c_shared_users.c */
 void test_readers(void);
 void test_group(void);

@@ -69,7 +69,7 @@ void boddurci_disk_of(struct boddurci_disk *disk, struct boddurci_place *place)
     disk->has_reserved = 0;
     disk->keeps_room = 0;
     disk->most = UINT64_MAX;
-    disk->redo.is_known = 0;
+    disk->redo.is_known = disk->has_made_redo = 0;
 }
 
 void boddurci_disk_drop(struct boddurci_disk *disk, enum boddurci_file file)
@@ -77,8 +77,9 @@ void boddurci_disk_drop(struct boddurci_disk *disk, enum boddurci_file file)
     if (disk->files[file] >= 0)
         close(disk->files[file]);
     disk->files[file] = -1;
+    disk->is_folder_synced = 0;
     if (file == BODDURCI_REDO)
-        disk->redo.is_known = 0;
+        disk->redo.is_known = disk->has_made_redo = 0;
 }
 
 struct boddurci_inode boddurci_disk_redo(struct boddurci_disk *disk)
@@ -103,7 +104,7 @@ static mode_t mode_of(const struct boddurci_disk *disk, enum boddurci_file file)
     return file == BODDURCI_PAGES ? 0666 : boddurci_mode_of_pages(disk->place, 0666);
 }
 
-/* Makes a file. After making .pag, gives an existing redo file the owner, the group and the permissions of .pag. */
+/* Makes a file. After making .pag, gives a redo file that this process has made the owner, the group and the permissions of .pag. */
 static int make(struct boddurci_disk *disk, enum boddurci_file file)
 {
     int *opened = &disk->files[file];
@@ -112,10 +113,11 @@ static int make(struct boddurci_disk *disk, enum boddurci_file file)
     *opened = boddurci_make(disk->place, file, mode);
     if (*opened < 0 || (file != BODDURCI_REDO && boddurci_see(disk->place, file, *opened) != 0))
         return -1;
+    if (file == BODDURCI_REDO)
+        disk->has_made_redo = 1;
     if (file != BODDURCI_PAGES)
         return boddurci_be_like_pages(disk->place, file, *opened);
-    int redo = disk->files[BODDURCI_REDO];
-    return redo < 0 ? 0 : boddurci_be_like_pages(disk->place, BODDURCI_REDO, redo);
+    return disk->has_made_redo ? boddurci_be_like_pages(disk->place, BODDURCI_REDO, disk->files[BODDURCI_REDO]) : 0;
 }
 
 /* Opens an existing data file. boddurci_log.c opens the redo file. */
@@ -226,7 +228,6 @@ int boddurci_disk_remove_redo(struct boddurci_disk *disk)
 {
     disk->last = BODDURCI_REDO;
     boddurci_disk_drop(disk, BODDURCI_REDO);
-    disk->is_folder_synced = 0;
     return unlinkat(disk->place->folder, disk->place->names[BODDURCI_REDO], 0) == 0 || errno == ENOENT ? 0 : -1;
 }
 

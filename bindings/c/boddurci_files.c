@@ -182,11 +182,24 @@ void boddurci_mark_and_give(boddurci_base *base)
         boddurci_keep_files(&base->place);
 }
 
-static uint32_t read_base(boddurci_base *base, const char *name, int64_t milliseconds, boddurci_fault *fault)
+/* Where a base is: its name, or the place of an open base. The other one is NULL. */
+struct where {
+    const char *name;
+    const struct boddurci_place *place;
+};
+
+static uint32_t enter(struct boddurci_place *place, struct where where, int reads, int64_t milliseconds, boddurci_fault *fault)
+{
+    if (where.place != NULL)
+        return boddurci_enter_like(place, where.place, reads, milliseconds, fault);
+    return boddurci_enter(place, where.name != NULL ? where.name : "", reads, milliseconds, fault);
+}
+
+static uint32_t read_base(boddurci_base *base, struct where where, int64_t milliseconds, boddurci_fault *fault)
 {
     struct parts parts = {{NULL, 0, 0}, {NULL, 0, 0}, BODDURCI_UNREAD, (base->flags & BODDURCI_WIDE) != 0, 0};
     int reads = (base->flags & BODDURCI_READ_ONLY) != 0;
-    uint32_t status = boddurci_enter(&base->place, name, reads, milliseconds, fault);
+    uint32_t status = enter(&base->place, where, reads, milliseconds, fault);
     int may_read = status == BODDURCI_DONE;
     if (may_read)
         status = read_files(base, &parts, fault);
@@ -229,20 +242,33 @@ static boddurci_base *new_base(uint32_t flags)
     return NULL;
 }
 
-boddurci_base *boddurci_open_files_within(const char *name, uint32_t flags, int64_t milliseconds, boddurci_fault *fault)
+static boddurci_base *open_within(struct where where, uint32_t flags, int64_t milliseconds, boddurci_fault *fault)
 {
     boddurci_fault unsaid;
+    int could_be_cancelled = boddurci_hold_cancel();
     boddurci_base *base = new_base(flags);
     fault = fault != NULL ? fault : &unsaid;
     boddurci_no_fault(fault);
-    if (base == NULL) {
+    if (base == NULL)
         boddurci_no_memory(fault);
-        return NULL;
+    else if (read_base(base, where, flags & BODDURCI_NO_WAIT ? 0 : milliseconds, fault) != BODDURCI_DONE) {
+        boddurci_close_files(base);
+        base = NULL;
     }
-    if (read_base(base, name != NULL ? name : "", flags & BODDURCI_NO_WAIT ? 0 : milliseconds, fault) == BODDURCI_DONE)
-        return base;
-    boddurci_close_files(base);
-    return NULL;
+    boddurci_give_cancel(could_be_cancelled);
+    return base;
+}
+
+boddurci_base *boddurci_open_files_within(const char *name, uint32_t flags, int64_t milliseconds, boddurci_fault *fault)
+{
+    struct where where = {name, NULL};
+    return open_within(where, flags, milliseconds, fault);
+}
+
+boddurci_base *boddurci_open_like(const struct boddurci_place *place, uint32_t flags, int64_t milliseconds, boddurci_fault *fault)
+{
+    struct where where = {NULL, place};
+    return open_within(where, flags, milliseconds, fault);
 }
 
 boddurci_base *boddurci_open_files(const char *name, uint32_t flags, boddurci_fault *fault)
@@ -269,7 +295,7 @@ void boddurci_close_files(boddurci_base *base)
 {
     if (base == NULL)
         return;
-    int is_own = !boddurci_is_of_another(base);
+    int is_own = !boddurci_is_of_another(base), could_be_cancelled = boddurci_hold_cancel();
     if (is_own || pthread_mutex_trylock(&base->mutex) == 0)
         boddurci_close(&base->db);
     if (is_own)
@@ -283,6 +309,7 @@ void boddurci_close_files(boddurci_base *base)
         boddurci_group_destroy(&base->saves);
     }
     free(base);
+    boddurci_give_cancel(could_be_cancelled);
 }
 
 boddurci *boddurci_take_own(boddurci_base *base)

@@ -318,13 +318,12 @@ static void save_for_all(struct boddurci_group *group, struct boddurci_call *cal
 uint32_t boddurci_group_save(struct boddurci_group *group, boddurci_saving *save, boddurci_base *base, int insists, boddurci_fault *fault)
 {
     struct boddurci_call call = {.fault = fault, .insists = insists, .state = WAITS};
-    int could_be_cancelled;
     if (sem_init(&call.turn, 0, 0) != 0)
         return boddurci_fail_by_system(fault, "a thread cannot wait for its save");
-    pthread_setcancelstate(PTHREAD_CANCEL_DISABLE, &could_be_cancelled);
+    int could_be_cancelled = boddurci_hold_cancel();
     if (!has_to_wait(group, &call) || wait_for(group, &call) == HAS_TURN)
         save_for_all(group, &call, save, base);
-    pthread_setcancelstate(could_be_cancelled, NULL);
+    boddurci_give_cancel(could_be_cancelled);
     sem_destroy(&call.turn);
     return call.status;
 }

@@ -3,7 +3,6 @@
 #include "boddurci_saves.h"
 #include <errno.h>
 #include <fcntl.h>
-#include <pthread.h>
 #include <sched.h>
 #include <stdlib.h>
 #include <string.h>
@@ -12,67 +11,9 @@
 #include <time.h>
 #include <unistd.h>
 
-/* ---- names */
-
-/* If the name of a file is a symbolic link to a file of another base with this ending, sets *lead to the name of that base. Otherwise sets
- * *lead to NULL. The caller frees *lead. */
-static int lead_of(const char *base, const char *ending, char **lead)
-{
-    struct stat found;
-    size_t length = strlen(base), end = strlen(ending);
-    char *name = malloc(length + end + 1);
-    *lead = NULL;
-    if (name == NULL)
-        return -1;
-    int is_link = lstat(strcat(strcpy(name, base), ending), &found) == 0 && S_ISLNK(found.st_mode);
-    char *real = is_link ? realpath(name, NULL) : NULL;
-    int system = errno;
-    free(name);
-    errno = system;
-    if (real == NULL)
-        return is_link ? -1 : 0;
-    length = strlen(real);
-    if (length < end || strcmp(real + length - end, ending) != 0) {
-        free(real);
-        return 0;
-    }
-    real[length - end] = 0;
-    *lead = real;
-    return 0;
-}
-
-/* If both data files are symbolic links to those of another base, sets *led to the name of that base, so that all processes use the same
- * locks. Otherwise sets *led to NULL. The caller frees *led. */
-static uint32_t resolve(const char *name, char **led, boddurci_fault *fault)
-{
-    char *pages = NULL, *directory = NULL;
-    *led = NULL;
-    if (lead_of(name, ".pag", &pages) != 0 || lead_of(name, ".dir", &directory) != 0) {
-        uint32_t status = boddurci_fail_by_system(fault, "a link cannot be followed");
-        free(pages);
-        return status;
-    }
-    int are_same = pages != NULL && directory != NULL ? strcmp(pages, directory) == 0 : pages == directory;
-    free(directory);
-    if (are_same) {
-        *led = pages;
-        return BODDURCI_DONE;
-    }
-    free(pages);
-    return boddurci_fail(fault, BODDURCI_FILE_FAILED, 0, "BASE.pag and BASE.dir are links to two bases");
-}
-
-/* Returns whether the last part of a path can be the name of a base. A path such as users/ cannot: its files would be users/.dir and
- * users/.pag. */
-static int is_name(const char *name)
-{
-    const char *end = strrchr(name, '/'), *last = end != NULL ? end + 1 : name;
-    return strcmp(last, "") != 0 && strcmp(last, ".") != 0 && strcmp(last, "..") != 0;
-}
-
 /* ---- time */
 
-static int64_t now(void)
+int64_t boddurci_now(void)
 {
     struct timespec time;
     clock_gettime(CLOCK_MONOTONIC, &time);
@@ -82,8 +23,16 @@ static int64_t now(void)
 /* Returns the time at which a wait ends, or -1 if the wait has no limit. */
 static int64_t end_of(int64_t milliseconds)
 {
-    int64_t start = now();
+    int64_t start = boddurci_now();
     return milliseconds < 0 ? -1 : milliseconds < INT64_MAX - start ? start + milliseconds : INT64_MAX;
+}
+
+/* Returns the time until which a wait that ends at `end` lets others go first. */
+static int64_t last_of(int64_t end)
+{
+    enum { MOST = 40 };
+    int64_t last = boddurci_now() + MOST;
+    return end < 0 || last < end ? last : end;
 }
 
 /* Sleeps before the next try: before each of the first SHORT tries about as long as a short save takes, and later 1 to 5 milliseconds.
@@ -92,7 +41,7 @@ static int rest(int *tries, int64_t end)
 {
     enum { SHORT = 50, MOMENT = 50000, MILLISECOND = 1000000, LONGEST = 5 };
     int more = *tries < SHORT ? 0 : *tries - SHORT + 1;
-    int64_t left = end < 0 ? LONGEST : end - now();
+    int64_t left = end < 0 ? LONGEST : end - boddurci_now();
     if (left <= 0) {
         errno = EWOULDBLOCK;
         return -1;
@@ -100,83 +49,6 @@ static int rest(int *tries, int64_t end)
     struct timespec time = {0, more == 0 ? MOMENT : (more < LONGEST ? more : LONGEST) * MILLISECOND};
     *tries += *tries < SHORT + LONGEST;
     return nanosleep(&time, NULL);
-}
-
-/* ---- places with locks */
-
-/* The places whose locks this process holds. A fork takes the mutex first, so a child finds a consistent list. */
-static struct boddurci_place *held;
-static unsigned long threads; /* the number of threads that have taken a lock so far */
-static __thread unsigned long this_thread; /* this thread's number among them, from 1; the system reuses its own numbers */
-static pthread_mutex_t held_mutex = PTHREAD_MUTEX_INITIALIZER;
-static pthread_once_t held_once = PTHREAD_ONCE_INIT;
-
-static void take_held(void)
-{
-    pthread_mutex_lock(&held_mutex);
-}
-
-static void give_held(void)
-{
-    pthread_mutex_unlock(&held_mutex);
-}
-
-static void guard_forks(void)
-{
-    pthread_atfork(take_held, give_held, give_held);
-}
-
-static void note_held(struct boddurci_place *place)
-{
-    take_held();
-    if (this_thread == 0)
-        this_thread = ++threads;
-    place->holder = this_thread;
-    place->process = boddurci_this_process();
-    place->keeps_files = 1;
-    place->held = held;
-    held = place;
-    give_held();
-}
-
-static void forget_held(const struct boddurci_place *place)
-{
-    take_held();
-    for (struct boddurci_place **at = &held; *at != NULL; at = &(*at)->held)
-        if (*at == place) {
-            *at = place->held;
-            break;
-        }
-    give_held();
-}
-
-static void set_keeps_files(struct boddurci_place *place, int keeps)
-{
-    take_held();
-    place->keeps_files = keeps;
-    give_held();
-}
-
-/* Returns whether a place holds a lock for longer than a call. */
-static int has_for_long(const struct boddurci_place *place, enum boddurci_file lock)
-{
-    return place->opened[lock] >= 0 && (lock == BODDURCI_WRITER || place->keeps_files);
-}
-
-/* Returns whether this thread already holds a lock, and so would wait for itself. A child does not hold the locks of its parent. */
-static int has_it_here(const struct boddurci_place *place, enum boddurci_file lock)
-{
-    struct stat wanted, had;
-    int is_here = 0;
-    pid_t process = boddurci_this_process();
-    if (fstat(place->opened[lock], &wanted) != 0)
-        return 0;
-    take_held();
-    for (const struct boddurci_place *at = held; at != NULL && !is_here; at = at->held)
-        is_here = at->process == process && at->holder == this_thread && has_for_long(at, lock) && fstat(at->opened[lock], &had) == 0 &&
-                  had.st_dev == wanted.st_dev && had.st_ino == wanted.st_ino;
-    give_held();
-    return is_here;
 }
 
 /* ---- the files of the locks */
@@ -189,7 +61,7 @@ static int is_named(const struct boddurci_place *place, enum boddurci_file lock)
 /* Returns whether .pag is missing or this process may write it. If not, the process makes no lock files. */
 static int may_write(const struct boddurci_place *place)
 {
-    int opened = openat(place->folder, place->names[BODDURCI_PAGES], O_RDWR | O_NONBLOCK | O_NOCTTY | O_CLOEXEC);
+    int opened = boddurci_open_at(place->folder, place->names[BODDURCI_PAGES], O_RDWR | O_NONBLOCK, 0);
     if (opened < 0)
         return errno == ENOENT;
     close(opened);
@@ -221,13 +93,6 @@ static uint32_t make_lock(struct boddurci_place *place, enum boddurci_file lock,
     return BODDURCI_DONE;
 }
 
-static void close_lock(struct boddurci_place *place, enum boddurci_file lock)
-{
-    if (place->opened[lock] >= 0)
-        close(place->opened[lock]);
-    place->opened[lock] = -1;
-}
-
 /* Notes the inode of a lock file that was opened. A lock that was opened while .pag was missing may have been accepted although other users may
  * write it. Its notes are not used then. */
 static void note_opened(struct boddurci_place *place, enum boddurci_file lock)
@@ -236,32 +101,95 @@ static void note_opened(struct boddurci_place *place, enum boddurci_file lock)
     struct stat found;
     int opened = place->opened[lock], is_private = boddurci_look_at(opened, &found) == 0 && (found.st_mode & (S_IWGRP | S_IWOTH)) == 0;
     place->inodes[lock] = boddurci_inode_of(opened);
-    if (lock == BODDURCI_LOCK)
-        place->has_safe_notes = is_private || boddurci_mode_of_pages(place, MISSING) != MISSING;
+    if (lock != BODDURCI_LOCK)
+        return;
+    place->has_safe_notes = is_private || boddurci_mode_of_pages(place, MISSING) != MISSING;
+    place->is_checked = 0;
 }
 
-/* Opens the file of a lock, for writing if this user is allowed to. If the file that is open has lost its name, opens the file that has the
- * name now. A writer makes a missing file. OPEN_HERE if this thread holds the lock. */
-static uint32_t open_lock(struct boddurci_place *place, enum boddurci_file lock, int reads, boddurci_fault *fault)
+/* Opens the file of a lock, for writing if this user is allowed to. A writer makes a missing file; for a reader the lock stays closed. */
+static uint32_t open_named(struct boddurci_place *place, enum boddurci_file lock, int reads, boddurci_fault *fault)
 {
+    enum { TRIES = 100 };
     uint32_t status = BODDURCI_DONE;
-    if (place->opened[lock] >= 0 && !is_named(place, lock))
-        close_lock(place, lock);
-    int is_opened = place->opened[lock] < 0;
-    for (int tries = 0; tries < 100 && status == BODDURCI_DONE && place->opened[lock] < 0; tries++) {
+    boddurci_hold_forks();
+    for (int tries = 0; tries < TRIES && status == BODDURCI_DONE && place->opened[lock] < 0; tries += reads ? TRIES : 1) {
         status = boddurci_open_beside(place, lock, O_RDWR, &place->opened[lock], fault);
-        if (reads && place->opened[lock] < 0)
-            return status;
-        if (status == BODDURCI_DONE && place->opened[lock] < 0)
+        if (!reads && status == BODDURCI_DONE && place->opened[lock] < 0)
             status = make_lock(place, lock, fault);
     }
-    if (status == BODDURCI_DONE && place->opened[lock] < 0)
-        return boddurci_fail(fault, BODDURCI_MOVED, 0, "BASE.lock or BASE.writer comes and goes");
-    if (is_opened && place->opened[lock] >= 0)
+    boddurci_give_forks();
+    if (place->opened[lock] >= 0)
         note_opened(place, lock);
-    if (status == BODDURCI_DONE && has_it_here(place, lock))
+    else if (!reads && status == BODDURCI_DONE)
+        return boddurci_fail(fault, BODDURCI_MOVED, 0, "BASE.lock or BASE.writer comes and goes");
+    return status;
+}
+
+/* Opens the file of a lock. If the file that is open has lost its name, opens the file that has the name now. OPEN_HERE if this thread holds
+ * the lock. */
+static uint32_t open_lock(struct boddurci_place *place, enum boddurci_file lock, int reads, boddurci_fault *fault)
+{
+    if (place->opened[lock] >= 0 && !is_named(place, lock))
+        boddurci_close_lock(place, lock);
+    uint32_t status = place->opened[lock] < 0 ? open_named(place, lock, reads, fault) : BODDURCI_DONE;
+    if (status == BODDURCI_DONE && place->opened[lock] >= 0 && boddurci_has_it_here(place, lock))
         return boddurci_fail(fault, BODDURCI_OPEN_HERE, 0, boddurci_files_text(BODDURCI_OPEN_HERE));
     return status;
+}
+
+/* ---- announcements */
+
+/* A change that waits for BASE.lock announces itself by a lock of another kind (F_OFD_SETLK) on the first byte of that file. A change that
+ * has waited for long, and a fetch that waits, lock the second byte. Without these announcements a call might wait forever: the system
+ * prefers readers, and processes that call again, to a process that waits. A new fetch lets a call that has locked the first byte go first,
+ * and a new change lets a call that has locked the second byte go first. A save of an open base locks the first byte of BASE.writer while it
+ * waits for BASE.lock, and new readers let it go first. The system releases these locks when the process ends. On a local file system they
+ * are independent of flock. On other file systems calls do not announce themselves, since flock may lock the same bytes. */
+enum { WAITS, STARVES, BYTES };
+
+#ifdef F_OFD_SETLK
+static int lock_bytes(int opened, int how, off_t first, off_t count)
+{
+    struct flock bytes = {.l_type = (short)how, .l_whence = SEEK_SET, .l_start = first, .l_len = count};
+    return fcntl(opened, F_OFD_SETLK, &bytes);
+}
+
+/* Returns whether another open file has a lock on a byte that excludes a lock of this kind. */
+static int is_locked(int opened, off_t byte, int how)
+{
+    struct flock bytes = {.l_type = (short)how, .l_whence = SEEK_SET, .l_start = byte, .l_len = 1};
+    return fcntl(opened, F_OFD_GETLK, &bytes) == 0 && bytes.l_type != F_UNLCK;
+}
+#else
+static int lock_bytes(int opened, int how, off_t first, off_t count)
+{
+    (void)opened, (void)how, (void)first, (void)count;
+    return -1;
+}
+
+static int is_locked(int opened, off_t byte, int how)
+{
+    (void)opened, (void)byte, (void)how;
+    return 0;
+}
+#endif
+
+static int announce(const struct boddurci_place *place, int how, off_t byte)
+{
+    return place->is_local ? lock_bytes(place->opened[BODDURCI_LOCK], how, byte, 1) : -1;
+}
+
+static void announce_none(const struct boddurci_place *place)
+{
+    if (place->is_local)
+        (void)!lock_bytes(place->opened[BODDURCI_LOCK], F_UNLCK, 0, BYTES);
+}
+
+static int is_announced(const struct boddurci_place *place, off_t byte)
+{
+    int lock = place->opened[BODDURCI_LOCK];
+    return place->is_local && lock >= 0 && is_locked(lock, byte, byte == WAITS ? F_RDLCK : F_WRLCK);
 }
 
 /* ---- taking the locks */
@@ -307,11 +235,11 @@ static uint32_t share_lock(struct boddurci_place *place, int64_t end, boddurci_f
         if (status == BODDURCI_DONE && wait_for(place->opened[BODDURCI_LOCK], LOCK_SH, end) != 0)
             status = not_taken(place, 1, fault);
         if (status != BODDURCI_DONE) {
-            close_lock(place, BODDURCI_LOCK);
+            boddurci_close_lock(place, BODDURCI_LOCK);
             return status;
         }
         if (is_named(place, BODDURCI_LOCK)) {
-            note_held(place);
+            boddurci_note_held(place);
             return BODDURCI_DONE;
         }
     }
@@ -328,37 +256,52 @@ static int is_busy(int lock)
     return errno == EWOULDBLOCK;
 }
 
+/* Opens BASE.writer for a reader that holds BASE.lock. Returns -1 if a lock is missing, or if BASE.writer is not accepted. Until
+ * close_writer no other thread forks: the handler of forks does not know this file. */
+static int open_writer(const struct boddurci_place *place)
+{
+    boddurci_fault unsaid;
+    int opened = -1;
+    boddurci_hold_forks();
+    if (place->opened[BODDURCI_LOCK] >= 0)
+        (void)!boddurci_open_beside(place, BODDURCI_WRITER, O_RDONLY, &opened, &unsaid);
+    return opened;
+}
+
+static void close_writer(int writer)
+{
+    if (writer >= 0)
+        close(writer);
+    boddurci_give_forks();
+}
+
 int boddurci_has_writer(const struct boddurci_place *place)
 {
-    boddurci_fault fault;
-    int opened;
-    if (place->opened[BODDURCI_LOCK] < 0)
-        return 0;
-    if (boddurci_open_beside(place, BODDURCI_WRITER, O_RDONLY, &opened, &fault) != BODDURCI_DONE || opened < 0)
-        return 0;
-    int has_writer = is_busy(opened);
-    close(opened);
+    int writer = open_writer(place), has_writer = writer >= 0 && is_busy(writer);
+    close_writer(writer);
     return has_writer;
 }
 
-/* Returns whether a save waits for the files: then its process holds BASE.writer shared. It also returns 1 while another reader checks
- * BASE.writer, which takes a short time. */
+/* Returns whether a save waits for the files. A save of this library has locked the first byte of BASE.writer then. A session of dbm only
+ * holds BASE.writer shared. In the latter case it also returns 1 while another reader checks BASE.writer, which takes a short time. */
 static int is_waited_for(const struct boddurci_place *place)
 {
-    if (place->opened[BODDURCI_LOCK] < 0 || boddurci_has_writer(place))
-        return 0;
-    return boddurci_holder_of(place, BODDURCI_WRITER) != 0;
+    int writer = open_writer(place), is_there = writer >= 0;
+    int waits = is_there && place->is_local && is_locked(writer, WAITS, F_WRLCK);
+    int has_writer = is_there && !waits && is_busy(writer);
+    close_writer(writer);
+    return waits || (is_there && !has_writer && boddurci_holder_of(place, BODDURCI_WRITER) != 0);
 }
 
 /* The system prefers readers to a waiting writer. So a reader that gets BASE.lock while a save waits releases the lock for a short time. A
- * reader does so a limited number of times, since the writer may be stopped. */
+ * reader does so for a limited time, since the writer may be stopped. */
 uint32_t boddurci_take_shared(struct boddurci_place *place, int64_t milliseconds, boddurci_fault *fault)
 {
-    enum { MOST = 40 };
     static const struct timespec moment = {0, 1000000};
     int64_t end = end_of(milliseconds);
     uint32_t status = share_lock(place, end, fault);
-    for (int times = 0; times < MOST && milliseconds != 0 && status == BODDURCI_DONE && is_waited_for(place); times++) {
+    int64_t last = last_of(end);
+    while (status == BODDURCI_DONE && boddurci_now() < last && is_waited_for(place)) {
         boddurci_give_locks(place, 1);
         nanosleep(&moment, NULL);
         status = share_lock(place, end, fault);
@@ -411,7 +354,7 @@ static enum outcome try_both(struct boddurci_place *place, int64_t end, int is_o
 static void note_both(struct boddurci_place *place)
 {
     flock(place->opened[BODDURCI_WRITER], LOCK_SH);
-    note_held(place);
+    boddurci_note_held(place);
 }
 
 /* Takes both locks of a writer. */
@@ -430,19 +373,21 @@ static uint32_t take_both(struct boddurci_place *place, int64_t milliseconds, bo
         note_both(place);
         return BODDURCI_DONE;
     }
-    close_lock(place, BODDURCI_LOCK);
-    close_lock(place, BODDURCI_WRITER);
+    boddurci_close_lock(place, BODDURCI_LOCK);
+    boddurci_close_lock(place, BODDURCI_WRITER);
     return fault->status;
 }
 
 /* ---- while a base is open */
 
 /* Tries for a short time to get a lock exclusively, without sleeping, and at first without yielding the processor: a reader of few pages
- * ends before a thread could be woken. On failure the place does not hold the lock, not even shared. */
+ * ends before a thread could be woken. On a busy machine each yield may take milliseconds. On failure the place does not hold the lock, not
+ * even shared. */
 static int take_soon(int lock)
 {
-    enum { TRIES = 1000, QUICK = 100 };
-    for (int i = 0; i < TRIES; i++) {
+    enum { TRIES = 1000, QUICK = 100, MOST = 5 };
+    int64_t last = boddurci_now() + MOST;
+    for (int i = 0; i < TRIES && (i <= QUICK || boddurci_now() < last); i++) {
         if (flock(lock, LOCK_EX | LOCK_NB) == 0)
             return 0;
         if (i >= QUICK)
@@ -458,8 +403,15 @@ int boddurci_take_files(struct boddurci_place *place)
         return 0;
     if (take_soon(files) == 0)
         return wait_through(writer, LOCK_SH);
-    /* Converts BASE.writer to shared first, which shows new readers that a save waits (is_waited_for). */
-    return wait_through(writer, LOCK_SH) != 0 || wait_through(files, LOCK_EX) != 0 ? -1 : 0;
+    /* Shows new readers that a save waits (is_waited_for). Readers of dbm see only that BASE.writer is shared. */
+    int is_shared = wait_through(writer, LOCK_SH) == 0;
+    if (place->is_local)
+        (void)!lock_bytes(writer, F_RDLCK, WAITS, 1);
+    int is_taken = is_shared && wait_through(files, LOCK_EX) == 0, system = errno;
+    if (place->is_local)
+        (void)!lock_bytes(writer, F_UNLCK, WAITS, 1);
+    errno = system;
+    return is_taken ? 0 : -1;
 }
 
 int boddurci_share_files(struct boddurci_place *place)
@@ -471,7 +423,7 @@ int boddurci_share_files(struct boddurci_place *place)
  * during its check, BASE.writer stays shared, and readers use the log until the next save. */
 void boddurci_give_files(struct boddurci_place *place)
 {
-    set_keeps_files(place, 0);
+    boddurci_set_keeps_files(place, 0);
     if (take_soon(place->opened[BODDURCI_WRITER]) != 0)
         (void)!wait_through(place->opened[BODDURCI_WRITER], LOCK_SH);
     flock(place->opened[BODDURCI_LOCK], LOCK_UN);
@@ -479,7 +431,7 @@ void boddurci_give_files(struct boddurci_place *place)
 
 void boddurci_keep_files(struct boddurci_place *place)
 {
-    set_keeps_files(place, 1);
+    boddurci_set_keeps_files(place, 1);
 }
 
 uint32_t boddurci_are_held(const struct boddurci_place *place, boddurci_fault *fault)
@@ -494,11 +446,11 @@ uint32_t boddurci_are_held(const struct boddurci_place *place, boddurci_fault *f
 /* BASE.writer is released first, so that a process that gets BASE.lock finds it free. */
 void boddurci_give_locks(struct boddurci_place *place, int is_own)
 {
-    forget_held(place);
+    boddurci_forget_held(place);
     for (enum boddurci_file lock = BODDURCI_WRITER; lock >= BODDURCI_LOCK; lock--) {
         if (is_own && place->opened[lock] >= 0)
             flock(place->opened[lock], LOCK_UN);
-        close_lock(place, lock);
+        boddurci_close_lock(place, lock);
     }
 }
 
@@ -515,29 +467,51 @@ void boddurci_settle_locks(struct boddurci_place *place)
 static uint32_t leads_there(const char *base, boddurci_fault *fault)
 {
     char *led;
-    uint32_t status = resolve(base, &led, fault);
+    uint32_t status = boddurci_resolve(base, &led, fault);
     if (status == BODDURCI_DONE && led != NULL)
         status = boddurci_fail(fault, BODDURCI_MOVED, 0, "BASE.pag and BASE.dir became links to another base");
     free(led);
     return status;
 }
 
+/* Finds the place of a name, without a lock. Sets *led as boddurci_resolve does. */
+static uint32_t find(struct boddurci_place *place, const char *name, char **led, boddurci_fault *fault)
+{
+    uint32_t status = boddurci_resolve(name, led, fault);
+    if (status == BODDURCI_DONE)
+        status = boddurci_place_of(place, *led != NULL ? *led : name, fault);
+    if (status != BODDURCI_DONE)
+        return status;
+    place->is_local = boddurci_is_local(place->folder);
+    boddurci_add_place(place);
+    return status;
+}
+
+static uint32_t take(struct boddurci_place *place, int reads, int64_t milliseconds, boddurci_fault *fault)
+{
+    return reads ? boddurci_take_shared(place, milliseconds, fault) : take_both(place, milliseconds, fault);
+}
+
 uint32_t boddurci_enter(struct boddurci_place *place, const char *name, int reads, int64_t milliseconds, boddurci_fault *fault)
 {
     char *led;
-    if (!is_name(name))
-        return boddurci_fail(fault, BODDURCI_BAD_NAME, 0, "the name is empty, . or .., or ends in one of these after a /");
-    uint32_t status = resolve(name, &led, fault);
-    const char *base = led != NULL ? led : name;
+    uint32_t status = find(place, name, &led, fault);
     if (status == BODDURCI_DONE)
-        status = boddurci_place_of(place, base, fault);
-    pthread_once(&held_once, guard_forks);
+        status = take(place, reads, milliseconds, fault);
     if (status == BODDURCI_DONE)
-        status = reads ? boddurci_take_shared(place, milliseconds, fault) : take_both(place, milliseconds, fault);
-    if (status == BODDURCI_DONE)
-        status = leads_there(base, fault);
+        status = leads_there(led != NULL ? led : name, fault);
     free(led);
     return status;
+}
+
+uint32_t boddurci_enter_like(struct boddurci_place *place, const struct boddurci_place *like, int reads, int64_t milliseconds,
+                             boddurci_fault *fault)
+{
+    uint32_t status = boddurci_place_like(place, like, fault);
+    if (status != BODDURCI_DONE)
+        return status;
+    boddurci_add_place(place);
+    return take(place, reads, milliseconds, fault);
 }
 
 /* ---- calls of a shared base */
@@ -545,70 +519,23 @@ uint32_t boddurci_enter(struct boddurci_place *place, const char *name, int read
 uint32_t boddurci_find(struct boddurci_place *place, const char *name, boddurci_fault *fault)
 {
     char *led;
-    if (!is_name(name))
-        return boddurci_fail(fault, BODDURCI_BAD_NAME, 0, "the name is empty, . or .., or ends in one of these after a /");
-    uint32_t status = resolve(name, &led, fault);
-    if (status == BODDURCI_DONE)
-        status = boddurci_place_of(place, led != NULL ? led : name, fault);
-    if (status == BODDURCI_DONE)
-        place->is_local = boddurci_is_local(place->folder);
-    pthread_once(&held_once, guard_forks);
+    uint32_t status = find(place, name, &led, fault);
     free(led);
     return status;
-}
-
-/* A change that waits for BASE.lock announces itself by a lock of another kind (F_OFD_SETLK) on the first byte of that file. A change that
- * has waited for long, and a fetch that waits, lock the second byte. Without these announcements a call might wait forever: the system
- * prefers readers, and processes that call again, to a process that waits. A new fetch lets a call that has locked the first byte go first,
- * and a new change lets a call that has locked the second byte go first. The system releases these locks when the process ends. On a local
- * file system they are independent of flock. On other file systems calls do not announce themselves, since flock may lock the same
- * bytes. */
-enum { WAITS, STARVES, BYTES };
-
-#ifdef F_OFD_SETLK
-static int lock_bytes(const struct boddurci_place *place, int how, off_t first, off_t count)
-{
-    struct flock bytes = {.l_type = (short)how, .l_whence = SEEK_SET, .l_start = first, .l_len = count};
-    if (!place->is_local)
-        return -1;
-    return fcntl(place->opened[BODDURCI_LOCK], F_OFD_SETLK, &bytes);
-}
-
-static int is_announced(const struct boddurci_place *place, off_t byte)
-{
-    struct flock bytes = {.l_type = (short)(byte == WAITS ? F_RDLCK : F_WRLCK), .l_whence = SEEK_SET, .l_start = byte, .l_len = 1};
-    int lock = place->opened[BODDURCI_LOCK];
-    return place->is_local && lock >= 0 && fcntl(lock, F_OFD_GETLK, &bytes) == 0 && bytes.l_type != F_UNLCK;
-}
-#else
-static int lock_bytes(const struct boddurci_place *place, int how, off_t first, off_t count)
-{
-    (void)place, (void)how, (void)first, (void)count;
-    return -1;
-}
-
-static int is_announced(const struct boddurci_place *place, off_t byte)
-{
-    (void)place, (void)byte;
-    return 0;
-}
-#endif
-
-static void announce_none(const struct boddurci_place *place)
-{
-    (void)!lock_bytes(place, F_UNLCK, 0, BYTES);
 }
 
 /* Waits while another call has announced itself, so that the other call goes first. The wait is limited, since the process of the other
  * call may be stopped. */
 static void let_go(struct boddurci_place *place, off_t byte, int64_t end)
 {
-    enum { MOST = 200 };
     static const struct timespec moment = {0, 200000};
-    for (int times = 0; times < MOST && is_announced(place, byte) && (end < 0 || now() < end); times++) {
+    if (!is_announced(place, byte))
+        return;
+    int64_t last = last_of(end);
+    do {
         place->has_waited = 1;
         nanosleep(&moment, NULL);
-    }
+    } while (boddurci_now() < last && is_announced(place, byte));
 }
 
 /* Returns whether the files of both locks are open. Once a call has locked these files, it checks that they still have their names. */
@@ -645,13 +572,13 @@ static enum outcome try_call(struct boddurci_place *place, int is_short, int *is
 static enum outcome queue(struct boddurci_place *place, int *tries, int *spins, boddurci_fault *fault)
 {
     enum { SPINS = 3, LONG = 20 };
-    int is_next = lock_bytes(place, F_WRLCK, WAITS, 1) == 0;
+    int is_next = announce(place, F_WRLCK, WAITS) == 0;
     if (is_next && *spins < SPINS) {
         ++*spins;
         if (take_soon(place->opened[BODDURCI_LOCK]) == 0)
             return lock_writer(place, fault);
     }
-    if (*tries >= LONG && lock_bytes(place, F_WRLCK, STARVES, 1) == 0)
+    if (*tries >= LONG && announce(place, F_WRLCK, STARVES) == 0)
         *tries = LONG;
     return IS_BUSY;
 }
@@ -664,11 +591,11 @@ static uint32_t take_to_change(struct boddurci_place *place, int64_t end, boddur
     int tries = 0, spins = 0, shorts = 0, is_queued = 1;
     enum outcome outcome = TRY_AGAIN;
     while (outcome == TRY_AGAIN || outcome == IS_BUSY) {
-        int is_short = is_queued && shorts < SHORT && (end < 0 || now() < end);
+        int is_short = is_queued && shorts < SHORT && (end < 0 || boddurci_now() < end);
         shorts = is_short ? shorts + 1 : 0;
         outcome = try_call(place, is_short, &is_queued, fault);
         place->has_waited = place->has_waited || outcome == IS_BUSY;
-        if (outcome == IS_BUSY && is_queued && (end < 0 || now() < end))
+        if (outcome == IS_BUSY && is_queued && (end < 0 || boddurci_now() < end))
             outcome = queue(place, &tries, &spins, fault);
         if (outcome != IS_BUSY || rest(&tries, end) == 0 || errno == EINTR)
             continue;
@@ -692,7 +619,7 @@ static int share_open(struct boddurci_place *place)
     if (lock < 0 || flock(lock, LOCK_SH | LOCK_NB) != 0)
         return 0;
     if (is_named(place, BODDURCI_LOCK)) {
-        note_held(place);
+        boddurci_note_held(place);
         return 1;
     }
     flock(lock, LOCK_UN);
@@ -711,7 +638,7 @@ uint32_t boddurci_take_call(struct boddurci_place *place, int reads, int64_t mil
     if (share_open(place))
         return BODDURCI_DONE;
     if (place->opened[BODDURCI_LOCK] >= 0)
-        (void)!lock_bytes(place, F_RDLCK, STARVES, 1);
+        (void)!announce(place, F_RDLCK, STARVES);
     while (status == BODDURCI_INTERRUPTED)
         status = share_lock(place, end, fault);
     if (place->opened[BODDURCI_LOCK] >= 0)
@@ -737,7 +664,7 @@ int boddurci_try_change(struct boddurci_place *place)
 void boddurci_give_call(struct boddurci_place *place, int reads)
 {
     place->all.are_same = 0;
-    forget_held(place);
+    boddurci_forget_held(place);
     if (!reads)
         flock(place->opened[BODDURCI_WRITER], LOCK_UN);
     if (place->opened[BODDURCI_LOCK] >= 0)
@@ -747,7 +674,7 @@ void boddurci_give_call(struct boddurci_place *place, int reads)
 void boddurci_drop_locks(struct boddurci_place *place)
 {
     for (enum boddurci_file lock = BODDURCI_WRITER; lock >= BODDURCI_LOCK; lock--)
-        close_lock(place, lock);
+        boddurci_close_lock(place, lock);
 }
 
 int boddurci_notes_of(const struct boddurci_place *place)
@@ -758,8 +685,7 @@ int boddurci_notes_of(const struct boddurci_place *place)
 int boddurci_open_notes(struct boddurci_place *place)
 {
     boddurci_fault unsaid;
-    int *opened = &place->opened[BODDURCI_LOCK];
-    if (*opened < 0 && boddurci_open_beside(place, BODDURCI_LOCK, O_RDWR, opened, &unsaid) == BODDURCI_DONE && *opened >= 0)
-        note_opened(place, BODDURCI_LOCK);
+    if (place->opened[BODDURCI_LOCK] < 0)
+        (void)!open_named(place, BODDURCI_LOCK, 1, &unsaid);
     return boddurci_notes_of(place);
 }

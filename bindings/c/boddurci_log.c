@@ -4,7 +4,6 @@
 #include "boddurci_saves.h"
 #include <errno.h>
 #include <fcntl.h>
-#include <pthread.h>
 #include <stdlib.h>
 #include <string.h>
 #include <sys/stat.h>
@@ -14,9 +13,9 @@
  * MOST_UNUSED is removed, since opening a base for writing reads the redo file. */
 static const size_t ROOM = 1 << 20, LEAST_ROOM = 1 << 16, MOST_UNUSED = 1 << 24;
 
-/* If saves fill a log within SOON nanoseconds, a log with GROWN_ROOM replaces it, since emptying a log takes a sync of both data files. */
+/* If saves fill a log within SOON milliseconds, a log with GROWN_ROOM replaces it, since emptying a log takes a sync of both data files. */
 static const size_t GROWN_ROOM = 1 << 22;
-static const int64_t SOON = 1000000000;
+static const int64_t SOON = 1000;
 
 static uint32_t cannot_be_written(const struct boddurci_disk *disk, boddurci_fault *fault)
 {
@@ -180,13 +179,6 @@ void boddurci_logged_of(struct boddurci_logged *logged, struct boddurci_place *p
     logged->epoch = 0;
 }
 
-static int64_t now(void)
-{
-    struct timespec time;
-    clock_gettime(CLOCK_MONOTONIC, &time);
-    return (int64_t)time.tv_sec * 1000000000 + time.tv_nsec;
-}
-
 /* Abandons the log after a failed call: the next opening recovers the base. Clears the epoch of the notes of shared bases, so that their next
  * call recovers the log too: if a sync has failed, a later one may succeed without writing the lost bytes. Removes the redo file if it has
  * no mark: it is useless then, and its bytes on the disk may differ from those in the page cache. */
@@ -217,37 +209,43 @@ static uint32_t remove_denied(struct boddurci_disk *disk, boddurci_fault *fault)
     return boddurci_disk_remove_redo(disk) == 0 ? boddurci_no_fault(fault) : cannot_be_written(disk, fault);
 }
 
-/* Opens the redo file for writing, if it exists. If this user owns it or is root, gives it the owner, the group and the permissions of
- * .pag. */
+/* Opens the redo file for writing, if it exists. */
 static uint32_t open_redo(struct boddurci_disk *disk, boddurci_fault *fault)
 {
-    struct stat found;
     int *opened = &disk->files[BODDURCI_REDO];
     disk->last = BODDURCI_REDO;
     boddurci_disk_drop(disk, BODDURCI_REDO);
     uint32_t status = boddurci_open_beside(disk->place, BODDURCI_REDO, O_RDWR, opened, fault);
-    if (status != BODDURCI_DONE)
-        return remove_denied(disk, fault);
-    if (*opened < 0)
-        return status;
-    int is_own = fstat(*opened, &found) == 0 && (found.st_uid == geteuid() || geteuid() == 0);
-    if (is_own && !boddurci_is_like_pages(disk->place, *opened) && boddurci_be_like_pages(disk->place, BODDURCI_REDO, *opened) != 0)
-        return cannot_be_written(disk, fault);
-    return status;
+    return status == BODDURCI_DONE ? status : remove_denied(disk, fault);
 }
 
-/* Removes an open redo file without a mark if it is too long, or if an earlier call on it failed. */
+/* Returns whether to replace the open redo file: it lacks the owner, the group or the permissions of .pag, and this user owns it or is root.
+ * It must not get them, unless this process has made it: another user may have moved a private file of root to this name. */
+static int is_to_be_replaced(const struct boddurci_disk *disk)
+{
+    struct stat found;
+    int opened = disk->files[BODDURCI_REDO];
+    if (disk->has_made_redo || boddurci_is_like_pages(disk->place, opened) || boddurci_look_at(opened, &found) != 0)
+        return 0;
+    return found.st_uid == geteuid() || geteuid() == 0;
+}
+
+/* Removes an open redo file without a mark if it is to be replaced, if it is too long, or if an earlier call on it failed. */
 static uint32_t remove_useless(struct boddurci_logged *logged, boddurci_fault *fault)
 {
     struct boddurci_disk *disk = &logged->disk;
     uint64_t length;
     if (boddurci_disk_length(disk, BODDURCI_REDO, &length) != 0)
         return cannot_be_written(disk, fault);
-    if (!logged->is_doubtful && length <= MOST_UNUSED)
+    int must = logged->is_doubtful || length > MOST_UNUSED;
+    if (!must && !is_to_be_replaced(disk))
         return BODDURCI_DONE;
-    if (boddurci_disk_remove_redo(disk) != 0)
+    if (boddurci_disk_remove_redo(disk) == 0)
+        logged->is_doubtful = 0;
+    else if (must || (errno != EACCES && errno != EPERM && errno != EROFS))
         return cannot_be_written(disk, fault);
-    logged->is_doubtful = 0;
+    else /* A file in a folder that this user may not write is used as it is. */
+        return boddurci_open_beside(disk->place, BODDURCI_REDO, O_RDWR, &disk->files[BODDURCI_REDO], fault);
     return BODDURCI_DONE;
 }
 
@@ -301,7 +299,7 @@ static uint32_t do_open(struct boddurci_logged *logged, struct boddurci_bytes re
     if (is_written && boddurci_do_steps(disk, steps->at, steps->count, steps->bytes) == 0 && share(logged) == 0) {
         logged->is_open = 1;
         logged->is_given_up = 0;
-        logged->emptied = now();
+        logged->emptied = boddurci_now();
         return BODDURCI_DONE;
     }
     give_up(logged);
@@ -332,6 +330,8 @@ static int is_full(const boddurci_fault *fault)
     return system == ENOSPC || system == EDQUOT || system == EFBIG;
 }
 
+/* Opens the log. If it is then in a file that is to be replaced, all saves in that file are in the data files, so it is opened again in a new
+ * file. */
 static uint32_t open_log(struct boddurci_logged *logged, boddurci_fault *fault)
 {
     if (boddurci_take_files(logged->disk.place) != 0)
@@ -341,6 +341,10 @@ static uint32_t open_log(struct boddurci_logged *logged, boddurci_fault *fault)
     for (int i = logged->is_grown ? 0 : 1; i < 3; i++) {
         boddurci_no_fault(fault);
         status = try_open(logged, rooms[i], fault);
+        if (status == BODDURCI_DONE && logged->disk.files[BODDURCI_REDO] >= 0 && is_to_be_replaced(&logged->disk)) {
+            logged->is_open = 0;
+            status = try_open(logged, rooms[i], fault);
+        }
         if (status == BODDURCI_DONE || !is_full(fault))
             break;
     }
@@ -400,13 +404,13 @@ static int only_append(const struct boddurci_steps *steps)
 }
 
 /* Returns whether to replace the log by a longer one before a save, that is, whether the save would empty the log less than SOON
- * nanoseconds after it was last empty. A save that is long or shortens a file empties any log, so more room would not help. */
+ * milliseconds after it was last empty. A save that is long or shortens a file empties any log, so more room would not help. */
 static int has_to_grow(const struct boddurci_logged *logged, const struct boddurci_steps *steps)
 {
     enum { FEW = 4 };
     uint64_t before[2], after[2];
     int may_grow = !logged->is_grown && logged->next.room < GROWN_ROOM && steps->length <= logged->next.room / FEW;
-    if (!may_grow || only_append(steps) || now() - logged->emptied >= SOON)
+    if (!may_grow || only_append(steps) || boddurci_now() - logged->emptied >= SOON)
         return 0;
     boddurci_lengths_of(steps->bytes, 0, before);
     boddurci_lengths_of(steps->bytes, 1, after);
@@ -489,7 +493,7 @@ uint32_t boddurci_logged_save(struct boddurci_logged *logged, struct boddurci_by
     if (status == BODDURCI_DONE)
         logged->next = next;
     if (empties)
-        logged->emptied = now();
+        logged->emptied = boddurci_now();
     free_steps(&steps);
     return status;
 }
@@ -734,8 +738,6 @@ void boddurci_logged_end(struct boddurci_logged *logged)
 {
     struct boddurci_disk *disk = &logged->disk;
     boddurci_fault lost;
-    int could_be_cancelled;
-    pthread_setcancelstate(PTHREAD_CANCEL_DISABLE, &could_be_cancelled);
     logged->is_open = logged->is_open && boddurci_are_held(disk->place, &lost) == BODDURCI_DONE;
     boddurci_hold_signal(disk);
     if (logged->is_open && logged->next.end != 0 && close_log(logged) != 0)
@@ -745,7 +747,6 @@ void boddurci_logged_end(struct boddurci_logged *logged)
     logged->is_open = 0;
     boddurci_give_signal(disk);
     boddurci_disk_close(disk);
-    pthread_setcancelstate(could_be_cancelled, NULL);
 }
 
 /* ---- reading */

@@ -13,10 +13,30 @@
 
 /* With O_PATH, permission to search the folder is enough. */
 #ifdef O_PATH
-enum { OPEN_FOLDER = O_PATH | O_DIRECTORY | O_CLOEXEC };
+enum { OPEN_FOLDER = O_PATH | O_DIRECTORY };
 #else
-enum { OPEN_FOLDER = O_RDONLY | O_DIRECTORY | O_CLOEXEC };
+enum { OPEN_FOLDER = O_RDONLY | O_DIRECTORY };
 #endif
+
+/* Returns a copy of a descriptor above those of the standard streams. */
+static int copy_above(int opened)
+{
+    enum { FIRST = 3 };
+    return fcntl(opened, F_DUPFD_CLOEXEC, FIRST);
+}
+
+/* If standard streams of the process are closed, the system gives their descriptors to the next files. A line on standard error would then
+ * be written into such a file. */
+int boddurci_open_at(int folder, const char *name, int how, mode_t mode)
+{
+    int opened = openat(folder, name, how | O_NOCTTY | O_CLOEXEC, mode);
+    if (opened < 0 || opened > STDERR_FILENO)
+        return opened;
+    int above = copy_above(opened), system = errno;
+    close(opened);
+    errno = system;
+    return above;
+}
 
 static char *joined(const char *name, const char *ending)
 {
@@ -31,12 +51,12 @@ static int open_folder(const char *base)
 {
     const char *end = strrchr(base, '/');
     if (end == NULL)
-        return open(".", OPEN_FOLDER);
+        return boddurci_open_at(AT_FDCWD, ".", OPEN_FOLDER, 0);
     char *folder = strdup(base);
     if (folder == NULL)
         return -1;
     folder[end == base ? 1 : end - base] = 0;
-    int opened = open(folder, OPEN_FOLDER), system = errno;
+    int opened = boddurci_open_at(AT_FDCWD, folder, OPEN_FOLDER, 0), system = errno;
     free(folder);
     errno = system;
     return opened;
@@ -64,14 +84,25 @@ uint32_t boddurci_place_of(struct boddurci_place *place, const char *base, boddu
     return place->folder >= 0 ? BODDURCI_DONE : boddurci_fail_by_system(fault, "the folder of the base cannot be opened");
 }
 
+uint32_t boddurci_place_like(struct boddurci_place *place, const struct boddurci_place *like, boddurci_fault *fault)
+{
+    boddurci_no_place(place);
+    for (enum boddurci_file file = BODDURCI_PAGES; file < BODDURCI_FILES; file++) {
+        place->names[file] = strdup(like->names[file]);
+        if (place->names[file] == NULL)
+            return boddurci_no_memory(fault);
+    }
+    place->is_local = like->is_local;
+    place->folder = copy_above(like->folder);
+    return place->folder >= 0 ? BODDURCI_DONE : boddurci_fail_by_system(fault, "the folder of the base cannot be opened");
+}
+
 void boddurci_place_close(struct boddurci_place *place)
 {
     boddurci_see_none(place);
-    for (enum boddurci_file file = BODDURCI_PAGES; file < BODDURCI_FILES; file++) {
+    boddurci_forget_place(place);
+    for (enum boddurci_file file = BODDURCI_PAGES; file < BODDURCI_FILES; file++)
         free(place->names[file]);
-        if (place->opened[file] >= 0)
-            close(place->opened[file]);
-    }
     if (place->folder >= 0)
         close(place->folder);
 }
@@ -82,6 +113,64 @@ static int leave(int opened, int system)
     close(opened);
     errno = system;
     return -1;
+}
+
+/* ---- names */
+
+/* Returns whether the last part of a path can be the name of a base. A path such as users/ cannot: its files would be users/.dir and
+ * users/.pag. */
+static int is_name(const char *name)
+{
+    const char *end = strrchr(name, '/'), *last = end != NULL ? end + 1 : name;
+    return strcmp(last, "") != 0 && strcmp(last, ".") != 0 && strcmp(last, "..") != 0;
+}
+
+/* If the name of a file is a symbolic link to a file of another base with this ending, sets *lead to the name of that base. Otherwise sets
+ * *lead to NULL. The caller frees *lead. */
+static int lead_of(const char *base, const char *ending, char **lead)
+{
+    struct stat found;
+    size_t length = strlen(base), end = strlen(ending);
+    char *name = malloc(length + end + 1);
+    *lead = NULL;
+    if (name == NULL)
+        return -1;
+    int is_link = lstat(strcat(strcpy(name, base), ending), &found) == 0 && S_ISLNK(found.st_mode);
+    char *real = is_link ? realpath(name, NULL) : NULL;
+    int system = errno;
+    free(name);
+    errno = system;
+    if (real == NULL)
+        return is_link ? -1 : 0;
+    length = strlen(real);
+    if (length < end || strcmp(real + length - end, ending) != 0) {
+        free(real);
+        return 0;
+    }
+    real[length - end] = 0;
+    *lead = real;
+    return 0;
+}
+
+uint32_t boddurci_resolve(const char *name, char **led, boddurci_fault *fault)
+{
+    char *pages = NULL, *directory = NULL;
+    *led = NULL;
+    if (!is_name(name))
+        return boddurci_fail(fault, BODDURCI_BAD_NAME, 0, "the name is empty, . or .., or ends in one of these after a /");
+    if (lead_of(name, ".pag", &pages) != 0 || lead_of(name, ".dir", &directory) != 0) {
+        uint32_t status = boddurci_fail_by_system(fault, "a link cannot be followed");
+        free(pages);
+        return status;
+    }
+    int are_same = pages != NULL && directory != NULL ? strcmp(pages, directory) == 0 : pages == directory;
+    free(directory);
+    if (are_same) {
+        *led = pages;
+        return BODDURCI_DONE;
+    }
+    free(pages);
+    return boddurci_fail(fault, BODDURCI_FILE_FAILED, 0, "BASE.pag and BASE.dir are links to two bases");
 }
 
 /* ---- the data files */
@@ -114,7 +203,7 @@ int boddurci_see(struct boddurci_place *place, enum boddurci_file file, int open
         return -1;
     }
     if (!seen->is_there) {
-        seen->opened = fcntl(opened, F_DUPFD_CLOEXEC, 3);
+        seen->opened = copy_above(opened);
         if (seen->opened < 0)
             return -1;
     }
@@ -126,7 +215,7 @@ int boddurci_see(struct boddurci_place *place, enum boddurci_file file, int open
 
 int boddurci_open_data(struct boddurci_place *place, enum boddurci_file file, int how)
 {
-    int opened = openat(place->folder, place->names[file], how | O_NONBLOCK | O_NOCTTY | O_CLOEXEC);
+    int opened = boddurci_open_at(place->folder, place->names[file], how | O_NONBLOCK, 0);
     if (opened < 0) {
         errno = errno == ENOENT && place->seen[file].is_there ? ESTALE : errno;
         return -1;
@@ -213,9 +302,9 @@ static uint32_t cannot_be_opened(enum boddurci_file file, boddurci_fault *fault)
 /* Opens the file. A lock is opened for reading if it cannot be opened as requested. */
 static int open_found(const struct boddurci_place *place, enum boddurci_file file, int how)
 {
-    int more = O_NOFOLLOW | O_NONBLOCK | O_NOCTTY | O_CLOEXEC, opened = openat(place->folder, place->names[file], how | more);
+    int more = O_NOFOLLOW | O_NONBLOCK, opened = boddurci_open_at(place->folder, place->names[file], how | more, 0);
     if (opened < 0 && is_lock(file) && errno != ENOENT)
-        opened = openat(place->folder, place->names[file], O_RDONLY | more);
+        opened = boddurci_open_at(place->folder, place->names[file], O_RDONLY | more, 0);
     return opened;
 }
 
@@ -242,7 +331,7 @@ uint32_t boddurci_open_beside(const struct boddurci_place *place, enum boddurci_
 
 int boddurci_make(const struct boddurci_place *place, enum boddurci_file file, mode_t mode)
 {
-    return openat(place->folder, place->names[file], O_RDWR | O_CREAT | O_EXCL | O_NOFOLLOW | O_CLOEXEC, mode);
+    return boddurci_open_at(place->folder, place->names[file], O_RDWR | O_CREAT | O_EXCL | O_NOFOLLOW, mode);
 }
 
 mode_t boddurci_mode_of_pages(const struct boddurci_place *place, mode_t otherwise)
@@ -352,7 +441,7 @@ int boddurci_keep_opened(int opened)
 
 int boddurci_keep_folder(const struct boddurci_place *place)
 {
-    int opened = openat(place->folder, ".", O_RDONLY | O_DIRECTORY | O_CLOEXEC);
+    int opened = boddurci_open_at(place->folder, ".", O_RDONLY | O_DIRECTORY, 0);
     if (opened < 0)
         return -1;
     int status = sync_wholly(opened, fsync), system = errno;

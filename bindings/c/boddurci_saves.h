@@ -6,6 +6,7 @@
 #ifndef BODDURCI_SAVES_H
 #define BODDURCI_SAVES_H
 #include "boddurci_files.h"
+#include "boddurci_logs.h"
 #include <pthread.h>
 #include <signal.h>
 #include <stddef.h>
@@ -24,6 +25,22 @@ struct boddurci_bytes {
     size_t length;
     size_t room;
 };
+
+/* ---- cancellation */
+
+/* Every call that opens or makes files, or takes locks, is between these two: a thread that was cancelled within would leave the files open,
+ * and the locks taken until its process ends. `boddurci_hold_cancel` returns the state that `boddurci_give_cancel` restores. */
+static inline int boddurci_hold_cancel(void)
+{
+    int was;
+    pthread_setcancelstate(PTHREAD_CANCEL_DISABLE, &was);
+    return was;
+}
+
+static inline void boddurci_give_cancel(int was)
+{
+    pthread_setcancelstate(was, NULL);
+}
 
 /* ---- boddurci_texts.c: the texts of faults */
 
@@ -113,20 +130,30 @@ struct boddurci_place {
     int opened[BODDURCI_FILES];   /* the open file of a lock, or -1 */
     struct boddurci_inode inodes[BODDURCI_FILES]; /* of the open lock files */
     int has_safe_notes;           /* only users who may write .pag may write the open BASE.lock */
+    int is_checked;               /* of a shared base: the notes in the open BASE.lock are right as long as the data files stay open */
     int is_early[BODDURCI_FILES]; /* this process made the lock file while .pag was missing */
     int keeps_files;              /* BASE.lock stays locked between the calls of the base */
-    int is_local;                 /* of a shared base: the folder is on a local file system */
+    int is_local;                 /* the folder is on a local file system */
     struct boddurci_names all;    /* of a shared base */
     int has_waited;               /* the last change of a shared base had to wait for a lock, or for another call */
-    struct boddurci_place *held;  /* the next place in the list of places whose locks this process holds */
-    unsigned long holder;         /* the thread that took the locks, by its number in this_thread */
+    struct boddurci_place *next;  /* in the list of all places with locks */
+    unsigned long holder;         /* the thread that took the locks, by its number in this_thread; 0 if the place holds none */
     pid_t process;                /* the process of that thread */
 };
 
-/* `boddurci_no_place` makes an empty place, `boddurci_place_of` sets the place of a base, and `boddurci_place_close` closes it. Close a
- * place even if `boddurci_place_of` has failed. */
+/* Opens a file as openat does, with O_CLOEXEC and O_NOCTTY. The descriptor is never one of the standard streams. The library opens all its
+ * files by this call. */
+int boddurci_open_at(int folder, const char *name, int how, mode_t mode);
+
+/* If both data files are symbolic links to those of another base, sets *led to the name of that base, so that all processes use the same
+ * locks. Otherwise sets *led to NULL. The caller frees *led. BAD_NAME. */
+uint32_t boddurci_resolve(const char *name, char **led, boddurci_fault *fault);
+
+/* `boddurci_no_place` makes an empty place, `boddurci_place_of` sets the place of a base, and `boddurci_place_like` sets it to the folder and
+ * the names of another place. `boddurci_place_close` closes it, except for its lock files. Close a place even if one of these two has failed. */
 void boddurci_no_place(struct boddurci_place *place);
 uint32_t boddurci_place_of(struct boddurci_place *place, const char *base, boddurci_fault *fault);
+uint32_t boddurci_place_like(struct boddurci_place *place, const struct boddurci_place *like, boddurci_fault *fault);
 void boddurci_place_close(struct boddurci_place *place);
 
 /* Opens a data file. Fails with ESTALE if the seen file has lost its name, or if the name leads to another file. */
@@ -149,7 +176,8 @@ uint32_t boddurci_open_beside(const struct boddurci_place *place, enum boddurci_
 /* Creates a file. Fails if the file exists. */
 int boddurci_make(const struct boddurci_place *place, enum boddurci_file file, mode_t mode);
 
-/* Gives an open file the owner, the group and the permissions of .pag, as far as the system allows. Does nothing if .pag is missing. */
+/* Gives an open file, which this process must have made, the owner, the group and the permissions of .pag, as far as the system allows. Does
+ * nothing if .pag is missing. */
 int boddurci_be_like_pages(const struct boddurci_place *place, enum boddurci_file file, int opened);
 
 /* Returns whether an open file has the owner, the group and the permissions of .pag. */
@@ -197,8 +225,13 @@ int boddurci_keep_opened(int opened);
 
 /* Sets the place of the base with this name and takes its locks. A writer takes both locks. A reader takes only BASE.lock, or no lock if
  * BASE.lock is missing. If `milliseconds` is negative, waits without a limit; if it is 0, tries once. Close the place even if the call
- * fails. */
+ * fails. `boddurci_enter_like` does the same with the folder and the names of another place. */
 uint32_t boddurci_enter(struct boddurci_place *place, const char *name, int reads, int64_t milliseconds, boddurci_fault *fault);
+uint32_t boddurci_enter_like(struct boddurci_place *place, const struct boddurci_place *like, int reads, int64_t milliseconds,
+                             boddurci_fault *fault);
+
+/* Returns the present time in milliseconds. It is not that of the day, which may be set. */
+int64_t boddurci_now(void);
 
 /* Takes BASE.lock, if the file exists by now, for a reader that holds no lock. OPEN_HERE if this thread already holds BASE.lock, since it
  * would wait for itself. */
@@ -249,69 +282,6 @@ long boddurci_holder_of(const struct boddurci_place *place, enum boddurci_file l
 /* Sets the fault LOCKED. Its text names the process that holds the lock, if the system reports it. */
 uint32_t boddurci_fail_locked(const struct boddurci_place *place, int reads, boddurci_fault *fault);
 
-/* ---- crates/boddurci_logs: the steps of a log, which are proved. docs/DESIGN.md has their guarantees. */
-
-/* The place of the next record in a log: the end of the records and the room for records, both counted from the end of the header, and the
- * number of changes in the plans of all records. */
-typedef struct {
-    size_t end, room, count;
-} boddurci_log;
-
-enum { BODDURCI_WRITE, BODDURCI_ZEROS, BODDURCI_RESIZE, BODDURCI_SYNC };
-
-/* A step: one call on a file, as five words. There are four kinds of steps: write `length` bytes, which begin at index `from` of a buffer,
- * at offset `at` of the file; write `length` zeros at `at`; set the length of the file (new bytes are zeros); sync the bytes, the length
- * and the name of the file. */
-typedef struct {
-    uint64_t kind, file /* 0 .pag, 1 .dir, 2 .redo */, at, from, length;
-} boddurci_step;
-
-/* Returns the steps that open the log of these files with room for at least `room` bytes, and the place of the first record. If the redo
- * file has its mark, the steps recover the data files first; otherwise the call does not need the bytes of the data files. SHORT_ROOM if a
- * buffer is too short: the call then sets only the lengths. BAD_FILES if the redo file has no plan of these files. STALE if a record in the
- * middle of its log is damaged. FILE_TOO_LONG if the room is over 2^30. NO_MEMORY. */
-uint32_t boddurci_log_open(const uint8_t *pages, size_t pages_length, const uint8_t *directory, size_t directory_length, const uint8_t *redo,
-                           size_t redo_length, size_t room, boddurci_log *log, uint8_t *bytes, size_t bytes_room, size_t *bytes_length,
-                           uint64_t *words, size_t words_room, size_t *words_length);
-
-/* Returns the steps that apply the plans in the redo file to copies of the data files. If the redo file has no plan, there are no steps.
- * The statuses are those of `boddurci_log_open` except FILE_TOO_LONG. */
-uint32_t boddurci_log_read(const uint8_t *pages, size_t pages_length, const uint8_t *directory, size_t directory_length, const uint8_t *redo,
-                           size_t redo_length, uint8_t *bytes, size_t bytes_room, size_t *bytes_length, uint64_t *words, size_t words_room,
-                           size_t *words_length);
-
-/* Returns the steps of a save, the number of words of the steps that commit the save, and the place of the next record. The plan starts at
- * bytes[BODDURCI_PLAN_AT]; the call writes the bytes before the plan. SHORT_ROOM, BAD_FILES if the bytes have no valid plan, FILE_TOO_LONG,
- * NO_MEMORY. */
-enum { BODDURCI_PLAN_AT = 18 };
-uint32_t boddurci_log_save(boddurci_log *log, uint8_t *bytes, size_t length, uint64_t *words, size_t words_room, size_t *words_length,
-                           size_t *committed);
-
-/* Returns the steps that close a log. These steps write no bytes of a buffer. SHORT_ROOM, NO_MEMORY. */
-uint32_t boddurci_log_close(uint64_t *words, size_t words_room, size_t *words_length);
-
-/* Returns the step that appends the record of a save to a shared log without a sync, and sets *log to the log after it. The plan starts at
- * byte BODDURCI_PLAN_AT of `bytes`. STALE if the log has no records or no room, or if the plan makes a file shorter: save the plan then.
- * Otherwise the statuses of boddurci_log_save. */
-uint32_t boddurci_log_append(boddurci_log *log, uint8_t *bytes, size_t length, uint64_t *words, size_t words_room, size_t *words_length);
-
-/* Returns the steps that make a log shared. They write a byte 1, which is byte 0 of their buffer. SHORT_ROOM, NO_MEMORY. */
-uint32_t boddurci_log_share(uint64_t *words, size_t words_room, size_t *words_length);
-
-/* Returns the steps that apply a plan to both data files. The plan starts at byte BODDURCI_PLAN_AT of `bytes`. The statuses of
- * boddurci_log_save. */
-uint32_t boddurci_log_apply(const uint8_t *bytes, size_t length, uint64_t *words, size_t words_room, size_t *words_length);
-
-/* Joins the plan of the first record in `records` to the plan in the first *plan_length bytes of `plan`. If *plan_length is 0, copies the
- * plan of the record. Sets *plan_length, and *used to the length of the record. SHORT_ROOM, with *plan_length unchanged, if the result does
- * not fit. BAD_FILES if the bytes do not begin with a complete record, or if the plans cannot be joined. */
-uint32_t boddurci_log_join(uint8_t *plan, size_t plan_room, size_t *plan_length, const uint8_t *records, size_t records_length, size_t *used);
-
-/* Applies the changes of a plan to a part of a data file (0 .pag, 1 .dir) that begins at offset `from`. Sets *touched to 1 if a change
- * covers a byte of the part, and to 0 otherwise. BAD_FILES if the bytes are not a plan. FILE_TOO_LONG if the part ends past 2^32. */
-uint32_t boddurci_log_lay(const uint8_t *plan, size_t plan_length, uint32_t file, size_t from, uint8_t *part, size_t part_length,
-                          uint32_t *touched);
-
 /* ---- boddurci_disk.c: the three files, open for writing */
 
 /* The data files and the redo file. A data file is opened, or made if it is missing, at its first sync or write, and then stays open. A
@@ -319,13 +289,14 @@ uint32_t boddurci_log_lay(const uint8_t *plan, size_t plan_length, uint32_t file
 struct boddurci_disk {
     struct boddurci_place *place;
     int files[3];            /* -1 if closed */
-    int is_folder_synced;    /* no file was made or removed since the last sync of the folder */
+    int is_folder_synced;    /* no file was made, removed or closed since the last sync of the folder */
     enum boddurci_file last; /* the file of the last call */
     sigset_t mask;           /* the thread's earlier signal mask */
     int is_signal_held;      /* the mask was changed */
     int was_signalled;       /* the signal was pending before the mask was changed */
     int is_too_long;         /* a call failed with EFBIG after the mask was changed, and may have raised the signal */
     int has_reserved;        /* a save has allocated blocks of a data file, which may change its times */
+    int has_made_redo;       /* this process made the open redo file */
     int keeps_room;          /* blocks past the ends of the data files belong to saves that are committed and not applied yet */
     uint64_t most;           /* the process's limit on the length of a file (RLIMIT_FSIZE), at the last boddurci_hold_signal */
     struct boddurci_inode redo; /* of the open redo file, once boddurci_disk_redo has read it */
@@ -430,7 +401,7 @@ struct boddurci_logged {
     struct boddurci_group *group; /* the threads that share saves, or NULL */
     boddurci_log next;            /* the place of the next record; valid if is_open */
     uint64_t epoch;               /* of the notes of a shared base, while they are valid; otherwise 0 */
-    int64_t emptied;              /* when the log was last empty, in nanoseconds */
+    int64_t emptied;              /* when the log was last empty, in milliseconds */
     int is_open;
     int is_grown;                 /* the log has more room than usual, or an attempt to get more failed */
     int is_sharing;               /* several records may be unflushed, which the header of a log says before it gets a record */
@@ -570,6 +541,24 @@ void boddurci_note_saved(struct boddurci_notes *notes, const struct boddurci_dis
 pid_t boddurci_note_process(void);
 pid_t boddurci_this_process(void);
 
+/* `boddurci_add_place` adds a place to the list of all places with locks, and `boddurci_forget_place` removes it, if it is there. In a child the
+ * lock files of all listed places are closed. */
+void boddurci_add_place(struct boddurci_place *place);
+void boddurci_forget_place(struct boddurci_place *place);
+
+/* Forks wait while a thread is between the first two calls. Open a lock file only there, and close it by the third call. */
+void boddurci_hold_forks(void);
+void boddurci_give_forks(void);
+void boddurci_close_lock(struct boddurci_place *place, enum boddurci_file lock);
+
+/* `boddurci_note_held` records that this thread has taken the locks of a place, and `boddurci_forget_held` that it releases them.
+ * `boddurci_set_keeps_files` sets whether the place keeps BASE.lock. `boddurci_has_it_here` returns whether this thread already holds the lock
+ * in an open file, and so would wait for itself. A child does not hold the locks of its parent. */
+void boddurci_note_held(struct boddurci_place *place);
+void boddurci_forget_held(struct boddurci_place *place);
+void boddurci_set_keeps_files(struct boddurci_place *place, int keeps);
+int boddurci_has_it_here(const struct boddurci_place *place, enum boddurci_file lock);
+
 /* ---- boddurci_group.c: threads that save a base at the same time */
 
 struct boddurci_call;
@@ -634,6 +623,9 @@ struct boddurci_base {
     struct boddurci_group saves; /* the turn to save; a call that needs both waits for its turn before it locks the mutex */
 };
 
+/* Like boddurci_open_files_within, but opens the base at the place of another one, even if the path of its folder has changed. */
+boddurci_base *boddurci_open_like(const struct boddurci_place *place, uint32_t flags, int64_t milliseconds, boddurci_fault *fault);
+
 /* Returns whether the base was opened by a parent of this process, and not by the process itself. */
 int boddurci_is_of_another(const boddurci_base *base);
 
@@ -666,6 +658,7 @@ struct boddurci_log_note {
     uint64_t epoch;   /* differs for each log that was empty meanwhile */
     uint64_t flushed; /* the records before this end are flushed */
     int has_failed;   /* a flush has failed, so the log must be recovered */
+    int is_compared;  /* the data files were compared with the applied records, since no handle had the base open */
     int is_shared;    /* several records may be unflushed, as the header says */
     uint64_t states[8];
 };
@@ -694,12 +687,18 @@ struct boddurci_note boddurci_state_of(int folder, const char *name, int how, in
  * a length differs or a time is later; or OTHERS for other files. A time of 0 was not read. */
 enum boddurci_change boddurci_change_since(const struct boddurci_log_note *note, const struct boddurci_note files[2]);
 
+/* Returns whether a program has written a data file after the time in a note. The times must have been read. */
+int boddurci_is_written_since(const struct boddurci_log_note *note, const struct boddurci_note files[2]);
+
+/* Returns whether the data files have the lengths in a note. */
+int boddurci_have_lengths(const struct boddurci_log_note *note, const struct boddurci_note files[2]);
+
 /* Sets the noted times of both data files, and the latest time, to those in a note. */
 void boddurci_take_times(const struct boddurci_log_note *note, struct boddurci_notes *notes);
 
 /* Returns whether a note says that all records of an open redo file are applied to the data files under the names. If so, sets the place of
  * the next record. */
-int boddurci_is_applied(const struct boddurci_place *place, int redo, boddurci_log *log);
+int boddurci_is_applied(struct boddurci_place *place, int redo, boddurci_log *log);
 
 /* Returns an epoch that no other log has: the time. */
 uint64_t boddurci_new_epoch(void);
@@ -723,6 +722,20 @@ int boddurci_is_log_shared(int redo);
  * of bytes to write back: only the mark if the file has no such epoch. */
 enum { BODDURCI_HEADER_USED = 176 };
 int boddurci_unmarked_header(int redo, uint8_t header[BODDURCI_HEADER_USED], size_t *length);
+
+/* ---- boddurci_shared_check.c: whether the notes are right, although their file system may have lost bytes that were not synced */
+
+/* Returns whether a note is right: the place is checked, or a handle of a shared base has the files open, or the data files have the applied
+ * records. `boddurci_checked_note` is `boddurci_read_note` for a shared base, and also returns UNKNOWN if the note is not right. The caller
+ * holds a lock on BASE.lock. */
+int boddurci_are_notes_right(struct boddurci_place *place, int redo, struct boddurci_log_note *note);
+enum boddurci_noted boddurci_checked_note(struct boddurci_place *place, int redo, const struct boddurci_boot *boot,
+                                          struct boddurci_log_note *note);
+
+/* `boddurci_hold_notes` records that the place is checked, and locks a byte of BASE.lock, so that other processes need not check it. Call it
+ * when the log is found right, has been recovered, or has no mark. `boddurci_drop_notes` unlocks the byte: the data files are closed. */
+void boddurci_hold_notes(struct boddurci_place *place);
+void boddurci_drop_notes(struct boddurci_place *place);
 
 /* ---- crates/boddurci_c: the database of one page, which is proved */
 

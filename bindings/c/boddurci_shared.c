@@ -4,7 +4,6 @@
 #include <errno.h>
 #include <fcntl.h>
 #include <pthread.h>
-#include <stdio.h>
 #include <stdlib.h>
 #include <string.h>
 #include <time.h>
@@ -16,17 +15,10 @@ enum { PATIENCE = 5000, PLAN_ROOM = BODDURCI_TAIL_MOST + 8192 };
 
 /* ---- time */
 
-static int64_t milliseconds(void)
-{
-    struct timespec time;
-    clock_gettime(CLOCK_MONOTONIC, &time);
-    return (int64_t)time.tv_sec * 1000 + time.tv_nsec / 1000000;
-}
-
 /* Returns the time at which a wait ends, or -1 if the wait has no limit. */
 static int64_t end_of_wait(const boddurci_shared *shared)
 {
-    int64_t wait = __atomic_load_n(&shared->wait, __ATOMIC_RELAXED), start = milliseconds();
+    int64_t wait = __atomic_load_n(&shared->wait, __ATOMIC_RELAXED), start = boddurci_now();
     return wait < 0 ? -1 : wait < INT64_MAX - start ? start + wait : INT64_MAX;
 }
 
@@ -34,12 +26,12 @@ static int64_t left_of(int64_t end)
 {
     if (end < 0)
         return -1;
-    int64_t left = end - milliseconds();
+    int64_t left = end - boddurci_now();
     return left > 0 ? left : 0;
 }
 
-/* ---- forks. A child must close the lock files that it inherits. Otherwise it would hold the locks of a call of its parent even after the
- * parent was killed. */
+/* ---- forks. A child must close the redo file that it inherits, which serves as a lock during a flush. Otherwise it would hold the lock of a
+ * call of its parent even after the parent was killed. boddurci_owner.c closes the files of the other locks. */
 
 static boddurci_shared *all;
 static pthread_mutex_t all_mutex = PTHREAD_MUTEX_INITIALIZER;
@@ -63,30 +55,36 @@ static void forget_unnamed(const struct boddurci_place *place, enum boddurci_fil
         *opened = -1;
 }
 
-/* Closes the lock files and the redo file in a child. The redo file serves as a lock during a flush. */
-static void leave_files(boddurci_shared *shared, int is_idle)
+/* Closes the redo file in a child. */
+static void leave_redo(boddurci_shared *shared, int is_idle)
 {
-    struct boddurci_place *place = &shared->place;
-    for (enum boddurci_file lock = BODDURCI_LOCK; !is_idle && lock <= BODDURCI_WRITER; lock++)
-        forget_unnamed(place, lock, &place->opened[lock]);
     if (!is_idle) {
-        forget_unnamed(place, BODDURCI_REDO, &shared->logged.disk.files[BODDURCI_REDO]);
-        forget_unnamed(place, BODDURCI_REDO, &shared->files[BODDURCI_REDO]);
+        forget_unnamed(&shared->place, BODDURCI_REDO, &shared->logged.disk.files[BODDURCI_REDO]);
+        forget_unnamed(&shared->place, BODDURCI_REDO, &shared->files[BODDURCI_REDO]);
     }
-    boddurci_drop_locks(place);
     boddurci_drop_redo(shared);
 }
 
-/* Closes the locks in a child. The next call opens these files again. If another thread of the parent was in a call, the child cannot
- * use the base. If that call was on the whole database, the child keeps the lock files that call_whole had opened, since the base of
- * call_whole is not in the list `all`. */
-static void leave_locks(void)
+/* Makes the condition variable for the turn of a call. A child makes it again, since it may have waiters in its parent. */
+static int make_turn(boddurci_shared *shared)
+{
+    pthread_condattr_t how;
+    if (pthread_condattr_init(&how) != 0)
+        return -1;
+    int is_made = pthread_condattr_setclock(&how, CLOCK_MONOTONIC) == 0 && pthread_cond_init(&shared->turn, &how) == 0;
+    pthread_condattr_destroy(&how);
+    return is_made ? 0 : -1;
+}
+
+/* Prepares all shared bases for their use in a child. The next call opens the closed files again. If another thread of the parent was in a
+ * call, the child cannot use the base. */
+static void leave_calls(void)
 {
     for (boddurci_shared *shared = all; shared != NULL; shared = shared->next) {
-        int is_idle = pthread_mutex_trylock(&shared->mutex) == 0;
+        int is_locked = pthread_mutex_trylock(&shared->mutex) == 0, is_idle = is_locked && !shared->is_busy && make_turn(shared) == 0;
         __atomic_store_n(&shared->process, is_idle && shared->process != 0 ? boddurci_note_process() : 0, __ATOMIC_RELAXED);
-        leave_files(shared, is_idle);
-        if (is_idle)
+        leave_redo(shared, is_idle);
+        if (is_locked)
             pthread_mutex_unlock(&shared->mutex);
     }
     pthread_mutex_unlock(&all_mutex);
@@ -94,7 +92,7 @@ static void leave_locks(void)
 
 static void guard_forks(void)
 {
-    pthread_atfork(take_all, give_all, leave_locks);
+    pthread_atfork(take_all, give_all, leave_calls);
 }
 
 static void add(boddurci_shared *shared)
@@ -141,8 +139,11 @@ static boddurci_shared *new_shared(uint32_t flags)
     shared->plan_room = PLAN_ROOM;
     shared->plan = malloc(BODDURCI_PLAN_AT + PLAN_ROOM);
     shared->directory = malloc(BODDURCI_SHORT_DIRECTORY);
-    if (shared->plan != NULL && shared->directory != NULL && pthread_mutex_init(&shared->mutex, NULL) == 0)
-        return shared;
+    if (shared->plan != NULL && shared->directory != NULL && make_turn(shared) == 0) {
+        if (pthread_mutex_init(&shared->mutex, NULL) == 0)
+            return shared;
+        pthread_cond_destroy(&shared->turn);
+    }
     free(shared->plan);
     free(shared->directory);
     free(shared);
@@ -159,17 +160,23 @@ static uint32_t open_handle(boddurci_shared *shared, boddurci_fault *fault)
     return status == BODDURCI_DONE ? status : boddurci_fail(fault, status, 0, boddurci_text(status));
 }
 
-/* Checks whether the files of a base with wide pages look like small pages: opens the whole database as a reader, and closes it. */
-static uint32_t look_at_size(const boddurci_shared *shared, const char *name, boddurci_fault *fault)
+/* Opens the whole database. A wait for its locks continues after a signal. */
+static boddurci_base *open_whole(const boddurci_shared *shared, uint32_t flags, int64_t end, boddurci_fault *fault)
 {
     boddurci_base *base;
+    do
+        base = boddurci_open_like(&shared->place, flags, left_of(end), fault);
+    while (base == NULL && fault->status == BODDURCI_INTERRUPTED);
+    return base;
+}
+
+/* Checks whether the files of a base with wide pages look like small pages: opens the whole database as a reader, and closes it. */
+static uint32_t look_at_size(const boddurci_shared *shared, boddurci_fault *fault)
+{
     if (!(shared->flags & BODDURCI_WIDE) || (shared->flags & BODDURCI_ANY_SIZE))
         return BODDURCI_DONE;
-    int64_t end = end_of_wait(shared);
     uint32_t flags = (shared->flags & (PAGE_FLAGS | BODDURCI_NO_WAIT)) | BODDURCI_READ_ONLY;
-    do
-        base = boddurci_open_files_within(name, flags, left_of(end), fault);
-    while (base == NULL && fault->status == BODDURCI_INTERRUPTED);
+    boddurci_base *base = open_whole(shared, flags, end_of_wait(shared), fault);
     boddurci_close_files(base);
     return base != NULL ? BODDURCI_DONE : fault->status;
 }
@@ -207,46 +214,42 @@ static uint32_t open_place(boddurci_shared *shared, const char *name, boddurci_f
     if (status == BODDURCI_DONE && (shared->flags & BODDURCI_MUST_EXIST))
         status = look_for_pages(shared, fault);
     if (status == BODDURCI_DONE)
-        status = look_at_size(shared, name, fault);
+        status = look_at_size(shared, fault);
     if (status == BODDURCI_DONE)
         status = open_handle(shared, fault);
-    if (status != BODDURCI_DONE)
-        return status;
-    shared->name = strdup(name);
-    if (shared->name == NULL)
-        return boddurci_no_memory(fault);
-    boddurci_read_ahead(shared);
+    if (status == BODDURCI_DONE)
+        boddurci_read_ahead(shared);
     return status;
 }
 
 boddurci_shared *boddurci_open_shared(const char *name, uint32_t flags, boddurci_fault *fault)
 {
     boddurci_fault unsaid;
+    int could_be_cancelled = boddurci_hold_cancel();
     boddurci_shared *shared = new_shared(flags);
     fault = fault != NULL ? fault : &unsaid;
     boddurci_no_fault(fault);
-    if (shared == NULL) {
+    if (shared == NULL)
         boddurci_no_memory(fault);
-        return NULL;
+    else {
+        add(shared);
+        if (open_place(shared, name != NULL ? name : "", fault) != BODDURCI_DONE) {
+            boddurci_close_shared(shared);
+            shared = NULL;
+        }
     }
-    add(shared);
-    if (open_place(shared, name != NULL ? name : "", fault) == BODDURCI_DONE)
-        return shared;
-    boddurci_close_shared(shared);
-    return NULL;
+    boddurci_give_cancel(could_be_cancelled);
+    return shared;
 }
 
 /* Applies the tail of the log if it is flushed. Flushes it first if a call of this handle has left a record in it. */
 static void finish_tail(boddurci_shared *shared)
 {
     boddurci_fault unsaid;
-    int could_be_cancelled;
-    pthread_setcancelstate(PTHREAD_CANCEL_DISABLE, &could_be_cancelled);
     if (shared->tail.is_later)
         (void)!boddurci_flush_all(shared, &unsaid);
     else
         boddurci_try_to_apply(shared);
-    pthread_setcancelstate(could_be_cancelled, NULL);
 }
 
 /* In a child that was forked during a call of another thread, does not free the memory of the database. */
@@ -254,7 +257,7 @@ void boddurci_close_shared(boddurci_shared *shared)
 {
     if (shared == NULL)
         return;
-    int is_own = !is_of_another(shared);
+    int is_own = !is_of_another(shared), could_be_cancelled = boddurci_hold_cancel();
     if (is_own)
         finish_tail(shared);
     forget(shared);
@@ -264,6 +267,7 @@ void boddurci_close_shared(boddurci_shared *shared)
     if (is_own) {
         boddurci_close(&shared->db);
         pthread_mutex_destroy(&shared->mutex);
+        pthread_cond_destroy(&shared->turn);
     }
     for (size_t i = 0; i < shared->program_count; i++)
         free(shared->programs[i].bytes);
@@ -272,8 +276,8 @@ void boddurci_close_shared(boddurci_shared *shared)
     free(shared->plan);
     free(shared->tail.bytes);
     free(shared->ahead);
-    free(shared->name);
     free(shared);
+    boddurci_give_cancel(could_be_cancelled);
 }
 
 uint32_t boddurci_shared_wait(boddurci_shared *shared, int64_t milliseconds)
@@ -284,22 +288,31 @@ uint32_t boddurci_shared_wait(boddurci_shared *shared, int64_t milliseconds)
     return BODDURCI_DONE;
 }
 
-/* ---- the mutex */
+/* ---- the turn of a call */
 
-static int lock_until(pthread_mutex_t *mutex, int64_t end)
+/* Waits for the turn until `end`. A condition variable can wait by a clock that nobody sets, unlike a mutex. */
+static int take_turn(boddurci_shared *shared, int64_t end)
 {
-    struct timespec time;
-    int64_t left = left_of(end);
-    if (left <= 0)
-        return left < 0 ? pthread_mutex_lock(mutex) : pthread_mutex_trylock(mutex);
-    clock_gettime(CLOCK_REALTIME, &time);
-    int64_t nanoseconds = time.tv_nsec + left % 1000 * 1000000;
-    time.tv_sec += (time_t)(left / 1000 < INT32_MAX ? left / 1000 : INT32_MAX) + (time_t)(nanoseconds / 1000000000);
-    time.tv_nsec = (long)(nanoseconds % 1000000000);
-    return pthread_mutex_timedlock(mutex, &time);
+    int status = 0;
+    const struct timespec time = {(time_t)(end / 1000 < INT32_MAX ? end / 1000 : INT32_MAX), (long)(end % 1000 * 1000000)};
+    pthread_mutex_lock(&shared->mutex);
+    while (shared->is_busy && status == 0)
+        status = end < 0 ? pthread_cond_wait(&shared->turn, &shared->mutex) : pthread_cond_timedwait(&shared->turn, &shared->mutex, &time);
+    status = shared->is_busy ? -1 : 0;
+    shared->is_busy = 1;
+    pthread_mutex_unlock(&shared->mutex);
+    return status;
 }
 
-/* Locks the mutex for a call. */
+static void give_turn(boddurci_shared *shared)
+{
+    pthread_mutex_lock(&shared->mutex);
+    shared->is_busy = 0;
+    pthread_cond_signal(&shared->turn);
+    pthread_mutex_unlock(&shared->mutex);
+}
+
+/* Takes the turn for a call. */
 static uint32_t begin(boddurci_shared *shared, int64_t end, boddurci_fault *fault)
 {
     boddurci_no_fault(fault);
@@ -307,31 +320,12 @@ static uint32_t begin(boddurci_shared *shared, int64_t end, boddurci_fault *faul
         return boddurci_fail(fault, BODDURCI_IS_CLOSED, 0, boddurci_text(BODDURCI_IS_CLOSED));
     if (is_of_another(shared))
         return boddurci_fail(fault, BODDURCI_FORKED, 0, boddurci_files_text(BODDURCI_FORKED));
-    if (lock_until(&shared->mutex, end) != 0)
+    if (take_turn(shared, end) != 0)
         return boddurci_fail(fault, BODDURCI_LOCKED, 0, "another thread of this process uses the shared base");
     return BODDURCI_DONE;
 }
 
 /* ---- the whole database */
-
-/* Returns a name of the base that leads to the open folder, even if the folder was renamed. Returns the caller's name if /proc is
- * missing. */
-static char *whole_name(const boddurci_shared *shared)
-{
-    const char *pages = shared->place.names[BODDURCI_PAGES];
-    int length = (int)strlen(pages) - 4;
-    size_t room = (size_t)length + 40;
-    char *name = malloc(room);
-    if (name == NULL)
-        return NULL;
-    snprintf(name, room, "/proc/self/fd/%d", shared->place.folder);
-    if (access(name, F_OK) != 0) {
-        free(name);
-        return strdup(shared->name);
-    }
-    snprintf(name, room, "/proc/self/fd/%d/%.*s", shared->place.folder, length, pages);
-    return name;
-}
 
 /* Submits all programs of the shared base to a newly opened database. The programs get the same numbers there. */
 static uint32_t submit_all(const boddurci_shared *shared, boddurci *db)
@@ -365,15 +359,8 @@ static uint32_t answer_whole(const boddurci_shared *shared, boddurci_base *base,
 /* Opens the whole database for a call and closes it again. The call is still one atomic step, since the open base keeps its locks. */
 static uint32_t call_whole(const boddurci_shared *shared, struct boddurci_command *command, int64_t end, boddurci_fault *fault)
 {
-    boddurci_base *base;
     uint32_t flags = (shared->flags & PAGE_FLAGS) | (command->kind == BODDURCI_FETCH ? BODDURCI_READ_ONLY : 0);
-    char *name = whole_name(shared);
-    if (name == NULL)
-        return boddurci_no_memory(fault);
-    do
-        base = boddurci_open_files_within(name, flags, left_of(end), fault);
-    while (base == NULL && fault->status == BODDURCI_INTERRUPTED);
-    free(name);
+    boddurci_base *base = open_whole(shared, flags, end, fault);
     if (base == NULL)
         return fault->status;
     boddurci_no_fault(fault);
@@ -482,19 +469,18 @@ static uint32_t fetch(boddurci_shared *shared, struct boddurci_command *command,
     return status == BODDURCI_DONE && it.is_whole ? call_whole(shared, command, end, fault) : flushed(shared, status, fault);
 }
 
-/* Makes a call as one atomic step. It waits for the mutex and the locks until `end`. */
+/* Makes a call as one atomic step. It waits for its turn and the locks until `end`. */
 static uint32_t call_until(boddurci_shared *shared, struct boddurci_command *command, int64_t end, boddurci_fault *fault)
 {
     boddurci_fault unsaid;
-    int could_be_cancelled;
+    int could_be_cancelled = boddurci_hold_cancel();
     fault = fault != NULL ? fault : &unsaid;
-    pthread_setcancelstate(PTHREAD_CANCEL_DISABLE, &could_be_cancelled);
     uint32_t status = begin(shared, end, fault);
     if (status == BODDURCI_DONE) {
         status = command->kind == BODDURCI_FETCH ? fetch(shared, command, end, fault) : change(shared, command, end, fault);
-        pthread_mutex_unlock(&shared->mutex);
+        give_turn(shared);
     }
-    pthread_setcancelstate(could_be_cancelled, NULL);
+    boddurci_give_cancel(could_be_cancelled);
     return status;
 }
 
@@ -506,15 +492,14 @@ static uint32_t call(boddurci_shared *shared, struct boddurci_command *command, 
 uint32_t boddurci_shared_flush(boddurci_shared *shared, boddurci_fault *fault)
 {
     boddurci_fault unsaid;
-    int could_be_cancelled;
+    int could_be_cancelled = boddurci_hold_cancel();
     fault = fault != NULL ? fault : &unsaid;
-    pthread_setcancelstate(PTHREAD_CANCEL_DISABLE, &could_be_cancelled);
     uint32_t status = begin(shared, shared != NULL ? end_of_wait(shared) : 0, fault);
     if (status == BODDURCI_DONE) {
         status = boddurci_flush_all(shared, fault);
-        pthread_mutex_unlock(&shared->mutex);
+        give_turn(shared);
     }
-    pthread_setcancelstate(could_be_cancelled, NULL);
+    boddurci_give_cancel(could_be_cancelled);
     return status;
 }
 
@@ -608,11 +593,12 @@ uint32_t boddurci_shared_submit(boddurci_shared *shared, const uint8_t *image, s
                                 uint8_t *text, size_t text_room, size_t *text_length)
 {
     boddurci_fault unsaid;
-    int could_be_cancelled;
+    int could_be_cancelled = boddurci_hold_cancel();
     uint32_t status = begin(shared, -1, &unsaid);
-    if (status != BODDURCI_DONE)
+    if (status != BODDURCI_DONE) {
+        boddurci_give_cancel(could_be_cancelled);
         return status;
-    pthread_setcancelstate(PTHREAD_CANCEL_DISABLE, &could_be_cancelled);
+    }
     size_t kept = image_length <= BODDURCI_IMAGE_MOST ? image_length : 0;
     uint8_t *copy = copy_program(shared, image, kept);
     status = BODDURCI_NO_MEMORY;
@@ -624,19 +610,20 @@ uint32_t boddurci_shared_submit(boddurci_shared *shared, const uint8_t *image, s
         keep_program(shared, *number, copy, kept, 0);
     else
         free(copy);
-    pthread_mutex_unlock(&shared->mutex);
-    pthread_setcancelstate(could_be_cancelled, NULL);
+    give_turn(shared);
+    boddurci_give_cancel(could_be_cancelled);
     return status;
 }
 
-/* Submits a stock program. Waits for the mutex until `end`. */
+/* Submits a stock program. Waits for the turn until `end`. */
 static uint32_t stock_until(boddurci_shared *shared, const char *name, int64_t end, uint32_t *number, boddurci_fault *fault)
 {
-    int could_be_cancelled;
+    int could_be_cancelled = boddurci_hold_cancel();
     uint32_t status = begin(shared, end, fault);
-    if (status != BODDURCI_DONE)
+    if (status != BODDURCI_DONE) {
+        boddurci_give_cancel(could_be_cancelled);
         return status;
-    pthread_setcancelstate(PTHREAD_CANCEL_DISABLE, &could_be_cancelled);
+    }
     size_t length = strlen(name);
     uint8_t *copy = copy_program(shared, (const uint8_t *)name, length);
     status = copy != NULL ? boddurci_submit_stock(&shared->db, (const uint8_t *)name, length, number) : BODDURCI_NO_MEMORY;
@@ -644,8 +631,8 @@ static uint32_t stock_until(boddurci_shared *shared, const char *name, int64_t e
         keep_program(shared, *number, copy, length, 1);
     else
         free(copy);
-    pthread_mutex_unlock(&shared->mutex);
-    pthread_setcancelstate(could_be_cancelled, NULL);
+    give_turn(shared);
+    boddurci_give_cancel(could_be_cancelled);
     return status == BODDURCI_DONE ? status : boddurci_fail(fault, status, 0, boddurci_text(status));
 }
 

@@ -72,7 +72,6 @@ struct boddurci_tail {
 /* A shared base. Between two calls its files stay open, and it holds no lock. */
 struct boddurci_shared {
     boddurci db;                   /* the database of one page during a call, meaningless between calls; and the programs */
-    char *name;                    /* as the caller gave it */
     struct boddurci_place place;
     struct boddurci_logged logged; /* its files stay open */
     struct boddurci_notes notes;   /* the data files as this call found or left them */
@@ -85,7 +84,9 @@ struct boddurci_shared {
     uint32_t flags;
     int64_t wait;                  /* milliseconds; atomic */
     pid_t process;                 /* the process that may use the base; 0 if it was forked during a call of another thread */
-    pthread_mutex_t mutex;         /* protects all fields except `wait` and `process` during a call */
+    int is_busy;                   /* a call has the turn, which protects all other fields except `wait` and `process` */
+    pthread_mutex_t mutex;         /* protects `is_busy` */
+    pthread_cond_t turn;           /* signalled when a call ends */
     struct boddurci_program *programs;
     size_t program_count;
     uint8_t *directory;            /* a buffer for .dir, of BODDURCI_SHORT_DIRECTORY bytes */

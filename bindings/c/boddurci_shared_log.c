@@ -124,7 +124,7 @@ static void put_state(uint64_t words[4], const struct boddurci_note *state)
 void boddurci_boot_of_system(struct boddurci_boot *boot)
 {
     char text[36];
-    int digits = 0, file = open("/proc/sys/kernel/random/boot_id", O_RDONLY | O_CLOEXEC);
+    int digits = 0, file = boddurci_open_at(AT_FDCWD, "/proc/sys/kernel/random/boot_id", O_RDONLY, 0);
     memset(boot, 0, sizeof *boot);
     if (file < 0)
         return;
@@ -246,6 +246,19 @@ enum boddurci_change boddurci_change_since(const struct boddurci_log_note *note,
     return change;
 }
 
+int boddurci_is_written_since(const struct boddurci_log_note *note, const struct boddurci_note files[2])
+{
+    for (enum boddurci_file file = BODDURCI_PAGES; file <= BODDURCI_DIRECTORY; file++)
+        if (files[file].is_there && nanoseconds(files[file].written) > note->states[4 * file + 3])
+            return 1;
+    return 0;
+}
+
+int boddurci_have_lengths(const struct boddurci_log_note *note, const struct boddurci_note files[2])
+{
+    return (uint64_t)files[BODDURCI_PAGES].length == note->states[2] && (uint64_t)files[BODDURCI_DIRECTORY].length == note->states[6];
+}
+
 void boddurci_take_times(const struct boddurci_log_note *note, struct boddurci_notes *notes)
 {
     enum { SECOND = 1000000000 };
@@ -259,13 +272,15 @@ void boddurci_take_times(const struct boddurci_log_note *note, struct boddurci_n
     notes->latest = (struct timespec){(time_t)(latest / SECOND), (long)(latest % SECOND)};
 }
 
-int boddurci_is_applied(const struct boddurci_place *place, int redo, boddurci_log *log)
+int boddurci_is_applied(struct boddurci_place *place, int redo, boddurci_log *log)
 {
     struct boddurci_boot boot;
     struct boddurci_log_note note;
     struct boddurci_note files[2];
     boddurci_boot_of_system(&boot);
     if (find_note(redo, boddurci_notes_of(place), &boot, &note) != BODDURCI_NOTED || note.applied != note.log.end)
+        return 0;
+    if (!boddurci_are_notes_right(place, redo, &note))
         return 0;
     for (enum boddurci_file file = BODDURCI_PAGES; file <= BODDURCI_DIRECTORY; file++)
         files[file] = boddurci_state_of(place->folder, place->names[file], 0, 0);

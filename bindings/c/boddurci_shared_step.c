@@ -28,6 +28,7 @@ static void drop_data(boddurci_shared *shared)
         boddurci_disk_drop(&shared->logged.disk, file);
     }
     boddurci_see_none(&shared->place);
+    boddurci_drop_notes(&shared->place);
 }
 
 void boddurci_drop_files(boddurci_shared *shared)
@@ -180,8 +181,16 @@ static uint32_t continue_log(boddurci_shared *shared, int redo, const struct bod
     return status;
 }
 
+/* Returns whether a long log was compared with the data files. Such a log is closed, since many short processes would compare it again and
+ * again. */
+static int is_long(const struct boddurci_log_note *note, const struct boddurci_tail *tail)
+{
+    enum { LONG = 16384 };
+    return note->is_compared && note->applied > LONG && !boddurci_has_tail(tail);
+}
+
 /* Ensures that the data files have all saves: the log has no mark, or all its records are applied or in its tail. If a program that does not
- * know the log has written the data files since the last save, the data files are the database, and the log is closed. */
+ * know the log has written the data files since the last save, the data files are the database, and the log is closed. So is a long log. */
 static uint32_t settle_log(boddurci_shared *shared, boddurci_fault *fault)
 {
     int redo;
@@ -192,7 +201,7 @@ static uint32_t settle_log(boddurci_shared *shared, boddurci_fault *fault)
     logged->is_open = logged->is_given_up = 0;
     boddurci_no_tail(&shared->tail);
     if (boddurci_open_redo(shared, 1, &redo, &second) == BODDURCI_DONE)
-        noted = redo < 0 ? BODDURCI_UNMARKED : boddurci_read_note(redo, boddurci_notes_of(&shared->place), &shared->boot, &note);
+        noted = redo < 0 ? BODDURCI_UNMARKED : boddurci_checked_note(&shared->place, redo, &shared->boot, &note);
     if (noted == BODDURCI_UNMARKED)
         return shared->notes.is_quick ? find_files(shared, 1, fault) : BODDURCI_DONE;
     enum boddurci_change change = noted == BODDURCI_NOTED ? boddurci_change_since(&note, shared->notes.files) : BODDURCI_OTHERS;
@@ -201,7 +210,7 @@ static uint32_t settle_log(boddurci_shared *shared, boddurci_fault *fault)
         boddurci_no_tail(&shared->tail);
         return recover(shared, fault);
     }
-    if (status != BODDURCI_DONE || change == BODDURCI_SAME)
+    if (status != BODDURCI_DONE || (change == BODDURCI_SAME && !is_long(&note, &shared->tail)))
         return status;
     status = boddurci_logged_renew(logged, fault);
     return status == BODDURCI_DONE && shared->notes.is_quick ? find_files(shared, 1, fault) : status;
@@ -224,13 +233,12 @@ static uint32_t look_at_log(boddurci_shared *shared, int *must_recover, boddurci
 {
     int redo;
     struct boddurci_log_note note;
-    const struct boddurci_place *place = &shared->place;
     uint32_t status = boddurci_open_redo(shared, 0, &redo, fault);
     boddurci_no_tail(&shared->tail);
     if (status != BODDURCI_DONE || redo < 0)
         return status;
-    enum boddurci_noted noted = boddurci_read_note(redo, boddurci_notes_of(place), &shared->boot, &note);
-    *must_recover = noted == BODDURCI_UNKNOWN && !boddurci_has_writer(place);
+    enum boddurci_noted noted = boddurci_checked_note(&shared->place, redo, &shared->boot, &note);
+    *must_recover = noted == BODDURCI_UNKNOWN && !boddurci_has_writer(&shared->place);
     if (noted == BODDURCI_NOTED)
         status = boddurci_read_tail(shared, redo, &note, fault);
     if (noted == BODDURCI_NOTED && status == BODDURCI_DONE && are_others(shared, &note))
@@ -304,6 +312,8 @@ uint32_t boddurci_change_page(boddurci_shared *shared, struct boddurci_command *
     uint32_t status = find_files(shared, needs_times(shared), fault);
     if (status == BODDURCI_DONE)
         status = settle_log(shared, fault);
+    if (status == BODDURCI_DONE)
+        boddurci_hold_notes(&shared->place);
     if (status == BODDURCI_DONE && !shared->place.all.are_same)
         boddurci_note_all_names(&shared->place, shared->notes.files);
     if (status == BODDURCI_DONE)
@@ -377,8 +387,7 @@ static void apply_flushed(boddurci_shared *shared)
         return;
     if (boddurci_open_redo(shared, 1, &redo, &unsaid) != BODDURCI_DONE || redo < 0)
         return;
-    int lock = boddurci_notes_of(&shared->place);
-    if (boddurci_read_note(redo, lock, &shared->boot, &note) != BODDURCI_NOTED || !is_flushed_tail(&note))
+    if (boddurci_checked_note(&shared->place, redo, &shared->boot, &note) != BODDURCI_NOTED || !is_flushed_tail(&note))
         return;
     enum boddurci_change change = boddurci_change_since(&note, shared->notes.files);
     if (change != BODDURCI_SAME || continue_log(shared, redo, &note, change, &unsaid) != BODDURCI_DONE)

@@ -480,11 +480,13 @@ static int flush_alone(boddurci_shared *shared, int redo, uint64_t epoch, size_t
  * may be stopped. Sets *is_locked to 1 if it took the lock. Returns 1 if the records are flushed. */
 static int wait_for_flush(const boddurci_shared *shared, int redo, uint64_t epoch, size_t end, int *is_locked)
 {
-    enum { POLLS = 400, RESTS = 1000 };
+    enum { POLLS = 400, MOST = 500 };
     static const struct timespec moment = {0, 500000};
     enum boddurci_noted noted;
     struct boddurci_log_note note;
-    for (int tries = 0; tries < POLLS + RESTS; tries++) {
+    int64_t last = boddurci_now() + MOST;
+    *is_locked = 0;
+    for (int tries = 0; boddurci_now() < last; tries++) {
         *is_locked = flock(redo, LOCK_EX | LOCK_NB) == 0;
         if (*is_locked || errno != EWOULDBLOCK)
             return 0;
